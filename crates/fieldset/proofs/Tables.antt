@@ -1,0 +1,28 @@
+-- Laws of tables.
+use Prim.Native.Nat.{ℕ, zero, suc, _+_, _<_}
+use mathlib.Core.Path.{_≡_, refl, sym, ap, _∙_}
+use mathlib.Core.List.{List, [], _∷_, _++_}
+use native.Mathlib.Nat.{le-refl, not-suc-le-zero}
+use native.Mathlib.Numerals.{add-one}
+use native.Mathlib.Decide.{ℕ-discrete}
+use native.Mathlib.Omega.{arith}
+use lib.ListN.{length, getD, length-append, List·getD-append}
+use lib.Seq.{getD-at}
+use Rattle.fieldset.specs.Tables.{tabulate}
+
+module _ {ℓ} {A : Type ℓ} (f : ℕ → A) where
+  pub length-tabulate : (n : ℕ) → length (tabulate f n) ≡ n
+  unfolding tabulate
+  length-tabulate zero = refl
+  length-tabulate (suc n) = length-append (tabulate f n) (f n ∷ []) ∙ omega (arith, length-tabulate n)
+
+  pub getD-tabulate : (n i : ℕ) (d : A) → i < n → getD (tabulate f n) i d ≡ f i
+  unfolding tabulate
+  getD-tabulate zero i d l = absurd (not-suc-le-zero l)
+  getD-tabulate (suc n) i d l = go (ℕ-discrete i n) (getD-tabulate n i d)
+    where
+      go : Dec (i ≡ n) → (i < n → getD (tabulate f n) i d ≡ f i) → getD (tabulate f n ++ (f n ∷ [])) i d ≡ f i
+      go (yes e) ih = rw e (getD-at (tabulate f n) (f n) [] d n (length-tabulate n))
+      go (no e) ih =
+          let h : i < length (tabulate f n) = rw (length-tabulate n) (omega arith) in
+          List·getD-append (tabulate f n) (f n ∷ []) d i h ∙ ih (omega arith)

@@ -1,0 +1,1 @@
+// Hexadecimal, two digits a byte.

@@ -1,0 +1,54 @@
+-- The numbers and values of an answer tell its cases apart. Assumes nothing.
+use mathlib.Core.Path.{_≡_, refl, sym, ap, _∙_}
+use mathlib.Core.List.{List, [], _∷_}
+use mathlib.Core.Option.{Option, none, some}
+use Prim.Native.Nat.{ℕ}
+use native.Mathlib.Omega.{arith}
+use lib.ListN.{getD, drop}
+use Rattle.panel.specs.declared.Refusal.{Refusal}
+use Rattle.panel.specs.declared.Refusal.the-variants.{BadHex, BadFrame, AlreadyOpen, NotOpen, BadSize, BadLink, NoSuchField, LinkTaken, NoSuchLink, Conflict, Loop, TextTooLong}
+use Rattle.panel.specs.declared.Reply.{Reply}
+use Rattle.panel.specs.declared.Reply.the-variants.{Accepted, Refused}
+use Rattle.panel.specs.declared.Blocked.{Blocked}
+use Rattle.panel.specs.declared.Blocked.the-variants.{Nothing, Link, Stay}
+use Rattle.panel.specs.Items.{Item, link, stay, foundOf}
+use Rattle.panel.specs.Answers.{refusalBytes, replyBytes}
+
+-- the refusal of a number
+abbrev pub refusalAt : ℕ → Refusal
+refusalAt n =
+    getD (BadHex ∷ BadHex ∷ BadFrame ∷ AlreadyOpen ∷ NotOpen ∷ BadSize ∷ BadLink ∷ NoSuchField ∷ LinkTaken ∷ NoSuchLink ∷ Conflict ∷ Loop ∷ TextTooLong ∷ []) n BadHex
+
+pub refusal-at : (r : Refusal) → refusalAt (getD (refusalBytes r) 0 0) ≡ r
+refusal-at BadHex = refl
+refusal-at BadFrame = refl
+refusal-at AlreadyOpen = refl
+refusal-at NotOpen = refl
+refusal-at BadSize = refl
+refusal-at BadLink = refl
+refusal-at NoSuchField = refl
+refusal-at LinkTaken = refl
+refusal-at NoSuchLink = refl
+refusal-at Conflict = refl
+refusal-at Loop = refl
+refusal-at TextTooLong = refl
+
+pub refusals-apart : (r s : Refusal) → refusalBytes r ≡ refusalBytes s → r ≡ s
+refusals-apart r s e = sym (refusal-at r) ∙ ap (λ (b : List ℕ). refusalAt (getD b 0 0)) e ∙ refusal-at s
+
+pub replies-apart : (r s : Reply) → replyBytes r ≡ replyBytes s → r ≡ s
+replies-apart (Accepted m) (Accepted n) e = cc
+replies-apart (Accepted m) (Refused s) e = let z : _≡_ {A = ℕ} 0 255 = ap (λ (b : List ℕ). getD b 0 0) e in absurd (omega arith)
+replies-apart (Refused r) (Accepted n) e = let z : _≡_ {A = ℕ} 255 0 = ap (λ (b : List ℕ). getD b 0 0) e in absurd (omega arith)
+replies-apart (Refused r) (Refused s) e = ap Refused (refusals-apart r s (ap (λ (b : List ℕ). drop 1 b) e))
+
+pub finds-apart : (a b : Blocked) → foundOf a ≡ foundOf b → a ≡ b
+finds-apart Nothing Nothing e = refl
+finds-apart Nothing (Link j) e = let z : _≡_ {A = ℕ} 0 1 = cc in absurd (omega arith)
+finds-apart Nothing (Stay g) e = let z : _≡_ {A = ℕ} 0 1 = cc in absurd (omega arith)
+finds-apart (Link i) Nothing e = let z : _≡_ {A = ℕ} 0 1 = cc in absurd (omega arith)
+finds-apart (Link i) (Link j) e = cc
+finds-apart (Link i) (Stay g) e = let z : _≡_ {A = ℕ} 0 1 = cc in absurd (omega arith)
+finds-apart (Stay f) Nothing e = let z : _≡_ {A = ℕ} 0 1 = cc in absurd (omega arith)
+finds-apart (Stay f) (Link j) e = let z : _≡_ {A = ℕ} 0 1 = cc in absurd (omega arith)
+finds-apart (Stay f) (Stay g) e = cc

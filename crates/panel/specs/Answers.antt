@@ -1,0 +1,48 @@
+-- Refusals and replies, by document 01's numbers.
+use Prim.Native.Nat.{ℕ}
+use mathlib.Core.Bool.{Bool, true, false}
+use mathlib.Core.List.{List, [], _∷_}
+use lib.Dec.{eqb}
+use lib.ListN.{getD}
+use Rattle.panel.specs.declared.Panel.{Panel}
+use Rattle.panel.specs.declared.Refusal.{Refusal}
+use Rattle.panel.specs.declared.Refusal.the-variants.{BadHex, BadFrame, AlreadyOpen, NotOpen, BadSize, BadLink, NoSuchField, LinkTaken, NoSuchLink, Conflict, Loop, TextTooLong}
+use Rattle.panel.specs.declared.Reply.{Reply}
+use Rattle.panel.specs.declared.Reply.the-variants.{Accepted, Refused}
+use Rattle.panel.specs.declared.Done.{Done}
+
+-- a refusal's number ("Who causes which refusal") and the values behind it, of which there are none
+abbrev pub refusalBytes : Refusal → List ℕ
+refusalBytes BadHex = 1 ∷ []
+refusalBytes BadFrame = 2 ∷ []
+refusalBytes AlreadyOpen = 3 ∷ []
+refusalBytes NotOpen = 4 ∷ []
+refusalBytes BadSize = 5 ∷ []
+refusalBytes BadLink = 6 ∷ []
+refusalBytes NoSuchField = 7 ∷ []
+refusalBytes LinkTaken = 8 ∷ []
+refusalBytes NoSuchLink = 9 ∷ []
+refusalBytes Conflict = 10 ∷ []
+refusalBytes Loop = 11 ∷ []
+refusalBytes TextTooLong = 12 ∷ []
+
+-- "Replies: 00 m (m the moved count); for a plan 00 n, ..; for a refusal FF and its number"
+abbrev pub replyBytes : Reply → List ℕ
+replyBytes (Accepted m) = 0x00 ∷ m ∷ []
+replyBytes (Refused r) = 0xFF ∷ refusalBytes r
+
+-- a reply that is a refusal
+abbrev pub isRefusal : List ℕ → Bool
+isRefusal reply = eqb (getD reply 0 0) 0xFF
+
+-- what a command gives: the panel afterwards and the bytes of its reply
+pub record Answer : Type 0 where
+  pub panel : Panel
+  pub reply : List ℕ
+
+abbrev pub answerOf : Done → Answer
+answerOf d = record { panel = d .panel; reply = replyBytes (d .reply) }
+
+-- "a refusal .. leaves links, stay order and setters as they stood"
+abbrev pub refused : Panel → Refusal → Answer
+refused p r = record { panel = p; reply = 0xFF ∷ refusalBytes r }

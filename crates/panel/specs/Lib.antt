@@ -1,0 +1,6 @@
+pub mod Items
+pub mod Answers
+pub mod Panels
+pub mod Solution
+pub mod Steps
+pub mod Commands
