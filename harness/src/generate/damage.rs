@@ -1,0 +1,68 @@
+//! Damaged lines: frames that are refused, and lines that hold no frame.
+
+use super::rng::Rng;
+use crate::plain::hex;
+
+/// A damaged line made from a frame, or in its place.
+pub fn line(rng: &mut Rng, frame: Vec<u8>) -> Vec<u8> {
+    match rng.percent(50) {
+        true => hex(&bad_frame(rng, frame)).into_bytes(),
+        false => bad_line(rng, hex(&frame).into_bytes()),
+    }
+}
+
+/// A frame with something wrong, as a rule.
+fn bad_frame(rng: &mut Rng, mut frame: Vec<u8>) -> Vec<u8> {
+    match rng.below(9) {
+        0 => frame[0] = *rng.pick(&[0, 6, 7, 8, 9, 0x0A, 0x10, 0x81, 0xFF]),
+        1 => frame.push(rng.byte()),
+        2 => frame.truncate(1 + rng.below(frame.len())),
+        3 => frame = vec![1, *rng.pick(&[0, 1, 2, 64, 65, 255])],
+        4 => frame = vec![3, *rng.pick(&[0, 126, 127, 128, 255])],
+        5 => frame = vec![4, *rng.pick(&[0, 1, 62, 63, 64, 128, 255])],
+        _ => frame = bad_add(rng),
+    }
+    frame
+}
+
+/// An add frame with something wrong, as a rule.
+fn bad_add(rng: &mut Rng) -> Vec<u8> {
+    let mut frame = vec![2, rng.byte() % 128, rng.byte() % 16];
+    let first = rng.byte() % 4;
+    match rng.below(9) {
+        0 => frame.extend([first, first + 1]),
+        1 => frame.extend([first | 0x80, first | 0x80]),
+        2 => frame.extend([first | 0x81, first & 0x7E]),
+        3 => frame.extend([first, (first + 1) | 0xC0]),
+        4 => frame.extend([first, 0x80 | *rng.pick(&[8, 31, 62, 63])]),
+        5 => frame.extend(0x80..=*rng.pick(&[0x86, 0x87, 0x88, 0x89])),
+        6 => {
+            frame[1] |= 0x80;
+            frame.push(first | 0x80);
+        }
+        7 => {
+            frame[2] = *rng.pick(&[15, 16, 17, 255]);
+            frame.push(first | 0x80);
+        }
+        _ => {}
+    }
+    frame
+}
+
+/// A line that is wrong as a line, as a rule.
+fn bad_line(rng: &mut Rng, mut line: Vec<u8>) -> Vec<u8> {
+    let place = rng.below(line.len());
+    match rng.below(10) {
+        0 => line.clear(),
+        1 => line.push(b'\r'),
+        2 => line[place] = 0,
+        3 => line.make_ascii_lowercase(),
+        4 => line = b"010a".to_vec(),
+        5 => drop(line.remove(place)),
+        6 => line.insert(place, *rng.pick(b"0F \t\0")),
+        7 => line[place] = *rng.pick(b"G@:/`g x-\x80\xFF"),
+        8 => line = line.repeat(rng.between(2, 400)),
+        _ => line = (0..rng.below(30)).map(|_| rng.byte()).collect(),
+    }
+    line
+}

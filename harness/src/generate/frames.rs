@@ -1,0 +1,233 @@
+//! Random well-formed frames for a panel, in different mixes.
+
+use super::rng::Rng;
+
+/// What the frames of a text are drawn from. Pairs are the least and the
+/// greatest value.
+#[derive(Clone, Copy, Debug)]
+pub struct Mix {
+    /// Number of fields.
+    pub fields: (usize, usize),
+    /// Link numbers are drawn below this.
+    pub ids: usize,
+    /// Levels, drawn evenly from this list.
+    pub levels: &'static [u8],
+    /// Number of covered fields, as far as the panel has so many.
+    pub covered: (usize, usize),
+    /// Chance of a covered field to be an output; one of them always is.
+    pub output_percent: usize,
+    /// Number of frames after the opening.
+    pub frames: (usize, usize),
+    /// Weights of add, remove, touch and plan.
+    pub weights: [usize; 4],
+    /// Chance of a line to be damaged, in those texts that have damaged lines.
+    pub damaged_percent: usize,
+}
+
+const ALL_LEVELS: &[u8] = &[0, 1, 2, 3, 4, 5, 6, 7, 8, 9, 10, 11, 12, 13, 14, 15];
+
+/// A middling mix, which the others are changed from.
+const MIDDLE: Mix = Mix {
+    fields: (3, 8),
+    ids: 12,
+    levels: &[0, 1, 5, 5, 9],
+    covered: (1, 4),
+    output_percent: 60,
+    frames: (10, 80),
+    weights: [50, 25, 20, 5],
+    damaged_percent: 10,
+};
+
+/// The mixes of the texts.
+pub const MIXES: &[Mix] = &[
+    MIDDLE,
+    // Few fields, many required links: conflicts.
+    Mix {
+        fields: (1, 4),
+        levels: &[0, 0, 0, 1, 2],
+        covered: (1, 3),
+        ..MIDDLE
+    },
+    // Many read fields: loops.
+    Mix {
+        fields: (3, 6),
+        covered: (2, 4),
+        output_percent: 40,
+        ..MIDDLE
+    },
+    // Few levels, nearly all outputs: ties of outputs, walks and blocked links.
+    Mix {
+        levels: &[3, 4, 5, 5, 5, 5],
+        output_percent: 95,
+        ..MIDDLE
+    },
+    // Many links waiting for few fields, often removed: blocked links.
+    Mix {
+        fields: (2, 5),
+        ids: 20,
+        levels: &[1, 2, 2, 3, 3, 4],
+        covered: (1, 3),
+        weights: [50, 40, 5, 5],
+        ..MIDDLE
+    },
+    // Fewer links than fields, often touched: blocked stays.
+    Mix {
+        fields: (4, 9),
+        ids: 5,
+        levels: &[0, 0, 3],
+        covered: (2, 5),
+        output_percent: 80,
+        weights: [35, 25, 35, 5],
+        ..MIDDLE
+    },
+    // Long walks over many fields.
+    Mix {
+        fields: (20, 64),
+        ids: 100,
+        levels: &[0, 2, 2, 7],
+        covered: (2, 3),
+        output_percent: 90,
+        frames: (40, 160),
+        ..MIDDLE
+    },
+    // All 64 fields, all link numbers, up to eight fields a link.
+    Mix {
+        fields: (64, 64),
+        ids: 128,
+        levels: ALL_LEVELS,
+        covered: (1, 8),
+        frames: (100, 300),
+        weights: [80, 5, 10, 5],
+        ..MIDDLE
+    },
+    // All link numbers in use at last.
+    Mix {
+        fields: (60, 64),
+        ids: 128,
+        levels: ALL_LEVELS,
+        covered: (1, 2),
+        output_percent: 95,
+        frames: (250, 400),
+        weights: [95, 0, 3, 2],
+        damaged_percent: 1,
+    },
+    // Any number of fields, any level.
+    Mix {
+        fields: (1, 64),
+        ids: 128,
+        levels: ALL_LEVELS,
+        covered: (1, 8),
+        frames: (0, 100),
+        damaged_percent: 40,
+        ..MIDDLE
+    },
+    // Short texts.
+    Mix {
+        fields: (1, 4),
+        ids: 4,
+        frames: (0, 6),
+        damaged_percent: 30,
+        ..MIDDLE
+    },
+    // Mostly damaged lines.
+    Mix {
+        damaged_percent: 80,
+        ..MIDDLE
+    },
+    // Long texts.
+    Mix {
+        fields: (2, 10),
+        ids: 30,
+        frames: (300, 1500),
+        weights: [40, 35, 20, 5],
+        damaged_percent: 2,
+        ..MIDDLE
+    },
+];
+
+/// Random frames: an opening, then commands. Most of them fit the panel if the
+/// ones before were accepted; some name a link in use, a link not in use, or
+/// open again.
+pub fn frames(rng: &mut Rng, mix: &Mix) -> Vec<Vec<u8>> {
+    let fields = rng.between(mix.fields.0, mix.fields.1);
+    let mut used = Vec::new();
+    let mut frames = vec![vec![1, fields as u8]];
+    for _ in 0..rng.between(mix.frames.0, mix.frames.1) {
+        frames.push(frame(rng, mix, fields, &mut used));
+    }
+    frames
+}
+
+/// One frame; `used` are the link numbers taken to be in use.
+fn frame(rng: &mut Rng, mix: &Mix, fields: usize, used: &mut Vec<u8>) -> Vec<u8> {
+    match kind(rng, mix) {
+        _ if rng.percent(1) => vec![1, rng.between(1, 64) as u8],
+        0 => {
+            let id = unused_id(rng, mix, used);
+            used.push(id);
+            add(rng, mix, fields, id)
+        }
+        1 => {
+            let id = used_id(rng, mix, used);
+            used.retain(|&other| other != id);
+            vec![3, id]
+        }
+        2 => vec![4, rng.below(fields) as u8],
+        _ => vec![5],
+    }
+}
+
+/// The place in `weights` that is drawn.
+fn kind(rng: &mut Rng, mix: &Mix) -> usize {
+    let mut drawn = rng.below(mix.weights.iter().sum());
+    for (kind, &weight) in mix.weights.iter().enumerate() {
+        if drawn < weight {
+            return kind;
+        }
+        drawn -= weight;
+    }
+    unreachable!("drawn below the sum of the weights")
+}
+
+/// A link number, mostly one not in use.
+fn unused_id(rng: &mut Rng, mix: &Mix, used: &[u8]) -> u8 {
+    let ids = 0..mix.ids as u8;
+    let unused: Vec<u8> = ids.filter(|id| !used.contains(id)).collect();
+    match unused.is_empty() || rng.percent(5) {
+        true => rng.below(mix.ids) as u8,
+        false => *rng.pick(&unused),
+    }
+}
+
+/// A link number, mostly one in use.
+fn used_id(rng: &mut Rng, mix: &Mix, used: &[u8]) -> u8 {
+    match used.is_empty() || rng.percent(5) {
+        true => rng.below(mix.ids) as u8,
+        false => *rng.pick(used),
+    }
+}
+
+/// An add frame over fields that the panel has.
+fn add(rng: &mut Rng, mix: &Mix, fields: usize, id: u8) -> Vec<u8> {
+    let covered = rng.between(mix.covered.0, mix.covered.1).min(fields);
+    let sure_output = rng.below(covered);
+    let mut frame = vec![2, id, *rng.pick(mix.levels)];
+    for (place, field) in some_fields(rng, fields, covered).into_iter().enumerate() {
+        let output = place == sure_output || rng.percent(mix.output_percent);
+        frame.push(field + if output { 0x80 } else { 0 });
+    }
+    frame
+}
+
+/// So many different fields, rising.
+fn some_fields(rng: &mut Rng, fields: usize, count: usize) -> Vec<u8> {
+    let mut chosen: Vec<u8> = Vec::new();
+    while chosen.len() < count {
+        let field = rng.below(fields) as u8;
+        if !chosen.contains(&field) {
+            chosen.push(field);
+        }
+    }
+    chosen.sort();
+    chosen
+}

@@ -1,0 +1,17 @@
+//! A plain solver, written from document 01 sentence by sentence.
+//!
+//! It is meant to be read next to the document, not to be fast. Comments in
+//! quotation marks are sentences of the document.
+
+mod frame;
+mod panel;
+mod refusal;
+mod steps;
+mod strength;
+mod text;
+
+pub use frame::{hex, read_frame, read_hex, Command};
+pub use panel::{Item, Link, Panel, Standing};
+pub use refusal::Refusal;
+pub use steps::{new_link, PlanEntry, Reply};
+pub use text::{lines, run_text, run_text_with, Run, Tally, COUNT_CAP, TEXT_LIMIT};

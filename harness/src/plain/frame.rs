@@ -1,0 +1,78 @@
+//! "Lines of hexadecimal, one frame a line": from a line to a command.
+
+use super::refusal::Refusal;
+use super::steps::has_bit_6;
+
+/// A command, with any numbers.
+#[derive(Clone, Debug, PartialEq, Eq)]
+pub enum Command {
+    /// 01 n
+    Open(u8),
+    /// 02 id level, then the field bytes
+    Add(u8, u8, Vec<u8>),
+    /// 03 id
+    Remove(u8),
+    /// 04 f
+    Touch(u8),
+    /// 05
+    Plan,
+}
+
+/// "Digits 0-9 and A-F, two a byte." BadHex: "empty line, odd count, another
+/// character".
+pub fn read_hex(line: &[u8]) -> Result<Vec<u8>, Refusal> {
+    if line.is_empty() || line.len() % 2 == 1 {
+        return Err(Refusal::BadHex);
+    }
+    let pairs = line.chunks(2);
+    pairs
+        .map(|pair| Ok(16 * digit(pair[0])? + digit(pair[1])?))
+        .collect()
+}
+
+/// The value of one digit.
+fn digit(character: u8) -> Result<u8, Refusal> {
+    match character {
+        b'0'..=b'9' => Ok(character - b'0'),
+        b'A'..=b'F' => Ok(character - b'A' + 10),
+        _ => Err(Refusal::BadHex),
+    }
+}
+
+/// The kinds of frames. BadFrame: "unknown kind, wrong length for the kind,
+/// bit 6 set in a field byte".
+pub fn read_frame(frame: &[u8]) -> Result<Command, Refusal> {
+    match *frame {
+        [1, n] => Ok(Command::Open(n)),
+        [2, id, level, ref field_bytes @ ..] => read_add(id, level, field_bytes),
+        [3, id] => Ok(Command::Remove(id)),
+        [4, field] => Ok(Command::Touch(field)),
+        [5] => Ok(Command::Plan),
+        _ => Err(Refusal::BadFrame),
+    }
+}
+
+/// "02 id level, then 1 to 8 field bytes: add. Field byte: low six bits the
+/// field, bit 7 set if it is an output, bit 6 zero."
+fn read_add(id: u8, level: u8, field_bytes: &[u8]) -> Result<Command, Refusal> {
+    let right_length = (1..=8).contains(&field_bytes.len());
+    if !right_length || field_bytes.iter().any(|&byte| has_bit_6(byte)) {
+        return Err(Refusal::BadFrame);
+    }
+    Ok(Command::Add(id, level, field_bytes.to_vec()))
+}
+
+/// Bytes as digits, two a byte.
+pub fn hex(bytes: &[u8]) -> String {
+    let mut digits = String::new();
+    for byte in bytes {
+        digits.push(digit_of(byte / 16));
+        digits.push(digit_of(byte % 16));
+    }
+    digits
+}
+
+/// The digit of a value below 16.
+fn digit_of(value: u8) -> char {
+    char::from(b"0123456789ABCDEF"[value as usize])
+}

@@ -1,0 +1,392 @@
+//! Condition 3 and the general sentences of document 01, checked after every
+//! line of many runs on small panels: by trying all choices, and against a book
+//! that knows nothing of the panel's record.
+
+mod support;
+
+use harness::generate::{self, Mix, Rng, MIXES};
+use harness::plain::{Run, Standing};
+use support::book::{link, Book, Member, Name};
+use support::choices::{all_can_hold, best_counts, best_counts_by_paths, counts, end_of_levels};
+use support::held::{bytes, closed_walk, held, of_field, reads, waiting, Held};
+
+/// One line with what stood before and after it.
+struct Step {
+    line: Vec<u8>,
+    reply: String,
+    book_before: Book,
+    book: Book,
+    before: Run,
+    after: Run,
+    held: Vec<Held>,
+}
+
+impl Step {
+    /// Treats a line after another step.
+    fn new(line: &[u8], run: &Run, book_before: &Book) -> Step {
+        let mut after = run.clone();
+        let reply = after.line(line);
+        let mut book = book_before.clone();
+        if !["FF01", "FF02"].contains(&reply.as_str()) {
+            book.feed(&frame(line), reply.starts_with("FF"));
+        }
+        Step {
+            line: line.to_vec(),
+            reply,
+            book_before: book_before.clone(),
+            book,
+            before: run.clone(),
+            held: held(&after),
+            after,
+        }
+    }
+
+    fn refused(&self) -> bool {
+        self.reply.starts_with("FF")
+    }
+
+    /// The link of an add that passes checks 1 to 9.
+    fn sound_add(&self) -> Option<Member> {
+        if ["FF01", "FF02"].contains(&self.reply.as_str()) || self.line[..2] != *b"02" {
+            return None;
+        }
+        let link = link(&frame(&self.line));
+        let Name::Link(id) = link.name else {
+            unreachable!()
+        };
+        let numbers = id <= 127 && link.level <= 15 && !link.outputs.is_empty();
+        let rising = link.covered.windows(2).all(|pair| pair[0] < pair[1]);
+        let there = link.covered.iter().all(|&f| f < self.book_before.fields());
+        let sound = numbers && rising && there && !self.book_before.has_link(id);
+        sound.then_some(link)
+    }
+}
+
+/// The frame of a line that holds one.
+fn frame(line: &[u8]) -> Vec<u8> {
+    bytes(std::str::from_utf8(line).expect("digits"))
+}
+
+/// Few fields, few links, many ties.
+const SMALL: Mix = Mix {
+    fields: (2, 4),
+    ids: 5,
+    levels: &[0, 0, 1, 1, 5],
+    covered: (1, 3),
+    frames: (30, 60),
+    damaged_percent: 8,
+    ..MIXES[0]
+};
+
+/// The mixes of the small panels.
+const SMALL_MIXES: [Mix; 4] = [
+    SMALL,
+    Mix {
+        fields: (3, 4),
+        covered: (2, 4),
+        output_percent: 40,
+        ..SMALL
+    },
+    Mix {
+        fields: (1, 3),
+        levels: &[0, 0, 3, 3],
+        weights: [50, 40, 5, 5],
+        ..SMALL
+    },
+    Mix {
+        fields: (4, 4),
+        levels: &[0, 2],
+        covered: (2, 4),
+        output_percent: 80,
+        weights: [30, 25, 40, 5],
+        ..SMALL
+    },
+];
+
+/// Shows every line of the text of a seed. Lines with damaged numbers that
+/// would give more fields or links than the mix has are left out.
+fn for_each_line(mix: &Mix, seed: u64, see: &mut impl FnMut(&Step)) {
+    let (mut run, mut book) = (Run::default(), Book::default());
+    for line in generate::lines(&mut Rng::new(seed), mix) {
+        let step = Step::new(&line, &run, &book);
+        if step.book.fields() as usize > mix.fields.1 || step.book.links().len() > mix.ids {
+            continue;
+        }
+        see(&step);
+        (run, book) = (step.after, step.book);
+    }
+}
+
+/// Shows every line of 600 texts for small panels, about 27,000 lines, and
+/// gives the number of lines that were accepted.
+fn for_each_small_line(mut see: impl FnMut(&Step)) -> usize {
+    let mut accepted = 0;
+    for seed in 0..600 {
+        let mix = &SMALL_MIXES[seed as usize % SMALL_MIXES.len()];
+        for_each_line(mix, seed, &mut |step| {
+            see(step);
+            accepted += !step.refused() as usize;
+        });
+    }
+    accepted
+}
+
+/// The counts of what the panel holds, for every level.
+fn held_counts(step: &Step) -> Vec<usize> {
+    let setters = step.held.iter().map(|entry| entry.setter);
+    let levels: Vec<u8> = setters.map(|name| step.book.member(name).level).collect();
+    counts(&levels, end_of_levels(&step.book.members()))
+}
+
+#[test]
+fn no_choice_holds_more_up_to_any_level() {
+    let accepted = for_each_small_line(|step| {
+        let best = best_counts(&step.book.members());
+        assert_eq!(held_counts(step), best, "{:?}", step.book);
+    });
+    assert!(accepted > 15_000, "{accepted}");
+}
+
+/// What is held is itself a choice: each setter in force, its field one of its
+/// outputs, no field and no setter twice; and there is no loop.
+#[test]
+fn held_is_a_choice_without_a_loop() {
+    for_each_small_line(|step| {
+        for (place, entry) in step.held.iter().enumerate() {
+            assert!(step
+                .book
+                .member(entry.setter)
+                .outputs
+                .contains(&entry.field));
+            let rest = &step.held[place + 1..];
+            assert!(rest.iter().all(|other| other.field != entry.field));
+            assert!(rest.iter().all(|other| other.setter != entry.setter));
+            assert!(!closed_walk(
+                &step.book,
+                &step.held,
+                entry.field,
+                &mut vec![]
+            ));
+        }
+    });
+}
+
+/// "Each field has exactly one setter": every field is listed once, and the
+/// standings in the panel say the same as the plan.
+#[test]
+fn each_field_has_one_setter() {
+    for_each_small_line(|step| {
+        let mut fields: Vec<u8> = step.held.iter().map(|entry| entry.field).collect();
+        fields.sort();
+        assert!(fields.into_iter().eq(0..step.book.fields()));
+        for (&id, link) in step.after.panel.links() {
+            let mut entries = step.held.iter();
+            let entry = entries.find(|entry| entry.setter == Name::Link(id));
+            let standing = match entry {
+                Some(entry) => Standing::Holding(entry.field),
+                None => Standing::Waiting,
+            };
+            assert_eq!(link.standing, standing, "link {id}");
+        }
+    });
+}
+
+/// The links and the stay order in the panel are those of the book.
+#[test]
+fn panel_agrees_with_the_book() {
+    for_each_small_line(|step| {
+        let panel = &step.after.panel;
+        let links = panel.links().iter().map(|(&id, link)| Member {
+            name: Name::Link(id),
+            level: link.level,
+            covered: link.covered.clone(),
+            outputs: link.outputs.clone(),
+        });
+        let stays = panel.stays().iter().map(|&field| Name::Stay(field));
+        let members = step.book.members();
+        let (book_links, book_stays) = members.split_at(panel.links().len());
+        assert!(links.clone().all(|link| book_links.contains(&link)));
+        assert!(stays.eq(book_stays.iter().map(|stay| stay.name)));
+    });
+}
+
+/// "Conflict is given exactly when no choice, loops tolerated, can hold all
+/// required links in force together with the new one, no field set twice; a
+/// weaker new link never meets it."
+#[test]
+fn conflict_exactly_when_no_choice_holds_the_required() {
+    let (mut conflicts, mut held) = (0, 0);
+    for_each_small_line(|step| {
+        let required_add = step.sound_add().filter(|link| link.level == 0);
+        let Some(link) = required_add else {
+            assert_ne!(step.reply, "FF0A");
+            return;
+        };
+        let required = [vec![link], step.book_before.required()].concat();
+        let can_hold = all_can_hold(&required, &mut vec![]);
+        assert_eq!(step.reply == "FF0A", !can_hold, "{required:?}");
+        *(if can_hold { &mut held } else { &mut conflicts }) += 1;
+    });
+    assert!(conflicts > 400 && held > 3_000, "{conflicts} {held}");
+}
+
+/// A sound add is accepted or refused with Conflict or Loop, no other add is
+/// accepted.
+#[test]
+fn sound_adds_meet_no_check() {
+    for_each_small_line(|step| {
+        let links_only = ["FF0A", "FF0B"].contains(&step.reply.as_str());
+        if step.sound_add().is_some() {
+            assert!(!step.refused() || links_only, "{}", step.reply);
+        } else if step.line.starts_with(b"02") {
+            assert!(step.refused() && !links_only, "{}", step.reply);
+        }
+    });
+}
+
+/// "A waiting link or stay is blocked when one of its outputs has strength
+/// greater than its level." No line leaves one.
+#[test]
+fn nothing_is_left_blocked() {
+    let mut waiting_seen = 0;
+    for_each_small_line(|step| {
+        for member in waiting(&step.book, &step.held) {
+            let strength = |&field: &u8| of_field(&step.held, field).strength;
+            assert!(member
+                .outputs
+                .iter()
+                .map(strength)
+                .all(|s| s <= member.level));
+            waiting_seen += 1;
+        }
+    });
+    assert!(waiting_seen > 40_000, "{waiting_seen}");
+}
+
+/// "Every required link in force holds."
+#[test]
+fn every_required_link_holds() {
+    for_each_small_line(|step| {
+        for link in step.book.required() {
+            assert!(step.held.iter().any(|entry| entry.setter == link.name));
+        }
+    });
+}
+
+/// "The strength of field v with setter c is the largest of c's level and the
+/// strengths of c's other outputs." Without loops only one answer fits.
+#[test]
+fn strengths_fit_their_definition() {
+    for_each_small_line(|step| {
+        for entry in &step.held {
+            let setter = step.book.member(entry.setter);
+            let others = setter.outputs.iter().filter(|&&f| f != entry.field);
+            let strengths = others.map(|&f| of_field(&step.held, f).strength);
+            assert_eq!(entry.strength, strengths.fold(setter.level, u8::max));
+        }
+    });
+}
+
+/// "Next comes always the lowest-numbered unlisted field whose setter's read
+/// fields are all listed."
+#[test]
+fn plan_lists_the_lowest_field_that_can_come() {
+    for_each_small_line(|step| {
+        for (place, entry) in step.held.iter().enumerate() {
+            let listed: Vec<u8> = step.held[..place].iter().map(|e| e.field).collect();
+            let unlisted = step.held[place..].iter();
+            let can_come =
+                unlisted.filter(|e| reads(&step.book, e).iter().all(|f| listed.contains(f)));
+            assert_eq!(can_come.map(|e| e.field).min(), Some(entry.field));
+        }
+    });
+}
+
+/// "The reply to Add, Remove and Touch counts the fields whose setter after the
+/// command is not the one before." "Opening replies 0."
+#[test]
+fn moved_counts_changed_setters() {
+    for_each_small_line(|step| {
+        if step.refused() || step.line == b"05" {
+            return;
+        }
+        let before = held(&step.before);
+        let changed = before
+            .iter()
+            .filter(|entry| of_field(&step.held, entry.field).setter != entry.setter);
+        assert_eq!(step.reply, format!("00{:02X}", changed.count()));
+    });
+}
+
+/// A refusal "changes only the tally", and a plan changes nothing else either.
+#[test]
+fn refused_lines_and_plans_leave_the_panel() {
+    let mut refusals = [0; 12];
+    for_each_small_line(|step| {
+        if step.refused() {
+            refusals[bytes(&step.reply)[1] as usize] += 1;
+        }
+        if step.refused() || step.line == b"05" {
+            assert_eq!(step.before.panel, step.after.panel, "{}", step.reply);
+        }
+    });
+    assert!(refusals[1..].iter().all(|&count| count > 0), "{refusals:?}");
+}
+
+/// The count by augmenting paths is right where all choices can be tried.
+#[test]
+fn paths_count_as_all_choices_do() {
+    for_each_small_line(|step| {
+        let members = step.book.members();
+        assert_eq!(best_counts_by_paths(&members), best_counts(&members));
+    });
+}
+
+/// The same claim on large panels, with paths in place of all choices.
+#[test]
+fn no_choice_holds_more_on_large_panels() {
+    let mut lines = 0;
+    for seed in 0..24 {
+        let mix = &MIXES[6 + seed as usize % 3];
+        for_each_line(mix, seed, &mut |step| {
+            let best = best_counts_by_paths(&step.book.members());
+            assert_eq!(held_counts(step), best, "{:?}", step.book);
+            lines += 1;
+        });
+    }
+    assert!(lines > 4_000, "{lines}");
+}
+
+/// The adds of link `id` over two fields: every covered set, every set of
+/// outputs, a required and a weak level.
+fn adds_on_two_fields(id: u8) -> Vec<Vec<u8>> {
+    let field_bytes: [&[u8]; 5] = [&[0x80], &[0x81], &[0x80, 1], &[0, 0x81], &[0x80, 0x81]];
+    let frames = |fields: &[u8]| [0, 5].map(|level| [&[2, id, level], fields].concat());
+    field_bytes.into_iter().flat_map(frames).collect()
+}
+
+/// Checks condition 3 after every list of so many commands on two fields, and
+/// gives the number of lists.
+fn check_lists(run: &Run, book: &Book, length: u8) -> usize {
+    if length == 0 {
+        return 1;
+    }
+    let mut frames = adds_on_two_fields(length);
+    frames.extend((1..=4).map(|id| vec![3, id]));
+    frames.extend([vec![4, 0], vec![4, 1]]);
+    let mut lists = 0;
+    for frame in frames {
+        let line = harness::plain::hex(&frame).into_bytes();
+        let step = Step::new(&line, run, book);
+        assert_eq!(held_counts(&step), best_counts(&step.book.members()));
+        lists += check_lists(&step.after, &step.book, length - 1);
+    }
+    lists
+}
+
+#[test]
+fn every_short_list_on_two_fields() {
+    let opening = Step::new(b"0102", &Run::default(), &Book::default());
+    let lists = check_lists(&opening.after, &opening.book, 4);
+    assert_eq!(lists, 16_usize.pow(4));
+}

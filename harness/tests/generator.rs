@@ -1,0 +1,276 @@
+//! The generator's texts reach every refusal and every case that the solver
+//! treats on its own, and the plain solver answers all of them.
+
+use harness::generate::text;
+use harness::plain::{
+    lines, new_link, read_frame, read_hex, run_text, Command, Item, Panel, Run, Standing,
+    TEXT_LIMIT,
+};
+use std::collections::BTreeMap;
+
+const SEEDS: std::ops::Range<u64> = 0..520;
+
+/// How often each case was met.
+type Cases = BTreeMap<String, usize>;
+
+fn note(cases: &mut Cases, case: impl Into<String>) {
+    *cases.entry(case.into()).or_default() += 1;
+}
+
+/// The cases of one text.
+fn note_text(cases: &mut Cases, text: &[u8]) {
+    if text.len() > TEXT_LIMIT {
+        return note(cases, "FF0C");
+    }
+    note_form(cases, text);
+    let mut run = Run::default();
+    for line in lines(text) {
+        note_line_form(cases, line);
+        let before = run.panel.clone();
+        let reply = run.line(line);
+        if reply.starts_with("FF") {
+            note(cases, reply.as_str());
+        }
+        let command = read_hex(line).and_then(|frame| read_frame(&frame));
+        if let Ok(command) = command {
+            note_command(cases, &before, &command, &run.panel, &reply);
+        }
+    }
+    note_end(cases, &run.panel);
+}
+
+fn note_form(cases: &mut Cases, text: &[u8]) {
+    let forms = [
+        ("empty text", text.is_empty()),
+        ("no last LF", !text.is_empty() && !text.ends_with(b"\n")),
+        ("text at the limit", text.len() == TEXT_LIMIT),
+        ("text over 20,000 bytes", text.len() > 20_000),
+    ];
+    for (form, _) in forms.iter().filter(|(_, met)| *met) {
+        note(cases, *form);
+    }
+}
+
+fn note_line_form(cases: &mut Cases, line: &[u8]) {
+    let forms = [
+        ("empty line", line.is_empty()),
+        ("CR", line.ends_with(b"\r")),
+        ("NUL", line.contains(&0)),
+        ("lower case", line.iter().any(u8::is_ascii_lowercase)),
+        ("odd count", line.len() % 2 == 1),
+        ("byte over 7F", line.iter().any(|&byte| byte > 0x7F)),
+        ("line over 1,000 digits", line.len() > 1_000),
+    ];
+    for (form, _) in forms.iter().filter(|(_, met)| *met) {
+        note(cases, *form);
+    }
+}
+
+fn note_end(cases: &mut Cases, panel: &Panel) {
+    let sizes = [
+        ("1 field", panel.size() == 1),
+        ("64 fields", panel.size() == 64),
+        (
+            "open, no links",
+            panel.is_open() && panel.links().is_empty(),
+        ),
+        ("128 links", panel.links().len() == 128),
+    ];
+    for (size, _) in sizes.iter().filter(|(_, met)| *met) {
+        note(cases, *size);
+    }
+}
+
+/// The cases of a command that reaches the links.
+fn note_command(cases: &mut Cases, before: &Panel, command: &Command, after: &Panel, reply: &str) {
+    if reply.starts_with("FF") && reply != "FF0B" {
+        return;
+    }
+    let (kind, middle, item) = match *command {
+        Command::Add(id, level, ref field_bytes) => {
+            let link = new_link(id, level, field_bytes).expect("a sound link");
+            let middle = before.with_waiting(id, link);
+            let blocked = middle.is_blocked(Item::Link(id)).then_some(Item::Link(id));
+            ("add", middle, blocked)
+        }
+        Command::Remove(id) => {
+            let middle = before.dropped(id);
+            note_blocked(cases, &middle);
+            let first = middle.first_blocked();
+            ("remove", middle, first)
+        }
+        Command::Touch(field) => {
+            let middle = before.touched(field);
+            let blocked = middle.is_blocked(Item::Stay(field));
+            ("touch", middle, blocked.then_some(Item::Stay(field)))
+        }
+        Command::Open(_) | Command::Plan => return,
+    };
+    match item {
+        _ if reply == "FF0B" => note(cases, format!("{kind}: loop")),
+        None => note_unturned(cases, kind, before, command),
+        Some(item) => note_turned(cases, kind, &middle, item, after),
+    }
+}
+
+/// "Look at all blocked links and stays".
+fn note_blocked(cases: &mut Cases, middle: &Panel) {
+    let blocked = middle.blocked();
+    let first = middle.first_blocked();
+    let equals = blocked
+        .iter()
+        .filter(|&&item| first.is_some_and(|first| middle.level(first) == middle.level(item)));
+    if equals.count() > 1 {
+        note(cases, "remove: tie of blocked links");
+    }
+    let kinds = |item: &Item| matches!(item, Item::Link(_));
+    if blocked.iter().any(kinds) && !blocked.iter().all(kinds) {
+        note(cases, "remove: blocked links and stays");
+    }
+}
+
+/// Accepted without turning.
+fn note_unturned(cases: &mut Cases, kind: &str, before: &Panel, command: &Command) {
+    let waited = match *command {
+        Command::Remove(id) => before.standing(Item::Link(id)) == Standing::Waiting,
+        Command::Touch(field) => before.standing(Item::Stay(field)) == Standing::Waiting,
+        _ => true,
+    };
+    let standing = if waited { "waiting" } else { "holding" };
+    note(cases, format!("{kind}: not turned, {standing}"));
+}
+
+/// Accepted with a turned walk.
+fn note_turned(cases: &mut Cases, kind: &str, middle: &Panel, item: Item, after: &Panel) {
+    let walk = middle.walk(item);
+    assert_eq!(after.setter(walk[0]), item);
+    let turned_for = match item {
+        Item::Link(_) => "link",
+        Item::Stay(_) => "stay",
+    };
+    note(cases, format!("{kind}: turned for a {turned_for}"));
+    note(cases, format!("{kind}: walk of {}", walk.len().min(4)));
+    let last = middle.setter(*walk.last().expect("a field"));
+    if let Item::Link(_) = last {
+        note(cases, format!("{kind}: walk ends at a link"));
+    }
+    let strengths = middle.strengths();
+    let equals = |item: Item, field: u8| {
+        let outputs = middle.outputs(item).into_iter();
+        let same = |f: &u8| *f != field && strengths[*f as usize] == strengths[walk[0] as usize];
+        outputs.filter(same).count()
+    };
+    if equals(item, walk[0]) > 0 {
+        note(cases, format!("{kind}: tie of outputs"));
+    }
+    let turned = &walk[..walk.len() - 1];
+    if turned.iter().any(|&f| equals(middle.setter(f), f) > 1) {
+        note(cases, format!("{kind}: tie in the walk"));
+    }
+}
+
+/// Every case that must be met.
+const CASES: &[&str] = &[
+    "FF01",
+    "FF02",
+    "FF03",
+    "FF04",
+    "FF05",
+    "FF06",
+    "FF07",
+    "FF08",
+    "FF09",
+    "FF0A",
+    "FF0B",
+    "FF0C",
+    "empty text",
+    "no last LF",
+    "text at the limit",
+    "text over 20,000 bytes",
+    "empty line",
+    "CR",
+    "NUL",
+    "lower case",
+    "odd count",
+    "byte over 7F",
+    "line over 1,000 digits",
+    "1 field",
+    "64 fields",
+    "open, no links",
+    "128 links",
+    "add: not turned, waiting",
+    "add: turned for a link",
+    "add: loop",
+    "add: tie of outputs",
+    "add: tie in the walk",
+    "add: walk ends at a link",
+    "add: walk of 1",
+    "add: walk of 2",
+    "add: walk of 3",
+    "add: walk of 4",
+    "remove: not turned, waiting",
+    "remove: not turned, holding",
+    "remove: turned for a link",
+    "remove: turned for a stay",
+    "remove: blocked links and stays",
+    "remove: tie of blocked links",
+    "remove: loop",
+    "remove: walk of 1",
+    "remove: walk of 2",
+    "remove: walk of 3",
+    "remove: walk of 4",
+    "touch: not turned, waiting",
+    "touch: not turned, holding",
+    "touch: turned for a stay",
+    "touch: loop",
+    "touch: walk of 2",
+    "touch: walk of 3",
+    "touch: walk of 4",
+];
+
+#[test]
+fn texts_meet_every_case() {
+    let mut cases = Cases::new();
+    for seed in SEEDS {
+        note_text(&mut cases, &text(seed));
+    }
+    let missing: Vec<_> = CASES
+        .iter()
+        .filter(|case| !cases.contains_key(**case))
+        .collect();
+    assert!(missing.is_empty(), "missing {missing:?} in {cases:#?}");
+}
+
+/// The tally line that belongs to the replies.
+fn tally_line(replies: &[String]) -> String {
+    let refusals: Vec<&String> = replies.iter().filter(|r| r.starts_with("FF")).collect();
+    let (lines, refused) = (replies.len(), refusals.len());
+    let accepted = lines - refused;
+    let last = refusals.last().map_or("00", |refusal| &refusal[2..]);
+    format!("EE{lines:06X}{accepted:06X}{refused:06X}{last}")
+}
+
+/// One reply a line, the same as line by line, then the tally of these replies.
+#[test]
+fn outputs_are_whole() {
+    for seed in SEEDS {
+        let text = text(seed);
+        let output = String::from_utf8(run_text(&text)).expect("digits");
+        if text.len() > TEXT_LIMIT {
+            assert_eq!(output, "FF0C\n");
+            continue;
+        }
+        let mut run = Run::default();
+        let mut replies: Vec<String> = lines(&text).iter().map(|line| run.line(line)).collect();
+        replies.push(tally_line(&replies));
+        assert_eq!(output, replies.join("\n") + "\n", "seed {seed}");
+    }
+}
+
+#[test]
+fn equal_seeds_give_equal_texts() {
+    let texts: Vec<Vec<u8>> = (0..100).map(text).collect();
+    assert!((0..100).map(text).eq(texts.iter().cloned()));
+    let different = (1..100).filter(|&i| texts[i] != texts[i - 1]).count();
+    assert!(different > 90, "{different}");
+}

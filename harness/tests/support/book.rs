@@ -1,0 +1,106 @@
+//! The book of "What condition 3 compares". "It is fed the commands and, for
+//! each, whether it was refused; nothing in it comes from the panel's own
+//! record."
+
+/// A link by its number, or the stay of a field.
+#[derive(Clone, Copy, Debug, PartialEq, Eq)]
+pub enum Name {
+    Link(u8),
+    Stay(u8),
+}
+
+/// A link or stay in force, with the level it has in the book.
+#[derive(Clone, Debug, PartialEq, Eq)]
+pub struct Member {
+    pub name: Name,
+    pub level: u8,
+    pub covered: Vec<u8>,
+    pub outputs: Vec<u8>,
+}
+
+/// "It starts empty."
+#[derive(Clone, Debug, Default, PartialEq, Eq)]
+pub struct Book {
+    links: Vec<Member>,
+    stays: Vec<u8>,
+}
+
+impl Book {
+    /// "A refused command and a plan change nothing in it. Opening enters the
+    /// stays of fields 0 to n - 1, in that order. Add enters the link. Remove
+    /// strikes out the link of that number. Touch f moves f's stay to the
+    /// front; the other stays keep their order."
+    pub fn feed(&mut self, frame: &[u8], refused: bool) {
+        match *frame {
+            _ if refused => {}
+            [1, n] => self.stays = (0..n).collect(),
+            [2, ..] => self.links.push(link(frame)),
+            [3, id] => self.links.retain(|link| link.name != Name::Link(id)),
+            [4, f] => {
+                self.stays.retain(|&field| field != f);
+                self.stays.insert(0, f);
+            }
+            _ => {}
+        }
+    }
+
+    /// "What stands in the book is in force; its stay at place p has level
+    /// 16 + p."
+    pub fn members(&self) -> Vec<Member> {
+        let stays = (0..self.stays.len()).map(|place| self.stay(place));
+        self.links.iter().cloned().chain(stays).collect()
+    }
+
+    /// The stay at a place.
+    fn stay(&self, place: usize) -> Member {
+        let field = self.stays[place];
+        Member {
+            name: Name::Stay(field),
+            level: 16 + place as u8,
+            covered: vec![field],
+            outputs: vec![field],
+        }
+    }
+
+    /// The member of a name.
+    pub fn member(&self, name: Name) -> Member {
+        let place = self.stays.iter().position(|&f| Name::Stay(f) == name);
+        let link = self.links.iter().find(|link| link.name == name);
+        let member = place.map(|place| self.stay(place));
+        let found = member.or(link.cloned());
+        found.unwrap_or_else(|| panic!("{name:?} is not in force"))
+    }
+
+    /// The links in force.
+    pub fn links(&self) -> &[Member] {
+        &self.links
+    }
+
+    /// The number of fields, 0 while unopened.
+    pub fn fields(&self) -> u8 {
+        self.stays.len() as u8
+    }
+
+    /// Whether a link of that number is in force.
+    pub fn has_link(&self, id: u8) -> bool {
+        self.links.iter().any(|link| link.name == Name::Link(id))
+    }
+
+    /// The required links in force.
+    pub fn required(&self) -> Vec<Member> {
+        let links = self.links.iter();
+        links.filter(|link| link.level == 0).cloned().collect()
+    }
+}
+
+/// The link of an add frame.
+pub fn link(frame: &[u8]) -> Member {
+    let field_bytes = &frame[3..];
+    let outputs = field_bytes.iter().filter(|&&byte| byte >= 0x80);
+    Member {
+        name: Name::Link(frame[1]),
+        level: frame[2],
+        covered: field_bytes.iter().map(|byte| byte & 0x3F).collect(),
+        outputs: outputs.map(|byte| byte & 0x3F).collect(),
+    }
+}
