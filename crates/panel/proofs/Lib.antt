@@ -1,1 +1,9 @@
+-- The laws that the functions' proofs and other crates cite.
 pub mod Answers
+pub mod Turn
+pub mod Legal
+pub mod Setters
+pub mod Reversal
+pub mod Changes
+pub mod Checks
+pub mod Performed

@@ -4,3 +4,4 @@ pub mod Panels
 pub mod Solution
 pub mod Steps
 pub mod Commands
+pub mod Legal

@@ -1,2 +1,180 @@
 // Strengths of fields and the reversible path, over small tables of one entry for each field: `levels` has the level of its setter,
 // `others` the set of its setter's other outputs.
+use fieldset::lowest;
+use fieldset::member;
+use fieldset::with;
+use fieldset::without_lowest;
+ghost use mathlib.Core.Path.{_≡_};
+ghost use mathlib.Core.Bool.{true};
+ghost use mathlib.Core.List.{_++_};
+ghost use Prim.Native.Nat.{_<_, max};
+ghost use lib.ListN.{length, drop};
+ghost use Rattle.fieldset.specs.Tables.{at, tabulate};
+ghost use Rattle.fieldset.specs.Fields.{member, below};
+ghost use Rattle.strength.specs.Strength.{greatest, strength, lowestAt};
+ghost use Rattle.strength.specs.Filling.{Acyclic, Strengths, Within, First, Ready, Filled, Topped, Walked, tiesOf};
+
+fn larger(a: u8, b: u8) -> u8
+    ensures { λ r. ⌜ r ≡ max a b ⌝ }
+{
+    if a < b { b } else { a }
+}
+
+// The lowest-numbered field of a set that is not empty.
+fn first(m: u64) -> usize
+    requires { ⌜ 0 < m ⌝ }
+    ensures { λ r. ⌜ First m r ⌝ }
+{
+    lowest(m)
+}
+
+// Works out the strength of v, and those that it depends on, each once; the answer is the set of the fields that the table then has.
+// The depth starts at the number of fields and falls at each call.
+fn fill(
+    levels: &[u8; 64],
+    others: &[u64; 64],
+    known: u64,
+    table: &mut [u8; 64],
+    v: usize,
+    depth: usize,
+) -> u64
+    requires { ⌜ Ready (now levels) (now others) known (now table) v depth ⌝ }
+    ensures { λ r. ⌜ Filled (now (levels .entry)) (now (others .entry)) known v r (now (table .entry)) (now (table .exit)) ⌝ }
+{
+    if member(known, v) {
+        return known;
+    }
+    let mut k = known;
+    let mut s = levels[v];
+    let mut rest = others[v];
+    while rest != 0 {
+        let u = first(rest);
+        k = fill(levels, others, k, table, u, depth - 1);
+        s = larger(s, table[u]);
+        rest = without_lowest(rest);
+    }
+    table[v] = s;
+    with(k, v)
+}
+
+pub struct Top {
+    // the fields whose strengths the table has
+    pub known: u64,
+    pub strength: u8,
+}
+
+// The greatest strength of the fields of a set, 0 for the empty set.
+pub fn greatest(
+    levels: &[u8; 64],
+    others: &[u64; 64],
+    n: usize,
+    set: u64,
+    table: &mut [u8; 64],
+) -> Top
+    requires { ⌜ Acyclic (now others) n × Within set (below n) × (length (now table) ≡ 64) ⌝ }
+    ensures { λ r. ⌜ Topped (now (levels .entry)) (now (others .entry)) n set (r .strength) (r .known) (now (table .exit)) ⌝ }
+{
+    let mut k = 0u64;
+    let mut top = 0u8;
+    let mut rest = set;
+    while rest != 0 {
+        let u = first(rest);
+        k = fill(levels, others, k, table, u, n);
+        top = larger(top, table[u]);
+        rest = without_lowest(rest);
+    }
+    Top {
+        known: k,
+        strength: top,
+    }
+}
+
+// The strengths of all fields below n.
+pub fn strengths(levels: &[u8; 64], others: &[u64; 64], n: usize, table: &mut [u8; 64])
+    requires { ⌜ Acyclic (now others) n × (length (now table) ≡ 64) ⌝ }
+    ensures { λ r. ⌜ now (table .exit) ≡ tabulate (strength (at (now (levels .entry))) (at (now (others .entry))) n) n ++ drop n (now (table .entry)) ⌝ }
+{
+    let mut k = 0u64;
+    let mut v = 0usize;
+    while v < n {
+        k = fill(levels, others, k, table, v, n);
+        v += 1;
+    }
+}
+
+// The greatest strength of the fields of a set, 0 for the empty set, where the table has the strengths of all of them.
+pub fn top_of(table: &[u8; 64], set: u64) -> u8
+    ensures { λ r. ⌜ r ≡ greatest (member set) (at (now (table .entry))) 64 ⌝ }
+{
+    let mut top = 0u8;
+    let mut rest = set;
+    while rest != 0 {
+        let u = first(rest);
+        top = larger(top, table[u]);
+        rest = without_lowest(rest);
+    }
+    top
+}
+
+// The fields of a set that have the strength s.
+fn tied(table: &[u8; 64], s: u8, set: u64) -> u64
+    ensures { λ r. ⌜ r ≡ tiesOf (at (now (table .entry))) s set ⌝ }
+{
+    let mut ties = 0u64;
+    let mut rest = set;
+    while rest != 0 {
+        let u = first(rest);
+        if table[u] == s {
+            ties = with(ties, u);
+        }
+        rest = without_lowest(rest);
+    }
+    ties
+}
+
+// The lowest-numbered field of a set at the strength s, 64 where there is none.
+pub fn lowest_at(table: &[u8; 64], s: u8, set: u64) -> usize
+    ensures { λ r. ⌜ r ≡ lowestAt (at (now (table .entry))) s set ⌝ }
+{
+    lowest(tied(table, s, set))
+}
+
+pub struct Path {
+    // the last field, and how many fields there are
+    pub end: usize,
+    pub count: usize,
+}
+
+// The reversible path from v, whose strength the table has: its fields go to the start of the buffer.
+pub fn path_from(
+    levels: &[u8; 64],
+    others: &[u64; 64],
+    table: &[u8; 64],
+    n: usize,
+    known: u64,
+    v: usize,
+    path: &mut [u8; 64],
+) -> Path
+    requires { ⌜ Acyclic (now others) n × Strengths (now levels) (now others) n known (now table) × (v < n) × (member known v ≡ true) × (length (now path) ≡ 64) ⌝ }
+    ensures { λ r. ⌜ Walked (now (levels .entry)) (now (others .entry)) n v (now (path .entry)) (now (path .exit)) (r .end) (r .count) ⌝ }
+{
+    let s = table[v];
+    let mut at = v;
+    let mut count: usize = 0;
+    let end = 'walk: loop {
+        path[count] = at as u8;
+        count += 1;
+        if levels[at] == s {
+            break 'walk at;
+        }
+        let mut rest = others[at];
+        at = 'scan: loop {
+            let next = first(rest);
+            if table[next] == s {
+                break 'scan next;
+            }
+            rest = without_lowest(rest);
+        };
+    };
+    Path { end, count }
+}

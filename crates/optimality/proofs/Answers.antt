@@ -1,0 +1,189 @@
+-- Which answers a command may have: a refusal that leaves the panel, or a reply that begins with 00.
+use Prim.Native.Nat.{ℕ, _<_}
+use mathlib.Core.Path.{_≡_, refl, ap}
+use mathlib.Core.Bool.{Bool, true, false, not}
+use mathlib.Core.List.{List, [], _∷_}
+use mathlib.Core.Option.{Option, none, some}
+use mathlib.Core.Logic.{_≢_}
+use native.Mathlib.Omega.{arith}
+use borrow.Author.Tests.{eqb-true, not-true}
+use lib.Dec.{eqb}
+use lib.ListN.{getD, drop}
+use Rattle.fieldset.proofs.Numbers.{clash}
+use Rattle.ordering.proofs.Sets.{and-left, and-right}
+use Rattle.panel.specs.declared.Standing.{Standing}
+use Rattle.panel.specs.declared.Standing.the-variants.{Waiting, Holding}
+use Rattle.panel.specs.declared.Panel.{Panel}
+use Rattle.panel.specs.declared.Refusal.{Refusal}
+use Rattle.panel.specs.declared.Refusal.the-variants.{AlreadyOpen, NotOpen, BadSize, BadLink, NoSuchField, LinkTaken, NoSuchLink, Conflict, Loop}
+use Rattle.panel.specs.Items.{Item, link, stay, linkAt}
+use Rattle.panel.specs.Answers.{Answer, isRefusal, refused, refusalBytes}
+use Rattle.panel.specs.Solution.{isBlocked, isLooped, pathFor, reversed, leastBlocked}
+use Rattle.panel.specs.Steps.{accepted, turned, openStep, addStep, settled, removed, removeStep, touchStep, planStep}
+use Rattle.panel.specs.Commands.{Command, opening, adding, removing, touching, planning, performed, Check, checked, openChecks, addChecks, removeChecks, touchChecks, planChecks, coveredIn, outputsIn}
+use Rattle.panel.proofs.Answers.{refusals-apart}
+use Rattle.panel.proofs.Checks.{NoneApply}
+use Rattle.optimality.specs.Condition3.{All}
+use Rattle.optimality.specs.Others.{passes, WeakerNeverConflict, TouchNeverConflict, RemoveNeverConflict, RefusedUnchanged}
+
+-- ---- checks
+
+-- what holds of each check's refusal, and of the step where no check applies, holds of the answer
+pub checked-answer : (P : Answer → Type 0) (p : Panel) (cs : List Check) (step : Answer) → All (λ c. P (refused p (c .refusal))) cs
+    → (NoneApply cs → P step) → P (checked p cs step)
+unfolding checked
+checked-answer P p [] step a h = h tt
+checked-answer P p (c ∷ cs) step a h = go (c .applies) refl (λ e. checked-answer P p cs step (a .1) (λ n. h (e, n)))
+  where
+    go : (b : Bool) → c .applies ≡ b → (c .applies ≡ false → P (checked p cs step)) → P (checked p (c ∷ cs) step)
+    go true e ih = rw e (a .0)
+    go false e ih = rw e (ih e)
+
+pub passes-none : (cs : List Check) → passes cs ≡ true → NoneApply cs
+unfolding passes
+passes-none [] e = tt
+passes-none (c ∷ cs) e = (not-true (c .applies) (and-left (not (c .applies)) (passes cs) e), passes-none cs (and-right (not (c .applies)) (passes cs) e))
+
+-- where no check applies the step is carried out
+pub checked-step : (p : Panel) (cs : List Check) (step : Answer) → NoneApply cs → checked p cs step ≡ step
+unfolding checked
+checked-step p [] step n = refl
+checked-step p (c ∷ cs) step n = rw (n .0) (checked-step p cs step (n .1))
+
+-- ---- outcomes
+
+-- a refusal that R allows and that leaves the panel, or a reply that begins with 00
+pub data Outcome (R : Refusal → Type 0) (p : Panel) : Answer → Type 0 where
+  no : (r : Refusal) → R r → Outcome R p (refused p r)
+  yes : (q : Panel) (bytes : List ℕ) → Outcome R p (record { panel = q; reply = 0x00 ∷ bytes })
+
+-- one of two answers
+abbrev pub pick : Bool → Answer → Answer → Answer
+pick t x y = elim t [ true ↦ x | false ↦ y ]
+
+module _ (R : Refusal → Type 0) (p : Panel) where
+  pub turned-outcome : (q : Panel) (c : Item) → R Loop → Outcome R p (turned p q c)
+  unfolding turned
+  turned-outcome q c l = go (isLooped (reversed q c (pathFor q c)))
+    where
+      go : (t : Bool) → Outcome R p (pick t (refused p Loop) (accepted p (reversed q c (pathFor q c))))
+      go true = no Loop l
+      go false = yes _ _
+
+  add-outcome : (id level covered outputs : ℕ) → R Loop → (level ≡ 0 → R Conflict) → Outcome R p (addStep p id level covered outputs)
+  unfolding addStep
+  add-outcome id level covered outputs l k = go _ (isBlocked _ (link id)) (eqb level 0) refl
+    where
+      go : (q : Panel) (t z : Bool) → eqb level 0 ≡ z → Outcome R p (pick t (turned p q (link id)) (pick z (refused p Conflict) (accepted p q)))
+      go q true z e = turned-outcome q (link id) l
+      go q false true e = no Conflict (k (eqb-true level 0 e))
+      go q false false e = yes _ _
+
+  settled-outcome : (q : Panel) (o : Option Item) → R Loop → Outcome R p (settled p q o)
+  settled-outcome q none l = yes _ _
+  settled-outcome q (some c) l = turned-outcome q c l
+
+  remove-outcome : (id : ℕ) → R Loop → Outcome R p (removeStep p id)
+  unfolding removeStep
+  remove-outcome id l = go (linkAt (p .links) id .standing)
+    where
+      go : (s : Standing) → Outcome R p (removed p id s)
+      go Waiting = yes _ _
+      go (Holding v) = settled-outcome _ (leastBlocked _) l
+
+  touch-outcome : (f : ℕ) → R Loop → Outcome R p (touchStep p f)
+  unfolding touchStep
+  touch-outcome f l = go _ (isBlocked _ (stay f))
+    where
+      go : (q : Panel) (t : Bool) → Outcome R p (pick t (turned p q (stay f)) (accepted p q))
+      go q true = turned-outcome q (stay f) l
+      go q false = yes _ _
+
+  -- the refusals of the checks
+  pub record Early : Type 0 where
+    pub already-open : R AlreadyOpen
+    pub not-open : R NotOpen
+    pub bad-size : R BadSize
+    pub bad-link : R BadLink
+    pub no-such-field : R NoSuchField
+    pub link-taken : R LinkTaken
+    pub no-such-link : R NoSuchLink
+
+  module _ (early : Early) (l : R Loop) where
+    pub adding-outcome : (id level : ℕ) (bytes : List ℕ) → (level ≡ 0 → R Conflict) → Outcome R p (performed p (adding id level bytes))
+    adding-outcome id level bytes k =
+        checked-answer (Outcome R p) p (addChecks p id level bytes) (addStep p id level (coveredIn bytes) (outputsIn bytes))
+        (no NotOpen (early .not-open), (no BadLink (early .bad-link), (no NoSuchField (early .no-such-field), (no LinkTaken (early .link-taken), tt))))
+        (λ n. add-outcome id level (coveredIn bytes) (outputsIn bytes) l k)
+
+    pub removing-outcome : (id : ℕ) → Outcome R p (performed p (removing id))
+    removing-outcome id =
+        checked-answer (Outcome R p) p (removeChecks p id) (removeStep p id)
+        (no NotOpen (early .not-open), (no BadLink (early .bad-link), (no NoSuchLink (early .no-such-link), tt))) (λ n. remove-outcome id l)
+
+    pub touching-outcome : (f : ℕ) → Outcome R p (performed p (touching f))
+    touching-outcome f =
+        checked-answer (Outcome R p) p (touchChecks p f) (touchStep p f)
+        (no NotOpen (early .not-open), (no NoSuchField (early .no-such-field), tt)) (λ n. touch-outcome f l)
+
+    pub performed-outcome : R Conflict → (c : Command) → Outcome R p (performed p c)
+    unfolding planStep
+    performed-outcome k (opening n) =
+        checked-answer (Outcome R p) p (openChecks p n) (openStep n)
+        (no AlreadyOpen (early .already-open), (no BadSize (early .bad-size), tt)) (λ n. yes _ _)
+    performed-outcome k (adding id level bytes) = adding-outcome id level bytes (λ e. k)
+    performed-outcome k (removing id) = removing-outcome id
+    performed-outcome k (touching f) = touching-outcome f
+    performed-outcome k planning = checked-answer (Outcome R p) p (planChecks p) (planStep p) (no NotOpen (early .not-open), tt) (λ n. yes _ _)
+
+-- ---- what follows
+
+-- a refusal that R does not allow is not given
+pub not-given : (R : Refusal → Type 0) (p : Panel) (a : Answer) → Outcome R p a → (r : Refusal) → (R r → ⊥) → a .reply ≢ refused p r .reply
+not-given R p a (no s h) r out e = out (rw (← refusals-apart s r (ap (λ (b : List ℕ). drop 1 b) e)) h)
+not-given R p a (yes q bytes) r out e = let z : _≡_ {A = ℕ} 0 255 = ap (λ (b : List ℕ). getD b 0 0) e in omega arith
+
+unchanged : (R : Refusal → Type 0) (p : Panel) (a : Answer) → Outcome R p a → isRefusal (a .reply) ≡ true → a .panel ≡ p
+unchanged R p a (no r h) e = refl
+unchanged R p a (yes q bytes) e = absurd (clash e refl)
+
+pub refused-unchanged : RefusedUnchanged
+refused-unchanged p c = unchanged (λ r. Unit {0}) p (performed p c) (performed-outcome (λ r. Unit {0}) p any tt tt c)
+  where
+    any : Early (λ r. Unit {0}) p
+    any = record { already-open = tt; not-open = tt; bad-size = tt; bad-link = tt; no-such-field = tt; link-taken = tt; no-such-link = tt }
+
+-- a refusal of another number than n
+abbrev pub Not : ℕ → Refusal → Type 0
+Not n r = getD (refusalBytes r) 0 0 ≢ n
+
+-- those of the checks are 3 to 9
+pub early-not : (n : ℕ) → 9 < n → (p : Panel) → Early (Not n) p
+early-not n l p =
+    record {
+      already-open = omega arith;
+      not-open = omega arith;
+      bad-size = omega arith;
+      bad-link = omega arith;
+      no-such-field = omega arith;
+      link-taken = omega arith;
+      no-such-link = omega arith;
+    }
+
+no-conflict : (p : Panel) (a : Answer) → Outcome (Not 10) p a → a .reply ≢ refused p Conflict .reply
+no-conflict p a o = not-given (Not 10) p a o Conflict (λ h. h refl)
+
+pub weaker-never-conflict : WeakerNeverConflict
+weaker-never-conflict p id level bytes l =
+    no-conflict p (performed p (adding id level bytes))
+    (adding-outcome (Not 10) p (early-not 10 (omega arith) p) (omega arith) id level bytes (λ e. absurd (omega arith)))
+
+pub touch-never-conflict : TouchNeverConflict
+touch-never-conflict p f = no-conflict p (performed p (touching f)) (touching-outcome (Not 10) p (early-not 10 (omega arith) p) (omega arith) f)
+
+pub remove-never-conflict : RemoveNeverConflict
+remove-never-conflict p id = no-conflict p (performed p (removing id)) (removing-outcome (Not 10) p (early-not 10 (omega arith) p) (omega arith) id)
+
+-- a reversal never gives Conflict
+pub turned-no-conflict : (p q : Panel) (c : Item) → turned p q c .reply ≢ refused p Conflict .reply
+turned-no-conflict p q c = no-conflict p (turned p q c) (turned-outcome (Not 10) p q c (omega arith))

@@ -1,0 +1,24 @@
+-- The laws of this crate: the argument over a constraint graph; a panel as a graph; each command; the theorems.
+pub mod Tests
+pub mod Lists
+pub mod Setters
+pub mod Matchings
+pub mod Counting
+pub mod Reversal
+pub mod Removal
+pub mod Changes
+pub mod Required
+pub mod Graphs
+pub mod Held
+pub mod Optimum
+pub mod Turned
+pub mod Agreement
+pub mod Least
+pub mod Answers
+pub mod Steps
+pub mod Removing
+pub mod Runs
+pub mod States
+pub mod Conflict
+pub mod Loops
+pub mod Examples

@@ -1,0 +1,135 @@
+-- Loop is given exactly when the state with the path reversed has a closed walk of reads.
+use Prim.Native.Nat.{ℕ, _<_}
+use mathlib.Core.Path.{_≡_, refl, sym, subst}
+use mathlib.Core.Bool.{Bool, true, false}
+use mathlib.Core.List.{List}
+use mathlib.Core.Option.{Option, none, some}
+use mathlib.Core.Logic.{_↔_}
+use native.Mathlib.Omega.{arith}
+use lib.Dec.{eqb}
+use Rattle.fieldset.proofs.Numbers.{clash}
+use Rattle.ordering.specs.Walks.{ClosedWalk}
+use Rattle.ordering.proofs.Loops.{loop-walk, walk-loop}
+use Rattle.panel.specs.declared.Standing.{Standing}
+use Rattle.panel.specs.declared.Standing.the-variants.{Waiting, Holding}
+use Rattle.panel.specs.declared.Panel.{Panel}
+use Rattle.panel.specs.declared.Refusal.the-variants.{Conflict, Loop}
+use Rattle.panel.specs.Items.{Item, link, stay, noLink, linkAt, itemsOf}
+use Rattle.panel.specs.Answers.{Answer, refused}
+use Rattle.panel.specs.Panels.{withLink, withSetter, toFront}
+use Rattle.panel.specs.Solution.{level, setterReads, isBlocked, isLooped, pathFor, reversed, leastBlocked}
+use Rattle.panel.specs.Steps.{accepted, turned, openStep, addStep, settled, removed, removeStep, touchStep, planStep}
+use Rattle.panel.specs.Commands.{Command, opening, adding, removing, touching, planning, performed, coveredIn, outputsIn}
+use Rattle.panel.specs.Legal.{Legal}
+use Rattle.panel.proofs.Turn.{left}
+use Rattle.panel.proofs.Legal.{Carrying, LegalBut}
+use Rattle.panel.proofs.Setters.{setter-reads-inside}
+use Rattle.panel.proofs.Reversal.{blocking, route-for, turned-carrying, legal-waits}
+use Rattle.panel.proofs.Changes.{legal-add, legal-free, legal-front}
+use Rattle.panel.proofs.Checks.{NoneApply, newLink, addable, removable, touchable}
+use Rattle.optimality.specs.Condition3.{State, start, after}
+use Rattle.optimality.specs.Others.{AfterEveryList, checksOf, Reversal, turning, settling, dropping, reversal, turnedPanel, Loops, LoopExactly}
+use Rattle.optimality.proofs.Graphs.{settersOf}
+use Rattle.optimality.proofs.Least.{Least, least-blocked}
+use Rattle.optimality.proofs.Answers.{pick, Outcome, no, yes, Not, not-given, passes-none, checked-step}
+use Rattle.optimality.proofs.Runs.{after-sound, start-sound}
+
+-- the answer is Loop exactly where the reversal has a loop
+abbrev Exactly : Panel → Answer → Option Reversal → Type 0
+Exactly p a r = (a .reply ≡ refused p Loop .reply) ↔ Loops r
+
+-- an answer that is not Loop, and no reversal
+still : (p : Panel) (a : Answer) → Outcome (Not 11) p a → Exactly p a none
+still p a o = (λ e. absurd (not-given (Not 11) p a o Loop (λ h. h refl) e), λ l. never l)
+  where
+    never : Loops none → a .reply ≡ refused p Loop .reply
+    never l = let e : none ≡ some (l .made) = l .is-made in let z : _≡_ {A = ℕ} 0 1 = cc in absurd (omega arith)
+
+-- a reversal
+turned-exactly : (p q : Panel) (c : Item) → LegalBut c q → isBlocked q c ≡ true → Exactly p (turned p q c) (some (record { before = q; item = c }))
+unfolding turned turnedPanel isLooped
+turned-exactly p q c k b = go (isLooped r) refl
+  where
+    r : Panel
+    r = reversed q c (pathFor q c)
+
+    carries : Carrying (left (settersOf q) c (pathFor q c)) r
+    carries = turned-carrying q c (pathFor q c) (k .carrying) (route-for q c (k .carrying) (k .loopless) (blocking q c b))
+
+    -- the reversal made is this one
+    this : Loops (some (record { before = q; item = c })) → ClosedWalk (setterReads r) (r .size)
+    this l =
+        let e : some (record { before = q; item = c }) ≡ some (l .made) = l .is-made in
+        let d : record { before = q; item = c } ≡ l .made = cc in
+        subst (λ (m : Reversal). ClosedWalk (setterReads (turnedPanel m)) (turnedPanel m .size)) (sym d) (l .loop)
+
+    go : (t : Bool) → isLooped r ≡ t
+        → (pick t (refused p Loop) (accepted p r) .reply ≡ refused p Loop .reply) ↔ Loops (some (record { before = q; item = c }))
+    go true e = (
+      λ x. record { made = record { before = q; item = c }; is-made = refl; loop = loop-walk (setterReads r) (r .size) (setter-reads-inside r _ carries) e },
+      λ l. refl,
+    )
+    go false e = (
+      λ x. absurd (not-given (Not 11) p (accepted p r) (yes _ _) Loop (λ h. h refl) x),
+      λ l. absurd (clash (walk-loop (setterReads r) (r .size) (carries .few) (this l)) e),
+    )
+
+-- ---- the commands
+
+module _ (p : Panel) (h : Legal p) where
+  add-exactly : (id level : ℕ) (bytes : List ℕ) → LegalBut (link id) (withLink p id (newLink level bytes))
+      → Exactly p (addStep p id level (coveredIn bytes) (outputsIn bytes)) (reversal p (adding id level bytes))
+  unfolding addStep reversal
+  add-exactly id level bytes k = go (isBlocked q (link id)) refl (eqb level 0)
+    where
+      q : Panel
+      q = withLink p id (newLink level bytes)
+
+      go : (t : Bool) → isBlocked q (link id) ≡ t → (z : Bool)
+          → Exactly p (pick t (turned p q (link id)) (pick z (refused p Conflict) (accepted p q))) (turning t q (link id))
+      go true e z = turned-exactly p q (link id) k e
+      go false e true = still p (refused p Conflict) (no Conflict (omega arith))
+      go false e false = still p (accepted p q) (yes _ _)
+
+  touch-exactly : (f : ℕ) → f < p .size → Exactly p (touchStep p f) (reversal p (touching f))
+  unfolding touchStep reversal
+  touch-exactly f l = go (isBlocked q (stay f)) refl
+    where
+      q : Panel
+      q = toFront p f
+
+      go : (t : Bool) → isBlocked q (stay f) ≡ t → Exactly p (pick t (turned p q (stay f)) (accepted p q)) (turning t q (stay f))
+      go true e = turned-exactly p q (stay f) (legal-waits q (stay f) (legal-front p f h l) (blocking q (stay f) e .waits-now)) e
+      go false e = still p (accepted p q) (yes _ _)
+
+  settled-exactly : (q : Panel) → Legal q → (o : Option Item) → Least (isBlocked q) (level q) (itemsOf (q .size)) o
+      → Exactly p (settled p q o) (settling q o)
+  settled-exactly q k none a = still p (accepted p q) (yes _ _)
+  settled-exactly q k (some c) a = turned-exactly p q c (legal-waits q c k (blocking q c (a .0) .waits-now)) (a .0)
+
+  remove-exactly : (id : ℕ) → id < 128 → Exactly p (removeStep p id) (reversal p (removing id))
+  unfolding removeStep reversal
+  remove-exactly id l = go (linkAt (p .links) id .standing) refl
+    where
+      go : (s : Standing) → linkAt (p .links) id .standing ≡ s → Exactly p (removed p id s) (dropping p id s)
+      go Waiting e = still p (accepted p (withLink p id noLink)) (yes _ _)
+      go (Holding v) e =
+          let q = withSetter (withLink p id noLink) v 128 in
+          settled-exactly q (legal-free p id v h l e) (leastBlocked q) (least-blocked q)
+
+  command-exactly : (c : Command) → NoneApply (checksOf p c) → Exactly p (performed p c) (reversal p c)
+  unfolding planStep reversal
+  command-exactly (opening m) n = rw (checked-step p (checksOf p (opening m)) (openStep m) n) (still p (openStep m) (yes _ _))
+  command-exactly (adding id level bytes) n =
+      let a = addable p id level bytes n in
+      rw (checked-step p (checksOf p (adding id level bytes)) (addStep p id level (coveredIn bytes) (outputsIn bytes)) n)
+      (add-exactly id level bytes (legal-add p id (newLink level bytes) h (a .number) (a .free) (a .formed) refl refl))
+  command-exactly (removing id) n = rw (checked-step p (checksOf p (removing id)) (removeStep p id) n) (remove-exactly id (removable p id n .number))
+  command-exactly (touching f) n = rw (checked-step p (checksOf p (touching f)) (touchStep p f) n) (touch-exactly f (touchable p f n))
+  command-exactly planning n = rw (checked-step p (checksOf p planning) (planStep p) n) (still p (planStep p) (yes _ _))
+
+pub legal-loop-exactly : (s : State) → Legal (s .panel) → LoopExactly s
+legal-loop-exactly s l c h = command-exactly (s .panel) l c (passes-none (checksOf (s .panel) c) h)
+
+pub loop-exactly : AfterEveryList LoopExactly
+loop-exactly commands = legal-loop-exactly (after start commands) (after-sound commands start start-sound .legal)

@@ -1,0 +1,185 @@
+-- A sound state stays sound through Remove.
+use Prim.Native.Nat.{ℕ, _≤_, _<_, min, max}
+use mathlib.Core.Path.{_≡_, refl, sym, ap, _∙_}
+use mathlib.Core.Bool.{Bool, true, false}
+use mathlib.Core.Option.{Option, none, some}
+use mathlib.Core.Logic.{_≢_, _⊎_, inl, inr}
+use native.Mathlib.Nat.{le-of-eq}
+use native.Mathlib.Omega.{arith}
+use borrow.Author.Tests.{eqb-true}
+use lib.ListN.{set}
+use Rattle.fieldset.specs.Fields.{member, only}
+use Rattle.fieldset.proofs.Numbers.{clash}
+use Rattle.fieldset.proofs.Fields.{member-only, member-empty}
+use Rattle.panel.specs.declared.Standing.{Standing}
+use Rattle.panel.specs.declared.Standing.the-variants.{Waiting, Holding}
+use Rattle.panel.specs.declared.Link.{Link}
+use Rattle.panel.specs.declared.Panel.{Panel}
+use Rattle.panel.specs.Items.{Item, link, stay, noLink, linkAt, outputsOf, inForce, itemsOf}
+use Rattle.panel.specs.Panels.{withLink, withSetter}
+use Rattle.panel.specs.Solution.{level, strengthOf, isBlocked, pathFor, leastBlocked}
+use Rattle.panel.specs.Steps.{settled, removed, removeStep}
+use Rattle.panel.specs.Commands.{removing}
+use Rattle.panel.specs.Legal.{Legal}
+use Rattle.panel.proofs.Turn.{put, same-item, link-here, set-setter, number-setter}
+use Rattle.panel.proofs.Legal.{LegalBut}
+use Rattle.panel.proofs.Setters.{waits-idle}
+use Rattle.panel.proofs.Reversal.{blocking, startOf, legal-waits}
+use Rattle.panel.proofs.Changes.{legal-drop, legal-free}
+use Rattle.optimality.specs.Condition3.{All, Store, entered}
+use Rattle.optimality.specs.Agreement.{Agrees, Sound}
+use Rattle.optimality.proofs.Lists.{all-in}
+use Rattle.optimality.proofs.Setters.{Graph, Waits, Free, Unblocked}
+use Rattle.optimality.proofs.Changes.{changed-potential, changed-free}
+use Rattle.optimality.proofs.Removal.{struck-potential, removal-unblocked}
+use Rattle.optimality.proofs.Graphs.{graphOf, settersOf, legal-whole, strength-least, none-unblocked, free-unblocked, unblocked-free, blocked-waits}
+use Rattle.optimality.proofs.Turned.{path-start, path-reversible}
+use Rattle.optimality.proofs.Agreement.{agrees-link}
+use Rattle.optimality.proofs.Least.{Least, least-blocked, item-listed}
+use Rattle.optimality.proofs.Steps.{state, SoundAfter, turned-sound, there, link-none}
+
+module _ (b : Store) (p : Panel) (x : Sound (state p b)) (id : ℕ) (lt : id < 128) (used : linkAt (p .links) id .used ≡ true) where
+  gone : linkAt (set (p .links) id noLink) id ≡ noLink
+  gone = link-here (p .links) id noLink (omega (arith, x .legal .links-length))
+
+  drop-agrees : Agrees (entered b (removing id)) (withLink p id noLink)
+  drop-agrees = agrees-link b p id noLink (omega (arith, x .legal .links-length)) (x .agrees)
+
+  -- the link waits
+  drop-sound : linkAt (p .links) id .standing ≡ Waiting → Sound (state (withLink p id noLink) (entered b (removing id)))
+  drop-sound e =
+      record {
+        legal = k;
+        agrees = drop-agrees;
+        unblocked =
+            link-none p (x .legal) (x .unblocked) id noLink
+            (waits-idle (stay (p .size)) (p .size) (p .links) (p .setter) (legal-whole p (x .legal) .carrying .held) (link id) (rw (used, e)))
+            (legal-whole (withLink p id noLink) k)
+            (free-unblocked (legal-whole (withLink p id noLink) k) (link id) (λ w. absurd (clash (w .force) (ap (λ (l : Link). l .used) gone))));
+      }
+    where
+      k : Legal (withLink p id noLink)
+      k = legal-drop p id (x .legal) lt e
+
+  -- the link holds v
+  module _ (v : ℕ) (holds : linkAt (p .links) id .standing ≡ Holding v) where
+    abbrev q : Panel
+    q = withSetter (withLink p id noLink) v 128
+
+    q-legal : Legal q
+    q-legal = legal-free p id v (x .legal) lt holds
+
+    k : LegalBut (stay (q .size)) q
+    k = legal-whole q q-legal
+
+    q-agrees : Agrees (entered b (removing id)) q
+    q-agrees = record { links = drop-agrees .links; stays = drop-agrees .stays; below = drop-agrees .below; places = drop-agrees .places }
+
+    v-below : v < p .size
+    v-below = x .legal .holding-field id v lt holds
+
+    few : p .size ≤ 64
+    few = x .legal .few
+
+    v-setter : settersOf p v ≡ link id
+    v-setter = number-setter (p .setter) v id (x .legal .holding-sets id v lt holds) lt
+
+    now : settersOf q ≡ put (settersOf p) v (stay v)
+    now = set-setter (p .setter) v (stay v) (x .legal .setter-length) (omega (arith, v-below, few)) refl
+
+    -- ---- the graph with the link still in force, but without outputs
+
+    un₀ : Unblocked (graphOf p) (settersOf p) (strengthOf p)
+    un₀ = none-unblocked (legal-whole p (x .legal)) (x .unblocked)
+
+    lev-st : (f : ℕ) → f < p .size → level q (settersOf p f) ≤ level p (settersOf p f)
+    lev-st f l = go (same-item (settersOf p f) (link id))
+      where
+        go : Dec (settersOf p f ≡ link id) → level q (settersOf p f) ≤ level p (settersOf p f)
+        go (yes e) = rw e (omega (arith, ap (λ (l : Link). l .level) gone))
+        go (no e) = le-of-eq (there p id noLink (settersOf p f) e .1)
+
+    out-st : (f u : ℕ) → f < p .size → member (outputsOf (q .links) (settersOf p f)) u ≡ true → member (outputsOf (p .links) (settersOf p f)) u ≡ true
+    out-st f u l o = go (same-item (settersOf p f) (link id))
+      where
+        go : Dec (settersOf p f ≡ link id) → member (outputsOf (p .links) (settersOf p f)) u ≡ true
+        go (yes e) = absurd (clash (rw e at o) (ap (λ (l : Link). member (l .outputs) u) gone ∙ member-empty u))
+        go (no e) = rw (there p id noLink (settersOf p f) e .2) at o
+
+    others : (w : Item) → inForce (p .size) (p .links) w ≡ true → w ≢ link id
+        → (inForce (p .size) (p .links) w ≡ true)
+        × (level q w ≡ level p w)
+        × ((u : ℕ) → member (outputsOf (q .links) w) u ≡ member (outputsOf (p .links) w) u)
+    others w u ne = (u, there p id noLink w ne .1, λ v. ap (λ (m : ℕ). member m v) (there p id noLink w ne .2))
+
+    abbrev before : Graph
+    before = record { n = p .size; lev = level q; out = graphOf q .out; force = inForce (p .size) (p .links) }
+
+    un : Unblocked before (settersOf p) (strengthOf p)
+    un =
+        record {
+          potential =
+              changed-potential (graphOf p) (settersOf p) (strengthOf p) un₀ (level q) (graphOf q .out) (inForce (p .size) (p .links)) (link id)
+              (λ n. n) (λ a b le. le) lev-st out-st others;
+          free = λ w h.
+              changed-free (graphOf p) (settersOf p) (strengthOf p) un₀ (level q) (graphOf q .out) (inForce (p .size) (p .links)) (link id)
+              (λ n. n) (λ a b le. le) lev-st out-st others w h (λ e. h .idle v v-below (v-setter ∙ sym e));
+        }
+
+    stay-only : (u : ℕ) → u < p .size → member (only v) u ≡ true → u ≡ v
+    stay-only u l o = eqb-true u v (sym (member-only v u (omega (arith, few))) ∙ o)
+
+    kept : (w : Item) → inForce (p .size) (q .links) w ≡ true → (inForce (p .size) (p .links) w ≡ true) × (w ≢ settersOf p v)
+    kept w u = go (same-item w (link id))
+      where
+        go : Dec (w ≡ link id) → (inForce (p .size) (p .links) w ≡ true) × (w ≢ settersOf p v)
+        go (yes e) = absurd (clash (rw e at u) (ap (λ (l : Link). l .used) gone))
+        go (no e) = (sym (there p id noLink w e .0) ∙ u, λ d. e (d ∙ v-setter))
+
+    -- ---- the least blocked item goes in
+
+    module _ (d : Item) (blocked : isBlocked q d ≡ true) (least : All (λ c. isBlocked q c ≡ true → level q d ≤ level q c) (itemsOf (q .size))) where
+      kd : LegalBut d q
+      kd = legal-waits q d q-legal (blocking q d blocked .waits-now)
+
+      d-least : (w : Item) → Waits (graphOf q) (settersOf q) w → Free (graphOf q) (strengthOf q) w ⊎ (level q d ≤ level q w)
+      d-least w h = go (isBlocked q w) refl
+        where
+          go : (t : Bool) → isBlocked q w ≡ t → Free (graphOf q) (strengthOf q) w ⊎ (level q d ≤ level q w)
+          go true e = inr (all-in (λ c. isBlocked q c ≡ true → level q d ≤ level q c) (itemsOf (q .size)) w least (item-listed q q-legal w (h .force)) e)
+          go false e = inl (unblocked-free k w e h)
+
+      some-sound : SoundAfter b (removing id) (settled p q (some d))
+      some-sound =
+          turned-sound b (removing id) p q d x kd blocked q-agrees (λ f. min (strengthOf q f) (max (level q d) (strengthOf p f)))
+          (rw now
+          (removal-unblocked before (inForce (p .size) (q .links)) (settersOf p) (strengthOf p) un v (stay v) stay-only kept
+          (strengthOf q)
+          (strength-least k (λ f. max (level q (stay v)) (strengthOf p f))
+          (rw now (struck-potential before (inForce (p .size) (q .links)) (settersOf p) (strengthOf p) un v (stay v) stay-only kept)))
+          d (rw now at (blocked-waits k d blocked)) (rw now at d-least)
+          (startOf q d) (path-start kd blocked .small) (path-start kd blocked .output) (pathFor q d) (rw now at (path-reversible kd blocked))))
+
+    none-sound : All (λ c. isBlocked q c ≡ false) (itemsOf (q .size)) → SoundAfter b (removing id) (settled p q none)
+    none-sound a =
+        record {
+          legal = q-legal;
+          agrees = q-agrees;
+          unblocked = λ w.
+              free-unblocked k w (λ h. unblocked-free k w (all-in (λ c. isBlocked q c ≡ false) (itemsOf (q .size)) w a (item-listed q q-legal w (h .force))) h);
+        }
+
+    settled-sound : SoundAfter b (removing id) (settled p q (leastBlocked q))
+    settled-sound = go (leastBlocked q) (least-blocked q)
+      where
+        go : (o : Option Item) → Least (isBlocked q) (level q) (itemsOf (q .size)) o → SoundAfter b (removing id) (settled p q o)
+        go none a = none-sound a
+        go (some d) a = some-sound d (a .0) (a .1)
+
+  pub remove-sound : SoundAfter b (removing id) (removeStep p id)
+  unfolding removeStep
+  remove-sound = go (linkAt (p .links) id .standing) refl
+    where
+      go : (s : Standing) → linkAt (p .links) id .standing ≡ s → SoundAfter b (removing id) (removed p id s)
+      go Waiting e = drop-sound e
+      go (Holding v) e = settled-sound v e

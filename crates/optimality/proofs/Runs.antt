@@ -1,0 +1,95 @@
+-- Condition 3: every command leaves a sound state sound, so every state after a list of commands is optimal.
+use Prim.Native.Nat.{ℕ, _≤_, _<_, zero-le}
+use mathlib.Core.Path.{_≡_, refl, ap, _∙_}
+use mathlib.Core.Bool.{Bool, true, false}
+use mathlib.Core.List.{List, [], _∷_}
+use mathlib.Core.Option.{none}
+use native.Mathlib.Omega.{arith}
+use borrow.Author.Tests.{ltb-true}
+use lib.ListN.{replicate, getD-replicate}
+use Rattle.fieldset.specs.Tables.{tabulate}
+use Rattle.fieldset.proofs.Numbers.{clash}
+use Rattle.fieldset.proofs.Fields.{some-member}
+use Rattle.panel.specs.declared.Link.{Link}
+use Rattle.panel.specs.declared.Panel.{Panel}
+use Rattle.panel.specs.Items.{Item, link, stay, linkAt}
+use Rattle.panel.specs.Panels.{opened}
+use Rattle.panel.specs.Steps.{openStep, addStep, removeStep, touchStep, planStep}
+use Rattle.panel.specs.Commands.{Command, opening, adding, removing, touching, planning, performed, openChecks, addChecks, removeChecks, touchChecks, planChecks, coveredIn, outputsIn}
+use Rattle.panel.proofs.Turn.{setter-stay}
+use Rattle.panel.proofs.Legal.{used-small}
+use Rattle.panel.proofs.Changes.{legal-opened}
+use Rattle.panel.proofs.Checks.{openable, addable, removable, touchable}
+use Rattle.optimality.specs.Condition3.{Store, empty, entered, State, start, next, after, Condition3}
+use Rattle.optimality.specs.Agreement.{entryOf, Sound, EveryStart}
+use Rattle.optimality.proofs.Setters.{Waits}
+use Rattle.optimality.proofs.Graphs.{graphOf, settersOf, legal-whole, free-unblocked}
+use Rattle.optimality.proofs.Answers.{checked-answer}
+use Rattle.optimality.proofs.Optimum.{sound-optimal}
+use Rattle.optimality.proofs.Agreement.{agrees-opened, default-link}
+use Rattle.optimality.proofs.Steps.{state, SoundAfter, add-sound, touch-sound}
+use Rattle.optimality.proofs.Removing.{remove-sound}
+
+-- ---- opening
+
+-- nothing waits in a panel at opening
+opened-idle : (n : ℕ) → n ≤ 64 → (d : Item) → Waits (graphOf (opened n)) (settersOf (opened n)) d → ⊥
+unfolding opened
+opened-idle n few (link i) w = clash (w .force) (ap (λ (l : Link). l .used) (default-link i))
+opened-idle n few (stay f) w =
+    let l : f < n = ltb-true f n (w .force) in
+    w .idle f l (setter-stay (replicate 64 128) f (omega (arith, getD-replicate {A = ℕ} 64 f 128 0 (omega arith))))
+
+opened-sound : (b : Store) (n : ℕ) → n ≤ 64 → ((i : ℕ) → b .links i ≡ none) → Sound (state (opened n) (entered b (opening n)))
+opened-sound b n few no-links =
+    record {
+      legal = legal-opened n few;
+      agrees = agrees-opened b n few no-links;
+      unblocked = λ d. free-unblocked (legal-whole (opened n) (legal-opened n few)) d (λ w. absurd (opened-idle n few d w));
+    }
+
+-- an unopened panel has no links
+no-links : (b : Store) (p : Panel) → Sound (state p b) → p .size ≡ 0 → (i : ℕ) → b .links i ≡ none
+no-links b p x e i = x .agrees .links i ∙ go (linkAt (p .links) i .used) refl
+  where
+    go : (u : Bool) → linkAt (p .links) i .used ≡ u → entryOf (linkAt (p .links) i) ≡ none
+    go true h =
+        let f = x .legal .formed i (used-small (p .links) i (x .legal .links-length) h) h in
+        let (u, l, m) = some-member (linkAt (p .links) i .outputs) (f .outputs-small) (f .some-output) in
+        let k : u < p .size = f .inside u l (f .subset u l m) in
+        absurd (omega arith)
+    go false h = rw h
+
+-- ---- the commands
+
+pub performed-sound : (b : Store) (p : Panel) (c : Command) → Sound (state p b) → SoundAfter b c (performed p c)
+unfolding planStep
+performed-sound b p (opening n) x =
+    checked-answer (SoundAfter b (opening n)) p (openChecks p n) (openStep n) (x, (x, tt))
+    (λ k. let (e, l, few) = openable p n k in opened-sound b n few (no-links b p x e))
+performed-sound b p (adding id level bytes) x =
+    checked-answer (SoundAfter b (adding id level bytes)) p (addChecks p id level bytes) (addStep p id level (coveredIn bytes) (outputsIn bytes))
+    (x, (x, (x, (x, tt)))) (λ k. add-sound b p x id level bytes (addable p id level bytes k))
+performed-sound b p (removing id) x =
+    checked-answer (SoundAfter b (removing id)) p (removeChecks p id) (removeStep p id) (x, (x, (x, tt)))
+    (λ k. remove-sound b p x id (removable p id k .number) (removable p id k .used))
+performed-sound b p (touching f) x =
+    checked-answer (SoundAfter b (touching f)) p (touchChecks p f) (touchStep p f) (x, (x, tt)) (λ k. touch-sound b p x f (touchable p f k))
+performed-sound b p planning x = checked-answer (SoundAfter b planning) p (planChecks p) (planStep p) (x, tt) (λ k. x)
+
+-- ---- lists of commands
+
+pub after-sound : (commands : List Command) (s : State) → Sound s → Sound (after s commands)
+unfolding after next
+after-sound [] s x = x
+after-sound (c ∷ cs) s x = after-sound cs (next s c) (performed-sound (s .store) (s .panel) c x)
+
+pub start-sound : Sound start
+unfolding tabulate
+start-sound = opened-sound empty 0 zero-le (λ i. refl)
+
+pub every-start : EveryStart
+every-start s x commands = sound-optimal (after s commands) (after-sound commands s x)
+
+pub condition-3 : Condition3
+condition-3 commands = every-start start start-sound commands

@@ -1,0 +1,225 @@
+-- A sound state stays sound through Add and Touch: their changes, and a reversal after one.
+use Prim.Native.Nat.{ℕ, _+_, _≤_, _<_}
+use mathlib.Core.Path.{_≡_, refl, sym, ap, _∙_}
+use mathlib.Core.Bool.{Bool, true, false}
+use mathlib.Core.List.{List}
+use mathlib.Core.Logic.{_≢_}
+use native.Mathlib.Nat.{le-of-eq}
+use native.Mathlib.Omega.{arith}
+use borrow.Author.Tests.{eq-eqb, ne-eqb, eqb-false, ltb-true}
+use lib.Dec.{eqb}
+use lib.ListN.{set}
+use Rattle.fieldset.specs.Tables.{at, tabulate}
+use Rattle.fieldset.specs.Fields.{member}
+use Rattle.fieldset.proofs.Numbers.{clash}
+use Rattle.fieldset.proofs.Tables.{getD-tabulate}
+use Rattle.panel.specs.declared.Link.{Link}
+use Rattle.panel.specs.declared.Panel.{Panel}
+use Rattle.panel.specs.declared.Refusal.the-variants.{Conflict, Loop}
+use Rattle.panel.specs.Items.{Item, link, stay, linkAt, levelOf, outputsOf, inForce}
+use Rattle.panel.specs.Answers.{Answer, isRefusal, refused}
+use Rattle.panel.specs.Panels.{withLink, toFront, placeAfter}
+use Rattle.panel.specs.Solution.{level, strengthOf, isBlocked, isLooped, pathFor, reversed}
+use Rattle.panel.specs.Steps.{accepted, turned, addStep, touchStep}
+use Rattle.panel.specs.Commands.{Command, adding, touching, coveredIn, outputsIn}
+use Rattle.panel.specs.Legal.{Legal}
+use Rattle.panel.proofs.Turn.{turn, same-item, link-here, link-there, reversed-size, reversed-place, reversed-alike}
+use Rattle.panel.proofs.Legal.{LegalBut, used-small}
+use Rattle.panel.proofs.Setters.{setter-force}
+use Rattle.panel.proofs.Reversal.{blocking, legal-waits, legal-reversed}
+use Rattle.panel.proofs.Changes.{legal-add, legal-but, legal-front}
+use Rattle.panel.proofs.Checks.{newLink, Addable}
+use Rattle.optimality.specs.Condition3.{Store, entered, fed, State}
+use Rattle.optimality.specs.Agreement.{Agrees, Sound}
+use Rattle.optimality.proofs.Setters.{Waits, Free, Unblocked}
+use Rattle.optimality.proofs.Answers.{pick}
+use Rattle.optimality.proofs.Changes.{free-le, changed-potential, changed-free, pushed, pushed-mono, pushed-ge, pushed-link, pushed-stay}
+use Rattle.optimality.proofs.Reversal.{reversal-unblocked}
+use Rattle.optimality.proofs.Graphs.{graphOf, settersOf, legal-whole, strength-least, none-unblocked, free-unblocked}
+use Rattle.optimality.proofs.Turned.{path-reversible, after-none}
+use Rattle.optimality.proofs.Agreement.{agrees-alike, agrees-link, agrees-front}
+
+abbrev pub state : Panel → Store → State
+state p b = record { panel = p; store = b }
+
+-- the state after an answer to a command is sound
+abbrev pub SoundAfter : Store → Command → Answer → Type 0
+SoundAfter b c a = Sound (state (a .panel) (fed b c (isRefusal (a .reply))))
+
+-- ---- a reversal
+
+-- the panel p becomes q, where c is blocked and goes in
+pub turned-sound : (b : Store) (cmd : Command) (p q : Panel) (c : Item) → Sound (state p b) → LegalBut c q → isBlocked q c ≡ true
+    → Agrees (entered b cmd) q
+    → (s : ℕ → ℕ) → Unblocked (graphOf q) (turn (settersOf q) c (pathFor q c)) s → SoundAfter b cmd (turned p q c)
+unfolding turned
+turned-sound b cmd p q c x k bl a s un = go (isLooped r) refl
+  where
+    r : Panel
+    r = reversed q c (pathFor q c)
+
+    go : (t : Bool) → isLooped r ≡ t → SoundAfter b cmd (pick t (refused p Loop) (accepted p r))
+    go true e = x
+    go false e =
+        let l : Legal r = legal-reversed q c k bl e in
+        record {
+          legal = l;
+          agrees =
+              agrees-alike (entered b cmd) q r (reversed-size q c (pathFor q c)) (reversed-place q c (pathFor q c)) (reversed-alike q c (pathFor q c)) a;
+          unblocked = after-none k bl s un l;
+        }
+
+-- ---- links and places change around c
+
+module _ (p : Panel) (h : Legal p) (none : (d : Item) → isBlocked p d ≡ false) (L : List Link) (P : List ℕ) (c : Item) (ρ : ℕ → ℕ)
+    (mono : (a b : ℕ) → a ≤ b → ρ a ≤ ρ b)
+    (lev-st : (f : ℕ) → f < p .size → levelOf L P (settersOf p f) ≤ ρ (level p (settersOf p f)))
+    (out-st : (f u : ℕ) → f < p .size → member (outputsOf L (settersOf p f)) u ≡ true → member (outputsOf (p .links) (settersOf p f)) u ≡ true)
+    (others : (w : Item) → inForce (p .size) L w ≡ true → w ≢ c
+    → (inForce (p .size) (p .links) w ≡ true)
+    × (levelOf L P w ≡ ρ (level p w))
+    × ((u : ℕ) → member (outputsOf L w) u ≡ member (outputsOf (p .links) w) u)) where
+  abbrev q : Panel
+  q = record { size = p .size; links = L; place = P; setter = p .setter }
+
+  un : Unblocked (graphOf p) (settersOf p) (strengthOf p)
+  un = none-unblocked (legal-whole p h) none
+
+  -- nothing but c is blocked
+  pub change-free : {d : Item} → LegalBut d q → (w : Item) → Waits (graphOf q) (settersOf q) w → w ≢ c → Free (graphOf q) (strengthOf q) w
+  change-free k w hw ne =
+      free-le (graphOf q) (λ f. ρ (strengthOf p f)) (strengthOf q) w
+      (strength-least k (λ f. ρ (strengthOf p f))
+      (changed-potential (graphOf p) (settersOf p) (strengthOf p) un (level q) (graphOf q .out) (graphOf q .force) c ρ mono lev-st out-st others))
+      (changed-free (graphOf p) (settersOf p) (strengthOf p) un (level q) (graphOf q .out) (graphOf q .force) c ρ mono lev-st out-st others w hw ne)
+
+-- ---- the link of a number changes
+
+module _ (p : Panel) (id : ℕ) (l : Link) where
+  -- other items are as they were
+  pub there : (w : Item) → w ≢ link id
+      → (inForce (p .size) (set (p .links) id l) w ≡ inForce (p .size) (p .links) w)
+      × (level (withLink p id l) w ≡ level p w)
+      × (outputsOf (set (p .links) id l) w ≡ outputsOf (p .links) w)
+  there (link i) ne =
+      let e = link-there (p .links) id i l (λ d. ne (ap link d)) in
+      (ap (λ (x : Link). x .used) e, ap (λ (x : Link). x .level) e, ap (λ (x : Link). x .outputs) e)
+  there (stay f) ne = (refl, refl, refl)
+
+-- a link that sets nothing
+module _ (p : Panel) (h : Legal p) (none : (d : Item) → isBlocked p d ≡ false) (id : ℕ) (l : Link)
+    (idle : (f : ℕ) → f < p .size → settersOf p f ≢ link id) where
+  pub link-free : {d : Item} → LegalBut d (withLink p id l) → (w : Item) → Waits (graphOf (withLink p id l)) (settersOf p) w → w ≢ link id
+      → Free (graphOf (withLink p id l)) (strengthOf (withLink p id l)) w
+  link-free =
+      change-free p h none (set (p .links) id l) (p .place) (link id) (λ x. x) (λ a b le. le)
+      (λ f lf. le-of-eq (there p id l (settersOf p f) (idle f lf) .1))
+      (λ f u lf o. rw (there p id l (settersOf p f) (idle f lf) .2) at o)
+      (λ w u ne. (sym (there p id l w ne .0) ∙ u, there p id l w ne .1, λ v. ap (λ (m : ℕ). member m v) (there p id l w ne .2)))
+
+  -- nothing is blocked where the new link is not
+  pub link-none : {d : Item} → LegalBut d (withLink p id l) → isBlocked (withLink p id l) (link id) ≡ false → (w : Item)
+      → isBlocked (withLink p id l) w ≡ false
+  link-none k e w = go (same-item w (link id))
+    where
+      go : Dec (w ≡ link id) → isBlocked (withLink p id l) w ≡ false
+      go (yes q) = rw q e
+      go (no q) = free-unblocked k w (λ hw. link-free k w hw q)
+
+-- ---- Add
+
+module _ (b : Store) (p : Panel) (x : Sound (state p b)) (id level : ℕ) (bytes : List ℕ) (a : Addable p id level bytes) where
+  abbrev added : Panel
+  added = withLink p id (newLink level bytes)
+
+  -- the number sets nothing
+  pub add-idle : (f : ℕ) → f < p .size → settersOf p f ≢ link id
+  add-idle f l e = clash (rw e at (setter-force p (stay (p .size)) (legal-whole p (x .legal) .carrying) f l)) (a .free)
+
+  pub add-legal : LegalBut (link id) added
+  add-legal = legal-add p id (newLink level bytes) (x .legal) (a .number) (a .free) (a .formed) refl refl
+
+  pub add-agrees : Agrees (entered b (adding id level bytes)) added
+  add-agrees = agrees-link b p id (newLink level bytes) (omega (arith, x .legal .links-length, a .number)) (x .agrees)
+
+  pub add-free : (w : Item) → Waits (graphOf added) (settersOf added) w → w ≢ link id → Free (graphOf added) (strengthOf added) w
+  add-free = link-free p (x .legal) (x .unblocked) id (newLink level bytes) add-idle add-legal
+
+  pub add-none : isBlocked added (link id) ≡ false → (w : Item) → isBlocked added w ≡ false
+  add-none = link-none p (x .legal) (x .unblocked) id (newLink level bytes) add-idle add-legal
+
+  pub add-sound : SoundAfter b (adding id level bytes) (addStep p id level (coveredIn bytes) (outputsIn bytes))
+  unfolding addStep
+  add-sound = go (isBlocked added (link id)) refl (eqb level 0) refl
+    where
+      here : linkAt (added .links) id ≡ newLink level bytes
+      here = link-here (p .links) id (newLink level bytes) (omega (arith, x .legal .links-length, a .number))
+
+      go : (t : Bool) → isBlocked added (link id) ≡ t → (z : Bool) → eqb level 0 ≡ z
+          → SoundAfter b (adding id level bytes) (pick t (turned p added (link id)) (pick z (refused p Conflict) (accepted p added)))
+      go true e z d =
+          turned-sound b (adding id level bytes) p added (link id) x add-legal e add-agrees (strengthOf added)
+          (reversal-unblocked (path-reversible add-legal e) add-free)
+      go false e true d = x
+      go false e false d =
+          record { legal = legal-but added (link id) add-legal (λ u z. eqb-false level 0 d (rw here at z)); agrees = add-agrees; unblocked = add-none e }
+
+-- ---- Touch
+
+module _ (b : Store) (p : Panel) (x : Sound (state p b)) (f : ℕ) (lf : f < p .size) where
+  abbrev front : Panel
+  front = toFront p f
+
+  few : p .size ≤ 64
+  few = x .legal .few
+
+  pub front-legal : Legal front
+  front-legal = legal-front p f (x .legal) lf
+
+  abbrev q₀ : ℕ
+  q₀ = at (p .place) f
+
+  level-small : (i : ℕ) → linkAt (p .links) i .used ≡ true → linkAt (p .links) i .level < 16
+  level-small i u = omega (arith, x .legal .formed i (used-small (p .links) i (x .legal .links-length) u) u .level)
+
+  place-of : (g : ℕ) → g < p .size → at (tabulate (placeAfter (p .place) f) 64) g ≡ placeAfter (p .place) f g
+  place-of g l = getD-tabulate (placeAfter (p .place) f) 64 g 0 (omega (arith, few))
+
+  front-level : (w : Item) → inForce (p .size) (p .links) w ≡ true → w ≢ stay f
+      → levelOf (p .links) (tabulate (placeAfter (p .place) f) 64) w ≡ pushed q₀ (level p w)
+  front-level (link i) u ne = sym (pushed-link q₀ (linkAt (p .links) i .level) (level-small i u))
+  front-level (stay g) u ne =
+      rw (place-of g (ltb-true g (p .size) u), ne-eqb g f (λ d. ne (ap stay d))) (sym (pushed-stay q₀ (at (p .place) g)))
+
+  front-le : (w : Item) → inForce (p .size) (p .links) w ≡ true → levelOf (p .links) (tabulate (placeAfter (p .place) f) 64) w ≤ pushed q₀ (level p w)
+  front-le w u = go (same-item w (stay f))
+    where
+      go : Dec (w ≡ stay f) → levelOf (p .links) (tabulate (placeAfter (p .place) f) 64) w ≤ pushed q₀ (level p w)
+      go (yes d) = rw (d, place-of f lf, eq-eqb f f refl) (omega (arith, pushed-ge q₀ (16 + q₀)))
+      go (no d) = le-of-eq (front-level w u d)
+
+  front-free : {d : Item} → LegalBut d front → (w : Item) → Waits (graphOf front) (settersOf front) w → w ≢ stay f
+      → Free (graphOf front) (strengthOf front) w
+  unfolding toFront
+  front-free =
+      change-free p (x .legal) (x .unblocked) (p .links) (tabulate (placeAfter (p .place) f) 64) (stay f) (pushed q₀) (pushed-mono q₀)
+      (λ g l. front-le (settersOf p g) (setter-force p (stay (p .size)) (legal-whole p (x .legal) .carrying) g l))
+      (λ g u l o. o)
+      (λ w u ne. (u, front-level w u ne, λ v. refl))
+
+  pub touch-sound : SoundAfter b (touching f) (touchStep p f)
+  unfolding touchStep
+  touch-sound = go (isBlocked front (stay f)) refl
+    where
+      front-agrees : Agrees (entered b (touching f)) front
+      front-agrees = agrees-front b p f few lf (x .agrees)
+
+      none : isBlocked front (stay f) ≡ false → (w : Item) → Dec (w ≡ stay f) → isBlocked front w ≡ false
+      none e w (yes d) = rw d e
+      none e w (no d) = free-unblocked (legal-whole front front-legal) w (λ hw. front-free (legal-whole front front-legal) w hw d)
+
+      go : (t : Bool) → isBlocked front (stay f) ≡ t → SoundAfter b (touching f) (pick t (turned p front (stay f)) (accepted p front))
+      go true e =
+          let k : LegalBut (stay f) front = legal-waits front (stay f) front-legal (blocking front (stay f) e .waits-now) in
+          turned-sound b (touching f) p front (stay f) x k e front-agrees (strengthOf front) (reversal-unblocked (path-reversible k e) (front-free k))
+      go false e = record { legal = front-legal; agrees = front-agrees; unblocked = λ w. none e w (same-item w (stay f)) }

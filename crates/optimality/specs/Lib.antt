@@ -1,0 +1,3 @@
+pub mod Condition3
+pub mod Agreement
+pub mod Others

@@ -1,0 +1,154 @@
+-- Further statements: Conflict, Loop, refusals, what holds in every state, and document 01's Better. Those about a state are proved of every
+-- state after a list of commands.
+use Prim.Native.Nat.{ℕ, _<_}
+use mathlib.Core.Path.{_≡_}
+use mathlib.Core.Logic.{_↔_}
+use mathlib.Core.Bool.{Bool, true, false, not, _&&_}
+use mathlib.Core.List.{List, [], _∷_}
+use mathlib.Core.Option.{Option, none, some}
+use Rattle.ordering.specs.Walks.{ClosedWalk}
+use Rattle.panel.specs.declared.Standing.{Standing}
+use Rattle.panel.specs.declared.Standing.the-variants.{Waiting, Holding}
+use Rattle.panel.specs.declared.Panel.{Panel}
+use Rattle.panel.specs.declared.Refusal.the-variants.{Conflict, Loop as LoopRefusal}
+use Rattle.panel.specs.Items.{Item, link, stay, noLink, linkAt}
+use Rattle.panel.specs.Answers.{isRefusal, refused}
+use Rattle.panel.specs.Panels.{withLink, withSetter, toFront}
+use Rattle.panel.specs.Solution.{setterReads, isBlocked, pathFor, reversed, leastBlocked}
+use Rattle.panel.specs.Commands.{Command, opening, adding, removing, touching, planning, performed, coveredIn, outputsIn, Check, openChecks, addChecks, removeChecks, touchChecks, planChecks}
+use Rattle.optimality.specs.Condition3.{In, Entry, Store, entered, levelIn, Pair, items, Matching, held, State, start, after}
+
+-- "For every list of commands .. from an unopened panel" (tender)
+abbrev pub AfterEveryList : (State → Type 0) → Type 0
+AfterEveryList P = (commands : List Command) → P (after start commands)
+
+-- ---- checks
+
+-- the checks before Conflict and Loop
+abbrev pub checksOf : Panel → Command → List Check
+checksOf p (opening n) = openChecks p n
+checksOf p (adding id level bytes) = addChecks p id level bytes
+checksOf p (removing id) = removeChecks p id
+checksOf p (touching f) = touchChecks p f
+checksOf p planning = planChecks p
+
+-- none of the checks applies
+unfoldable pub passes : List Check → Bool
+passes [] = true
+passes (c ∷ cs) = not (c .applies) && passes cs
+
+-- ---- Conflict
+
+-- every required link of the store is held: "0 is required"
+abbrev pub HoldsRequired : Store → List Pair → Type 0
+HoldsRequired b xs = (i : ℕ) (e : Entry) → b .links i ≡ some e → e .level ≡ 0 → In (link i) (items xs)
+
+-- a "choice, loops tolerated, can hold all required links in force"
+pub record Possible (b : Store) : Type 0 where
+  pub choice : List Pair
+  pub matching : Matching b choice
+  pub required : HoldsRequired b choice
+
+abbrev pub GivesConflict : Panel → Command → Type 0
+GivesConflict p c = performed p c .reply ≡ refused p Conflict .reply
+
+-- "For a new link of level 0 that passes checks 1 to 9, Conflict is given exactly when no choice, loops tolerated, can hold all required links
+-- in force together with the new one, no field set twice"
+abbrev pub ConflictExactly : State → Type 0
+ConflictExactly s =
+    (id : ℕ) (bytes : List ℕ) → passes (addChecks (s .panel) id 0 bytes) ≡ true
+    → GivesConflict (s .panel) (adding id 0 bytes) ↔ (Possible (entered (s .store) (adding id 0 bytes)) → ⊥)
+
+-- "a weaker new link never meets it"
+abbrev pub WeakerNeverConflict : Type 0
+WeakerNeverConflict = (p : Panel) (id level : ℕ) (bytes : List ℕ) → 0 < level → GivesConflict p (adding id level bytes) → ⊥
+
+-- "Touch and Remove never give Conflict"
+abbrev pub TouchNeverConflict : Type 0
+TouchNeverConflict = (p : Panel) (f : ℕ) → GivesConflict p (touching f) → ⊥
+
+abbrev pub RemoveNeverConflict : Type 0
+RemoveNeverConflict = (p : Panel) (id : ℕ) → GivesConflict p (removing id) → ⊥
+
+-- ---- Loop
+
+-- the reversal of a path: the panel before it, and the item that goes in
+pub record Reversal : Type 0 where
+  pub before : Panel
+  pub item : Item
+
+abbrev pub turning : Bool → Panel → Item → Option Reversal
+turning true q c = some (record { before = q; item = c })
+turning false q c = none
+
+abbrev pub settling : Panel → Option Item → Option Reversal
+settling q none = none
+settling q (some c) = turning true q c
+
+abbrev pub dropping : Panel → ℕ → Standing → Option Reversal
+dropping p id Waiting = none
+dropping p id (Holding v) =
+    let q = withSetter (withLink p id noLink) v 128 in
+    settling q (leastBlocked q)
+
+-- the reversal that a command makes which passes its checks: Add's and Touch's where the link or stay is blocked, Remove's for the blocked item
+-- of least level
+unfoldable pub reversal : Panel → Command → Option Reversal
+reversal p (opening n) = none
+reversal p (adding id level bytes) =
+    let q = withLink p id (record { covered = coveredIn bytes; outputs = outputsIn bytes; level = level; used = true; standing = Waiting }) in
+    turning (isBlocked q (link id)) q (link id)
+reversal p (removing id) = dropping p id (linkAt (p .links) id .standing)
+reversal p (touching f) = let q = toFront p f in turning (isBlocked q (stay f)) q (stay f)
+reversal p planning = none
+
+unfoldable pub turnedPanel : Reversal → Panel
+turnedPanel r = reversed (r .before) (r .item) (pathFor (r .before) (r .item))
+
+-- a reversal is made, and the state with the path reversed has a closed walk of reads
+pub record Loops (r : Option Reversal) : Type 0 where
+  pub made : Reversal
+  pub is-made : r ≡ some made
+  pub loop : ClosedWalk (setterReads (turnedPanel made)) (turnedPanel made .size)
+
+-- "If the result has a loop, refuse with Loop": a command that passes its checks meets Loop exactly then
+abbrev pub LoopExactly : State → Type 0
+LoopExactly s =
+    (c : Command) → passes (checksOf (s .panel) c) ≡ true
+    → (performed (s .panel) c .reply ≡ refused (s .panel) LoopRefusal .reply) ↔ Loops (reversal (s .panel) c)
+
+-- ---- refusals
+
+-- "a refusal .. leaves links, stay order and setters as they stood" (tender)
+abbrev pub RefusedUnchanged : Type 0
+RefusedUnchanged = (p : Panel) (c : Command) → isRefusal (performed p c .reply) ≡ true → performed p c .panel ≡ p
+
+-- ---- every state
+
+-- "In every state: each field has exactly one setter (a link holding it, or its stay); every required link in force holds"; and nothing is
+-- blocked
+pub record Settled (s : State) : Type 0 where
+  pub setter : (f : ℕ) → In f (s .store .stays) → Item
+  pub sets : (f : ℕ) (h : In f (s .store .stays)) → In (record { item = setter f h; field = f }) (held (s .panel))
+  pub only : (f : ℕ) (h : In f (s .store .stays)) (c : Item) → In (record { item = c; field = f }) (held (s .panel)) → c ≡ setter f h
+  pub required : HoldsRequired (s .store) (held (s .panel))
+  pub unblocked : (c : Item) → isBlocked (s .panel) c ≡ false
+
+-- ---- Better
+
+-- source 003, definition 9, with the inclusion as document 01 turns it: "the side whose held set contains the other's at the first differing
+-- level is better"
+pub record Better (b : Store) (xs ys : List Pair) : Type 0 where
+  -- the first level at which xs and ys hold different items
+  pub level : ℕ
+  pub same : (c : Item) → levelIn b c < level → In c (items xs) ↔ In c (items ys)
+  pub contains : (c : Item) → levelIn b c ≡ level → In c (items ys) → In c (items xs)
+  -- an item of this level that only xs holds
+  pub more : Item
+  pub more-level : levelIn b more ≡ level
+  pub more-held : In more (items xs)
+  pub more-missed : In more (items ys) → ⊥
+
+-- "Condition 3 of the tender implies that nothing is better"
+abbrev pub NothingBetter : State → Type 0
+NothingBetter s = (xs : List Pair) → Matching (s .store) xs → Better (s .store) xs (held (s .panel)) → ⊥

@@ -1,0 +1,1 @@
+// Theorems about the panel's definitions: nobody can hold more. No code.

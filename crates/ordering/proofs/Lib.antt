@@ -1,0 +1,7 @@
+-- The laws that the functions' proofs and other crates cite.
+pub mod Sets
+pub mod Plan
+pub mod Loops
+pub mod Passes
+pub mod Listing
+pub mod Planning

@@ -1,0 +1,88 @@
+-- Laws of tests and of two sets of fields.
+use Prim.Native.Nat.{ℕ, _^_, _<_}
+use mathlib.Core.Path.{_≡_, refl, sym, ap, _∙_}
+use mathlib.Core.Bool.{Bool, true, false, not, _&&_, _||_, false≢true}
+use mathlib.Core.Logic.{_⊎_, inl, inr, _≢_}
+use native.Mathlib.Decide.{ℕ-discrete}
+use native.Mathlib.Omega.{arith}
+use borrow.Author.Tests.{not-true, not-false}
+use Rattle.fieldset.specs.Fields.{member, without, lowestOf, meets, within}
+use Rattle.fieldset.proofs.Fields.{member-without-same, member-without-other, lowestOf-lt, lowestOf-falls}
+use Rattle.fieldset.proofs.Numbers.{clash, any-here, any-none, any-found, any-false, any-cong}
+
+pub and-left : (a b : Bool) → (a && b) ≡ true → a ≡ true
+and-left true b e = refl
+and-left false b e = e
+
+pub and-right : (a b : Bool) → (a && b) ≡ true → b ≡ true
+and-right true b e = e
+and-right false b e = absurd (false≢true e)
+
+pub and-both : (a b : Bool) → a ≡ true → b ≡ true → (a && b) ≡ true
+and-both a b e f = rw (e, f)
+
+pub or-cases : (a b : Bool) → (a || b) ≡ true → (a ≡ true) ⊎ (b ≡ true)
+or-cases true b e = inl refl
+or-cases false b e = inr e
+
+-- two tests that pass together are equal
+pub test-ext : (a b : Bool) → (a ≡ true → b ≡ true) → (b ≡ true → a ≡ true) → a ≡ b
+test-ext true b f g = sym (f refl)
+test-ext false true f g = g refl
+test-ext false false f g = refl
+
+-- where a is not within b, a field of a is not in b
+pub within-not : (a b : ℕ) → within a b ≡ false → (i : ℕ) × (i < 64) × (member a i ≡ true) × (member b i ≡ false)
+unfolding within
+within-not a b e =
+    let (i, l, h) = any-found (λ j. member a j && not (member b j)) 64 (not-false _ e) in
+    (i, l, and-left (member a i) (not (member b i)) h, not-true (member b i) (and-right (member a i) (not (member b i)) h))
+
+pub within-cong : (a b c : ℕ) → ((i : ℕ) → i < 64 → member a i ≡ member b i) → within a c ≡ within b c
+unfolding within
+within-cong a b c h = ap not (any-cong _ _ 64 (λ i l. ap (λ x. x && not (member c i)) (h i l)))
+
+module _ (a b : ℕ) where
+  pub meets-found : meets a b ≡ true → (i : ℕ) × (i < 64) × (member a i ≡ true) × (member b i ≡ true)
+  unfolding meets
+  meets-found e =
+      let (i, l, h) = any-found (λ j. member a j && member b j) 64 e in
+      (i, l, and-left (member a i) (member b i) h, and-right (member a i) (member b i) h)
+
+  pub meets-here : (i : ℕ) → i < 64 → member a i ≡ true → member b i ≡ true → meets a b ≡ true
+  unfolding meets
+  meets-here i l e f = any-here (λ j. member a j && member b j) 64 i l (and-both (member a i) (member b i) e f)
+
+  pub meets-none : ((i : ℕ) → i < 64 → member a i ≡ true → member b i ≡ false) → meets a b ≡ false
+  unfolding meets
+  meets-none h = any-none (λ j. member a j && member b j) 64 (λ i l. go i l (member a i) refl)
+    where
+      go : (i : ℕ) → i < 64 → (x : Bool) → member a i ≡ x → (x && member b i) ≡ false
+      go i l true e = h i l e
+      go i l false e = refl
+
+  pub meets-not : meets a b ≡ false → (i : ℕ) → i < 64 → member a i ≡ true → member b i ≡ false
+  unfolding meets
+  meets-not e i l f = rw f at (any-false (λ j. member a j && member b j) 64 i e l)
+
+-- a field of the set but for f
+pub without-cases : (m f g : ℕ) → g < 64 → member (without m f) g ≡ true → (member m g ≡ true) × (g ≢ f)
+without-cases m f g l e = go (ℕ-discrete g f)
+  where
+    go : Dec (g ≡ f) → (member m g ≡ true) × (g ≢ f)
+    go (yes d) = absurd (clash (rw d at e) (member-without-same m f))
+    go (no d) = (sym (member-without-other m f g l d) ∙ e, d)
+
+pub without-of : (m f g : ℕ) → g < 64 → member m g ≡ true → g ≢ f → member (without m f) g ≡ true
+without-of m f g l e d = member-without-other m f g l d ∙ e
+
+-- ---- a loop that empties a set
+
+module _ {rest : ℕ} (h : rest < 2 ^ 64) (some : rest ≡ 0 → ⊥) where
+  -- the field that it takes
+  pub rest-low : {f : ℕ} → f ≡ lowestOf rest → f < 64
+  rest-low e = rw e (lowestOf-lt rest h (omega arith))
+
+  -- and the set but for it
+  pub rest-falls : {rest′ : ℕ} → rest′ ≡ without rest (lowestOf rest) → rest′ < rest
+  rest-falls e = rw e (lowestOf-falls rest h (omega arith))

@@ -1,0 +1,75 @@
+-- `ordering::enter_readers` meets its contract.
+use Prim.Native.Nat.{_<_}
+use native.Mathlib.Omega.{arith}
+use borrow.Author.Needs.{needs}
+use Rattle.ordering.proofs.Sets.{rest-low, rest-falls}
+use Rattle.ordering.proofs.Listing.{Entering, entering-start, entering-step, entering-end}
+use Rattle.ordering.proofs.enter_readers.Statement.{statement}
+use Rattle.ordering.proofs.enter_readers.Tie as tie
+
+abbrev Inv-loop : tie.InvT-loop
+Inv-loop f reads readers₀ rest₀ readers rest = Entering f reads readers₀ readers rest
+
+abbrev μ-loop : tie.MeasureT-loop
+μ-loop f reads readers₀ rest₀ readers rest = rest
+
+loop-holds : tie.Need-loop-holds Inv-loop μ-loop
+loop-holds c = entering-start (c .pre .1) (c .fits .reads .fits)
+
+-- the index is in range
+low : (c : tie.After-lowest Inv-loop μ-loop) → c .lowest .result < 64
+low c = rest-low (c .before .before .loop .inv .fits) (c .before .loop-test .taken) (c .lowest .ensures)
+
+lowest-requires : tie.Need-lowest-requires Inv-loop μ-loop
+lowest-requires c κs = search needs
+
+mul-with : tie.Need-mul-with Inv-loop μ-loop
+mul-with c = omega (arith, low c)
+
+element-copy-out-with : tie.Need-element-copy-out-with Inv-loop μ-loop
+element-copy-out-with c = low c
+
+with-requires : tie.Need-with-requires Inv-loop μ-loop
+with-requires c κs = c .before .before .before .before .pre .0
+
+mul-readers : tie.Need-mul-readers Inv-loop μ-loop
+mul-readers c = omega (arith, low (c .before .before))
+
+element-write-readers : tie.Need-element-write-readers Inv-loop μ-loop
+element-write-readers c = low (c .before .before)
+
+without-lowest-requires : tie.Need-without-lowest-requires Inv-loop μ-loop
+without-lowest-requires c κs = omega (arith, c .before .before .before .loop-test .taken)
+
+loop-less : tie.Need-loop-less Inv-loop μ-loop
+loop-less c = rest-falls (c .before .before .before .before .before .loop .inv .fits) (c .before .before .before .before .loop-test .taken) (c .without-lowest .ensures)
+
+loop-again : tie.Need-loop-again Inv-loop μ-loop
+loop-again c =
+    entering-step
+    (c .before .before .before .before .before .loop .inv)
+    (c .before .before .before .before .loop-test .taken)
+    (c .before .before .before .lowest .ensures)
+    (rw (c .before .with .ensures))
+    (c .without-lowest .ensures)
+
+returns : tie.Need-returns Inv-loop μ-loop
+returns c = (c .before .loop .inv .long, entering-end (c .before .loop .inv) (c .loop-test .left))
+
+pub enter-readers-spec : {M : Type 1} → statement M
+enter-readers-spec =
+    tie.close
+    (tie.spec
+    Inv-loop
+    μ-loop
+    loop-holds
+    lowest-requires
+    mul-with
+    element-copy-out-with
+    with-requires
+    mul-readers
+    element-write-readers
+    without-lowest-requires
+    loop-less
+    loop-again
+    returns)

@@ -1,0 +1,56 @@
+-- `ordering::has_loop` meets its contract.
+use mathlib.Core.Path.{sym}
+use borrow.Author.Needs.{needs}
+use Rattle.fieldset.specs.Tables.{at}
+use Rattle.ordering.proofs.Loops.{inside-of}
+use Rattle.ordering.proofs.Passes.{Looking, looking-start, looking-step, looking-stuck, looking-none, passed-less}
+use Rattle.ordering.proofs.has_loop.Statement.{statement}
+use Rattle.ordering.proofs.has_loop.Tie as tie
+
+abbrev Inv-loop : tie.InvT-loop
+Inv-loop reads n left₀ left = Looking (at reads) n left
+
+abbrev μ-loop : tie.MeasureT-loop
+μ-loop reads n left₀ left = left
+
+below-requires : tie.Need-below-requires Inv-loop μ-loop
+below-requires c κs = c .pre .few
+
+loop-holds : tie.Need-loop-holds Inv-loop μ-loop
+loop-holds c = looking-start (c .before .pre .few) (c .below .ensures)
+
+pass-requires : tie.Need-pass-requires Inv-loop μ-loop
+pass-requires c κs = search needs
+
+returns : tie.Need-returns Inv-loop μ-loop
+returns c =
+    sym
+    (looking-stuck
+    (c .before .before .before .loop .inv)
+    (c .before .pass .ensures)
+    (c .before .before .before .before .before .pre .few)
+    (c .before .before .loop-test .taken)
+    (c .if1 .taken))
+
+loop-less : tie.Need-loop-less Inv-loop μ-loop
+loop-less c = passed-less (c .before .pass .ensures) (c .if1 .left)
+
+loop-again : tie.Need-loop-again Inv-loop μ-loop
+loop-again c = looking-step (c .before .before .before .loop .inv) (c .before .pass .ensures)
+
+returns-2 : tie.Need-returns-2 Inv-loop μ-loop
+returns-2 c = sym (looking-none (inside-of (c .before .before .before .pre)) (c .before .loop .inv) (c .loop-test .left))
+
+pub has-loop-spec : {M : Type 1} → statement M
+has-loop-spec =
+    tie.close
+    (tie.spec
+    Inv-loop
+    μ-loop
+    below-requires
+    loop-holds
+    pass-requires
+    returns
+    loop-less
+    loop-again
+    returns-2)

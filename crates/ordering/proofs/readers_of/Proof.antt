@@ -1,0 +1,58 @@
+-- `ordering::readers_of` meets its contract.
+use Prim.Native.Nat.{_-_}
+use native.Mathlib.Omega.{arith}
+use Rattle.fieldset.specs.Tables.{at}
+use Rattle.ordering.proofs.Listing.{Turned, turned-start, turned-step, turned-end}
+use Rattle.ordering.proofs.readers_of.Statement.{statement}
+use Rattle.ordering.proofs.readers_of.Tie as tie
+
+abbrev Inv-loop : tie.InvT-loop
+Inv-loop reads n readers₀ f₀ readers f = Turned (at reads) n f readers
+
+abbrev μ-loop : tie.MeasureT-loop
+μ-loop reads n readers₀ f₀ readers f = n - f
+
+loop-holds : tie.Need-loop-holds Inv-loop μ-loop
+loop-holds c = turned-start
+
+mul-enter-readers : tie.Need-mul-enter-readers Inv-loop μ-loop
+mul-enter-readers c = omega arith
+
+element-copy-out-enter-readers : tie.Need-element-copy-out-enter-readers Inv-loop μ-loop
+element-copy-out-enter-readers c = omega arith
+
+enter-readers-requires : tie.Need-enter-readers-requires Inv-loop μ-loop
+enter-readers-requires c κs = (omega arith, c .before .before .before .loop .inv .long)
+
+add-f : tie.Need-add-f Inv-loop μ-loop
+add-f c = omega arith
+
+loop-less : tie.Need-loop-less Inv-loop μ-loop
+loop-less c = omega arith
+
+loop-again : tie.Need-loop-again Inv-loop μ-loop
+loop-again c =
+    turned-step
+    (c .before .before .before .before .before .pre)
+    (c .before .before .before .loop-test .taken)
+    (c .before .before .before .before .loop .inv)
+    (c .enter-readers .ensures .0)
+    (c .enter-readers .ensures .1)
+
+returns : tie.Need-returns Inv-loop μ-loop
+returns c = turned-end (c .before .loop .inv) (c .loop-test .left)
+
+pub readers-of-spec : {M : Type 1} → statement M
+readers-of-spec =
+    tie.close
+    (tie.spec
+    Inv-loop
+    μ-loop
+    loop-holds
+    mul-enter-readers
+    element-copy-out-enter-readers
+    enter-readers-requires
+    add-f
+    loop-less
+    loop-again
+    returns)

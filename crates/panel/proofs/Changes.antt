@@ -1,0 +1,233 @@
+-- The panel at opening, and the changes that come before a reversal, are legal: a new link, a link dropped, a stay moved to the front.
+use Prim.Native.Nat.{ℕ, _+_, _≤_, _<_, zero-le}
+use mathlib.Core.Path.{_≡_, refl, sym, ap, _∙_, subst}
+use mathlib.Core.Bool.{true, false}
+use mathlib.Core.List.{List}
+use native.Mathlib.Decide.{ℕ-discrete, decLt}
+use native.Mathlib.Omega.{arith}
+use borrow.Author.Tests.{lt-ltb, le-ltb, eq-eqb, ne-eqb}
+use lib.ListN.{set, replicate, length-replicate, getD-replicate}
+use Rattle.fieldset.specs.Tables.{at, tabulate}
+use Rattle.fieldset.specs.Fields.{member}
+use Rattle.fieldset.proofs.Numbers.{clash}
+use Rattle.fieldset.proofs.Fields.{member-empty, member-only}
+use Rattle.fieldset.proofs.Tables.{length-tabulate, getD-tabulate}
+use Rattle.ordering.specs.Order.{hasLoop}
+use Rattle.ordering.proofs.Loops.{ranked-no-loop}
+use Rattle.panel.specs.declared.Standing.the-variants.{Waiting, Holding}
+use Rattle.panel.specs.declared.Link.{Link}
+use Rattle.panel.specs.declared.Panel.{Panel}
+use Rattle.panel.specs.Items.{Item, link, stay, noLink, linkAt, setterOf, readsOf}
+use Rattle.panel.specs.Panels.{opened, withLink, withSetter, placeAfter, toFront}
+use Rattle.panel.specs.Solution.{setterReads, isLooped}
+use Rattle.panel.specs.Legal.{Formed, Legal}
+use Rattle.panel.proofs.Turn.{setter-own, number-setter, link-not-stay, setter-stay, put, put-here, put-there, link-here, holding-sets}
+use Rattle.panel.proofs.Legal.{Placed, Good, Carrying, Weak, LegalBut, placed, legal, carrying, carrying-step, carrying-link}
+use Rattle.panel.proofs.Setters.{whole, setter-reads-inside, no-loop-within, reads-there}
+
+-- ---- the panel at opening
+
+good-none : (n : ℕ) → Good n noLink
+good-none n = record { formed = λ e. absurd (clash e refl); unused = λ e. refl }
+
+-- nothing is read: no loop
+pub no-reads-no-loop : (reads : ℕ → ℕ) (n : ℕ) → n ≤ 64 → ((f : ℕ) → f < n → reads f ≡ 0) → hasLoop reads n ≡ false
+no-reads-no-loop reads n few none =
+    ranked-no-loop reads n (λ f. 0)
+    (record { few = few; inside = λ g f l k e. absurd (never g f l e) })
+    (record { rises = λ f g r. absurd (never g f (r .to) (r .reads-it)); small = λ f l. omega arith })
+  where
+    never : (g f : ℕ) → g < n → member (reads g) f ≡ true → ⊥
+    never g f l e = clash (rw (none g l) at e) (member-empty f)
+
+pub legal-opened : (n : ℕ) → n ≤ 64 → Legal (opened n)
+unfolding opened isLooped
+legal-opened n few = legal (opened n) (stay n) parts tt tt (no-reads-no-loop (setterReads (opened n)) n few none)
+  where
+    past : (f : ℕ) → f < 64 → at (replicate 64 128) f ≡ 128
+    past f l = getD-replicate 64 f 128 0 l
+
+    staying : (f : ℕ) → f < 64 → setterOf (replicate 64 128) f ≡ stay f
+    staying f l = setter-stay (replicate 64 128) f (omega (arith, past f l))
+
+    default : (i : ℕ) → i < 128 → linkAt (replicate 128 noLink) i ≡ noLink
+    default i l = getD-replicate 128 i noLink noLink l
+
+    none : (f : ℕ) → f < n → setterReads (opened n) f ≡ 0
+    none f l = rw (staying f (omega arith))
+
+    own : (f : ℕ) → f < 64 → at (tabulate (λ f. f) 64) f ≡ f
+    own f l = getD-tabulate (λ (f : ℕ). f) 64 f 0 l
+
+    parts : Carrying (stay n) (opened n)
+    parts = record {
+      few = few;
+      placed = record {
+        full = length-tabulate (λ (f : ℕ). f) 64;
+        past = λ f l k. own f k;
+        small = λ f l. rw (own f (omega arith)) l;
+        once = λ f g l k e. sym (own f (omega arith)) ∙ e ∙ own g (omega arith);
+      };
+      filled = record { full = length-replicate 128 noLink; good = λ i l. rw (default i l) (good-none n) };
+      held = record {
+        full = length-replicate {A = ℕ} 64 128;
+        past = λ f l k. past f k;
+        small = λ f l. omega (arith, past f l);
+        idle = λ f l e. let z : stay f ≡ stay n = sym (staying f (omega arith)) ∙ e in let d : f ≡ n = cc in omega arith;
+        sets = λ f i l e. absurd (link-not-stay (sym e ∙ staying f (omega arith)));
+        held = λ i f l ne e. let z : Waiting ≡ Holding f = rw (default i l) at e in let y : _≡_ {A = ℕ} 0 1 = cc in absurd (omega arith);
+        required = λ i l ne u. absurd (clash (rw (default i l) at u) refl);
+      };
+    }
+
+pub legal-unopened : Legal (opened 0)
+legal-unopened = legal-opened 0 zero-le
+
+-- ---- another link for an item that sets nothing
+
+-- its reads do not count
+pub loopless-link : (p : Panel) (i : ℕ) (l : Link) → Carrying (link i) p → isLooped p ≡ false → isLooped (withLink p i l) ≡ false
+unfolding isLooped
+loopless-link p i l h e =
+    no-loop-within (setterReads p) (setterReads (withLink p i l)) (p .size) (setter-reads-inside p (link i) h)
+    (λ g f k m x. rw (reads-there (p .links) i g l (setterOf (p .setter) g) (h .held .idle g k)) at x) e
+
+-- the new link waits; whether it is required is left open
+pub legal-add : (p : Panel) (i : ℕ) (l : Link) → Legal p → i < 128 → linkAt (p .links) i .used ≡ false
+    → Formed (p .size) l → l .used ≡ true → l .standing ≡ Waiting → LegalBut (link i) (withLink p i l)
+legal-add p i l h small unused formed used rests =
+    record {
+      carrying = carrying-link p i l start (record { formed = λ e. formed; unused = λ e. absurd (clash used e) });
+      rests = ap (λ (x : Link). x .standing) (link-here (p .links) i l (omega (arith, h .links-length))) ∙ rests;
+      loopless = loopless-link p i l start (h .loopless);
+    }
+  where
+    start : Carrying (link i) p
+    start = carrying p (link i) h (λ f k e. clash (whole p h .held .sets f i k e .used) unused)
+
+-- an item that is no required link may wait
+pub legal-but : (p : Panel) (c : Item) → LegalBut c p → Weak (p .links) c → Legal p
+legal-but p c h weak = legal p c (h .carrying) (h .rests) weak (h .loopless)
+
+-- the link is dropped, and nothing was set by it
+drop-link : (p : Panel) (i : ℕ) → i < 128 → Carrying (link i) p → isLooped p ≡ false → Legal (withLink p i noLink)
+drop-link p i small h e =
+    let gone : linkAt (set (p .links) i noLink) i ≡ noLink = link-here (p .links) i noLink (omega (arith, h .filled .full)) in
+    legal (withLink p i noLink) (link i) (carrying-link p i noLink h (good-none (p .size))) (rw gone refl)
+    (λ u z. clash (rw gone at u) refl) (loopless-link p i noLink h e)
+
+-- a link that waits is dropped
+pub legal-drop : (p : Panel) (i : ℕ) → Legal p → i < 128 → linkAt (p .links) i .standing ≡ Waiting → Legal (withLink p i noLink)
+legal-drop p i h small rests =
+    drop-link p i small (carrying p (link i) h (λ f l e. never f (whole p h .held .sets f i l e .holds))) (h .loopless)
+  where
+    never : (f : ℕ) → linkAt (p .links) i .standing ≡ Holding f → ⊥
+    never f e = let z : _≡_ {A = ℕ} 0 1 = cc in omega arith
+
+-- a link that holds v is dropped, and v's stay sets v
+pub legal-free : (p : Panel) (i v : ℕ) → Legal p → i < 128 → linkAt (p .links) i .standing ≡ Holding v → Legal (withSetter (withLink p i noLink) v 128)
+unfolding isLooped
+legal-free p i v h small holds = drop-link q i small (subst (λ (c : Item). Carrying c q) was step) less
+  where
+    q : Panel
+    q = withSetter p v 128
+
+    lv : v < p .size
+    lv = h .holding-field i v small holds
+
+    l64 : v < 64
+    l64 = omega (arith, lv, h .few)
+
+    was : setterOf (p .setter) v ≡ link i
+    was = number-setter (p .setter) v i (h .holding-sets i v small holds) small
+
+    start : Carrying (stay v) p
+    start =
+        carrying p (stay v) h
+        (λ f l e. link-not-stay (sym was ∙ ap (setterOf (p .setter)) (sym (setter-own (p .setter) f v e .0)) ∙ e))
+
+    step : Carrying (setterOf (p .setter) v) q
+    step = carrying-step p (stay v) v start (lt-ltb v (p .size) lv) lv (member-only v v l64 ∙ eq-eqb v v refl)
+
+    now : setterOf (q .setter) ≡ put (setterOf (p .setter)) v (stay v)
+    now = holding-sets p v (stay v) (h .setter-length) l64 refl
+
+    fewer : (g f : ℕ) → member (readsOf (p .links) (put (setterOf (p .setter)) v (stay v) g) g) f ≡ true → Dec (g ≡ v) → member (setterReads p g) f ≡ true
+    fewer g f e (yes d) =
+        let gone = ap (put (setterOf (p .setter)) v (stay v)) d ∙ put-here (setterOf (p .setter)) v (stay v) in
+        absurd (clash (subst (λ (c : Item). member (readsOf (p .links) c g) f ≡ true) gone e) (member-empty f))
+    fewer g f e (no d) = rw (put-there (setterOf (p .setter)) v (stay v) g d) at e
+
+    less : isLooped q ≡ false
+    less =
+        no-loop-within (setterReads p) (setterReads q) (p .size) (setter-reads-inside p (stay v) start)
+        (λ g f l m e. fewer g f (rw now at e) (ℕ-discrete g v)) (h .loopless)
+
+-- ---- a stay moved to the front
+
+module _ (n : ℕ) (place : List ℕ) (f : ℕ) (l : f < n) (h : Placed n place) where
+  -- where the stay of g stands then
+  data After (g x : ℕ) : Type 0 where
+    front : g ≡ f → x ≡ 0 → After g x
+    down : at place g < at place f → x ≡ at place g + 1 → After g x
+    kept : at place f < at place g → x ≡ at place g → After g x
+
+  after : (g : ℕ) → (at place g ≡ at place f → g ≡ f) → After g (placeAfter place f g)
+  after g once = go (ℕ-discrete g f) (decLt (at place g) (at place f))
+    where
+      go : Dec (g ≡ f) → Dec (at place g < at place f) → After g (placeAfter place f g)
+      go (yes d) k = front d (rw (eq-eqb g f d))
+      go (no d) (yes k) = down k (rw (ne-eqb g f d, lt-ltb (at place g) (at place f) k))
+      go (no d) (no k) =
+          kept (above (ℕ-discrete (at place g) (at place f))) (rw (ne-eqb g f d, le-ltb (at place g) (at place f) (omega arith)))
+        where
+          above : Dec (at place g ≡ at place f) → at place f < at place g
+          above (yes e) = absurd (d (once e))
+          above (no e) = omega arith
+
+  after-below : (g : ℕ) → g < n → After g (placeAfter place f g)
+  after-below g m = after g (λ e. h .once g f m l e)
+
+  after-small : (g x : ℕ) → g < n → After g x → x < n
+  after-small g x m (front d e) = omega arith
+  after-small g x m (down k e) = omega (arith, h .small f l)
+  after-small g x m (kept k e) = omega (arith, h .small g m)
+
+  after-once : (g i x y : ℕ) → g < n → i < n → After g x → After i y → x ≡ y → g ≡ i
+  after-once g i x y lg li (front d e) (front d′ e′) q = d ∙ sym d′
+  after-once g i x y lg li (front d e) (down k e′) q = absurd (omega arith)
+  after-once g i x y lg li (front d e) (kept k e′) q = absurd (omega arith)
+  after-once g i x y lg li (down k e) (front d e′) q = absurd (omega arith)
+  after-once g i x y lg li (down k e) (down k′ e′) q = h .once g i lg li (omega arith)
+  after-once g i x y lg li (down k e) (kept k′ e′) q = absurd (omega arith)
+  after-once g i x y lg li (kept k e) (front d e′) q = absurd (omega arith)
+  after-once g i x y lg li (kept k e) (down k′ e′) q = absurd (omega arith)
+  after-once g i x y lg li (kept k e) (kept k′ e′) q = h .once g i lg li (omega arith)
+
+  after-past : (g x : ℕ) → n ≤ g → g < 64 → After g x → x ≡ g
+  after-past g x m k (front d e) = absurd (omega arith)
+  after-past g x m k (down b e) = absurd (omega (arith, h .past g m k, h .small f l))
+  after-past g x m k (kept b e) = e ∙ h .past g m k
+
+  pub placed-front : n ≤ 64 → Placed n (tabulate (placeAfter place f) 64)
+  placed-front few = record {
+    full = length-tabulate (placeAfter place f) 64;
+    past = λ g m k. now g k ∙ after-past g _ m k (after g (λ e. absurd (omega (arith, h .past g m k, h .small f l))));
+    small = λ g m. rw (now g (omega arith)) (after-small g _ m (after-below g m));
+    once = λ g i lg li e. after-once g i _ _ lg li (after-below g lg) (after-below i li) (sym (now g (omega arith)) ∙ e ∙ now i (omega arith));
+  }
+    where
+      now : (g : ℕ) → g < 64 → at (tabulate (placeAfter place f) 64) g ≡ placeAfter place f g
+      now g k = getD-tabulate (placeAfter place f) 64 g 0 k
+
+pub legal-front : (p : Panel) (f : ℕ) → Legal p → f < p .size → Legal (toFront p f)
+unfolding toFront isLooped
+legal-front p f h l =
+    legal (toFront p f) (stay (p .size))
+    (record {
+      few = h .few;
+      placed = placed-front (p .size) (p .place) f l (placed p h) (h .few);
+      filled = whole p h .filled;
+      held = whole p h .held;
+    })
+    tt tt (h .loopless)

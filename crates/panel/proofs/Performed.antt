@@ -1,0 +1,132 @@
+-- Every command leaves a legal panel legal.
+use Prim.Native.Nat.{ℕ, _<_}
+use mathlib.Core.Path.{_≡_, refl}
+use mathlib.Core.Bool.{Bool, true, false}
+use mathlib.Core.List.{List, [], _∷_}
+use mathlib.Core.Option.{Option, none, some}
+use mathlib.Core.Logic.{_⊎_, inl, inr}
+use native.Mathlib.Omega.{arith}
+use borrow.Author.Tests.{eqb-false}
+use lib.Dec.{eqb, leb}
+use Rattle.panel.specs.declared.Standing.{Standing}
+use Rattle.panel.specs.declared.Standing.the-variants.{Waiting, Holding}
+use Rattle.panel.specs.declared.Panel.{Panel}
+use Rattle.panel.specs.declared.Refusal.the-variants.{Conflict, Loop}
+use Rattle.panel.specs.Items.{Item, link, stay, noLink, linkAt, itemsOf}
+use Rattle.panel.specs.Answers.{Answer, refused}
+use Rattle.panel.specs.Panels.{withLink, withSetter, toFront}
+use Rattle.panel.specs.Solution.{level, isBlocked, pathFor, reversed, lesser, least, leastBlocked, isLooped}
+use Rattle.panel.specs.Steps.{accepted, turned, openStep, addStep, settled, removed, removeStep, touchStep, planStep}
+use Rattle.panel.specs.Commands.{coveredIn, outputsIn, openChecks, addChecks, removeChecks, touchChecks, planChecks, Command, opening, adding, removing, touching, planning, performed}
+use Rattle.panel.specs.Legal.{Legal}
+use Rattle.panel.proofs.Turn.{link-here}
+use Rattle.panel.proofs.Legal.{LegalBut}
+use Rattle.panel.proofs.Reversal.{blocking, legal-waits, legal-reversed}
+use Rattle.panel.proofs.Changes.{legal-opened, legal-add, legal-but, legal-drop, legal-free, legal-front}
+use Rattle.panel.proofs.Checks.{checked-panel, newLink, Addable, addable, removable, touchable, openable}
+
+-- one of two answers
+abbrev pick : Bool → Answer → Answer → Answer
+pick b x y = elim b [ true ↦ x | false ↦ y ]
+
+pub legal-turned : (p q : Panel) (c : Item) → Legal p → LegalBut c q → isBlocked q c ≡ true → Legal (turned p q c .panel)
+unfolding turned
+legal-turned p q c h k b = go (isLooped r) refl
+  where
+    r : Panel
+    r = reversed q c (pathFor q c)
+
+    go : (x : Bool) → isLooped r ≡ x → Legal (pick x (refused p Loop) (accepted p r) .panel)
+    go true e = h
+    go false e = legal-reversed q c k b e
+
+pub legal-add-step : (p : Panel) (id level : ℕ) (bytes : List ℕ) → Legal p → Addable p id level bytes
+    → Legal (addStep p id level (coveredIn bytes) (outputsIn bytes) .panel)
+unfolding addStep
+legal-add-step p id level bytes h a = go (isBlocked q (link id)) refl (eqb level 0) refl
+  where
+    q : Panel
+    q = withLink p id (newLink level bytes)
+
+    new : LegalBut (link id) q
+    new = legal-add p id (newLink level bytes) h (a .number) (a .free) (a .formed) refl refl
+
+    here : linkAt (q .links) id ≡ newLink level bytes
+    here = link-here (p .links) id (newLink level bytes) (omega (arith, h .links-length, a .number))
+
+    go : (b : Bool) → isBlocked q (link id) ≡ b → (z : Bool) → eqb level 0 ≡ z
+        → Legal (pick b (turned p q (link id)) (pick z (refused p Conflict) (accepted p q)) .panel)
+    go true e z d = legal-turned p q (link id) h new e
+    go false e true d = h
+    go false e false d = legal-but q (link id) new (λ u x. eqb-false level 0 d (rw here at x))
+
+-- ---- the least blocked item
+
+pub lesser-is : (lev : Item → ℕ) (c : Item) (o : Option Item) (d : Item) → lesser lev c o ≡ some d → (c ≡ d) ⊎ (o ≡ some d)
+lesser-is lev c none d e = inl cc
+lesser-is lev c (some b) d e = go (leb (lev c) (lev b)) refl
+  where
+    go : (x : Bool) → leb (lev c) (lev b) ≡ x → (c ≡ d) ⊎ (some b ≡ some d)
+    go true f = let z : some c ≡ some d = rw f at e in inl cc
+    go false f = inr (rw f at e)
+
+-- what is found passes the test
+pub least-passes : (q : Item → Bool) (lev : Item → ℕ) (cs : List Item) (d : Item) → least q lev cs ≡ some d → q d ≡ true
+unfolding least
+least-passes q lev [] d e = let z : _≡_ {A = ℕ} 0 1 = cc in absurd (omega arith)
+least-passes q lev (c ∷ cs) d e = go (q c) refl (least-passes q lev cs d)
+  where
+    from : q c ≡ true → (least q lev cs ≡ some d → q d ≡ true) → (c ≡ d) ⊎ (least q lev cs ≡ some d) → q d ≡ true
+    from f ih (inl x) = rw (← x) f
+    from f ih (inr x) = ih x
+
+    go : (x : Bool) → q c ≡ x → (least q lev cs ≡ some d → q d ≡ true) → q d ≡ true
+    go true f ih = from f ih (lesser-is lev c (least q lev cs) d (rw f at e))
+    go false f ih = ih (rw f at e)
+
+pub legal-settled : (p q : Panel) → Legal p → Legal q → Legal (settled p q (leastBlocked q) .panel)
+unfolding leastBlocked
+legal-settled p q h k = go (leastBlocked q) refl
+  where
+    go : (o : Option Item) → leastBlocked q ≡ o → Legal (settled p q o .panel)
+    go none e = k
+    go (some c) e =
+        let b : isBlocked q c ≡ true = least-passes (isBlocked q) (level q) (itemsOf (q .size)) c e in
+        legal-turned p q c h (legal-waits q c k (blocking q c b .waits-now)) b
+
+pub legal-remove-step : (p : Panel) (id : ℕ) → Legal p → id < 128 → Legal (removeStep p id .panel)
+unfolding removeStep
+legal-remove-step p id h l = go (linkAt (p .links) id .standing) refl
+  where
+    go : (s : Standing) → linkAt (p .links) id .standing ≡ s → Legal (removed p id s .panel)
+    go Waiting e = legal-drop p id h l e
+    go (Holding v) e = legal-settled p (withSetter (withLink p id noLink) v 128) h (legal-free p id v h l e)
+
+pub legal-touch-step : (p : Panel) (f : ℕ) → Legal p → f < p .size → Legal (touchStep p f .panel)
+unfolding touchStep
+legal-touch-step p f h l = go (isBlocked q (stay f)) refl
+  where
+    q : Panel
+    q = toFront p f
+
+    k : Legal q
+    k = legal-front p f h l
+
+    go : (b : Bool) → isBlocked q (stay f) ≡ b → Legal (pick b (turned p q (stay f)) (accepted p q) .panel)
+    go true e = legal-turned p q (stay f) h (legal-waits q (stay f) k (blocking q (stay f) e .waits-now)) e
+    go false e = k
+
+-- ---- the commands
+
+pub legal-performed : (p : Panel) (c : Command) → Legal p → Legal (performed p c .panel)
+unfolding planStep
+legal-performed p (opening n) h =
+    checked-panel Legal p (openChecks p n) (openStep n) h (λ k. legal-opened n (openable p n k .2))
+legal-performed p (adding id level bytes) h =
+    checked-panel Legal p (addChecks p id level bytes) (addStep p id level (coveredIn bytes) (outputsIn bytes)) h
+    (λ k. legal-add-step p id level bytes h (addable p id level bytes k))
+legal-performed p (removing id) h =
+    checked-panel Legal p (removeChecks p id) (removeStep p id) h (λ k. legal-remove-step p id h (removable p id k .number))
+legal-performed p (touching f) h =
+    checked-panel Legal p (touchChecks p f) (touchStep p f) h (λ k. legal-touch-step p f h (touchable p f k))
+legal-performed p planning h = checked-panel Legal p (planChecks p) (planStep p) h (λ k. h)

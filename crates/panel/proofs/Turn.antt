@@ -1,0 +1,338 @@
+-- What the reversal of a path does: the setters along it move one field on, and of the links only the standings change.
+use Prim.Native.Nat.{ℕ, _≤_, _<_}
+use mathlib.Core.Path.{_≡_, refl, sym, ap, _∙_, fun-ext}
+use mathlib.Core.Bool.{Bool, true, false, cond}
+use mathlib.Core.List.{List, [], _∷_}
+use mathlib.Core.Logic.{_≢_}
+use native.Mathlib.Decide.{ℕ-discrete, decLt}
+use native.Mathlib.Omega.{arith}
+use borrow.Author.Tests.{lt-ltb, le-ltb, eq-eqb, ne-eqb}
+use lib.Dec.{eqb, ltb}
+use lib.ListN.{length, set, length-set}
+use lib.Seq.{getD-set-same, getD-set-other, set-out}
+use Rattle.fieldset.specs.Tables.{at}
+use Rattle.strength.specs.Filling.{lastOf}
+use Rattle.strength.proofs.Paths.{All, Distinct, all-map}
+use Rattle.panel.specs.declared.Standing.{Standing}
+use Rattle.panel.specs.declared.Standing.the-variants.{Waiting, Holding}
+use Rattle.panel.specs.declared.Link.{Link}
+use Rattle.panel.specs.declared.Panel.{Panel}
+use Rattle.panel.specs.Items.{Item, link, stay, noLink, linkAt, setterOf, levelOf, outputsOf, readsOf, inForce}
+use Rattle.panel.specs.Panels.{standing, holding, waiting}
+use Rattle.panel.specs.Solution.{reversed}
+
+-- ---- items
+
+pub link-injective : {i j : ℕ} → link i ≡ link j → i ≡ j
+link-injective e = cc
+
+pub stay-injective : {f g : ℕ} → stay f ≡ stay g → f ≡ g
+stay-injective e = cc
+
+pub link-not-stay : {i f : ℕ} → link i ≢ stay f
+link-not-stay e = let z : _≡_ {A = ℕ} 0 1 = cc in omega arith
+
+pub same-item : (c d : Item) → Dec (c ≡ d)
+same-item (link i) (link j) = go (ℕ-discrete i j)
+  where
+    go : Dec (i ≡ j) → Dec (link i ≡ link j)
+    go (yes e) = yes (ap link e)
+    go (no e) = no (λ q. e (link-injective q))
+same-item (link i) (stay g) = no link-not-stay
+same-item (stay f) (link j) = no (λ e. link-not-stay (sym e))
+same-item (stay f) (stay g) = go (ℕ-discrete f g)
+  where
+    go : Dec (f ≡ g) → Dec (stay f ≡ stay g)
+    go (yes e) = yes (ap stay e)
+    go (no e) = no (λ q. e (stay-injective q))
+
+-- the number that a table of setters has for an item
+abbrev pub numberOf : Item → ℕ
+numberOf (link i) = i
+numberOf (stay f) = 128
+
+pub setter-link : (setter : List ℕ) (f : ℕ) → at setter f < 128 → setterOf setter f ≡ link (at setter f)
+unfolding setterOf
+setter-link setter f l = rw (lt-ltb (at setter f) 128 l)
+
+pub setter-stay : (setter : List ℕ) (f : ℕ) → 128 ≤ at setter f → setterOf setter f ≡ stay f
+unfolding setterOf
+setter-stay setter f l = rw (le-ltb (at setter f) 128 l)
+
+-- the number of a setter that is a link
+pub setter-number : (setter : List ℕ) (f i : ℕ) → setterOf setter f ≡ link i → (at setter f ≡ i) × (i < 128)
+setter-number setter f i e = go (decLt (at setter f) 128)
+  where
+    go : Dec (at setter f < 128) → (at setter f ≡ i) × (i < 128)
+    go (yes l) = let d : at setter f ≡ i = link-injective (sym (setter-link setter f l) ∙ e) in (d, omega arith)
+    go (no l) = absurd (link-not-stay (sym e ∙ setter-stay setter f (omega arith)))
+
+pub number-setter : (setter : List ℕ) (f i : ℕ) → at setter f ≡ i → i < 128 → setterOf setter f ≡ link i
+number-setter setter f i e l = setter-link setter f (omega arith) ∙ ap link e
+
+-- a setter that is a stay is the field's own
+pub setter-own : (setter : List ℕ) (f g : ℕ) → setterOf setter f ≡ stay g → (f ≡ g) × (128 ≤ at setter f)
+setter-own setter f g e = go (decLt (at setter f) 128)
+  where
+    go : Dec (at setter f < 128) → (f ≡ g) × (128 ≤ at setter f)
+    go (yes l) = absurd (link-not-stay (sym (setter-link setter f l) ∙ e))
+    go (no l) = (stay-injective (sym (setter-stay setter f (omega arith)) ∙ e), omega arith)
+
+-- ---- setters as a function
+
+-- c sets v
+abbrev pub put : (ℕ → Item) → ℕ → Item → ℕ → Item
+put st v c f = cond (eqb f v) c (st f)
+
+pub put-here : (st : ℕ → Item) (v : ℕ) (c : Item) → put st v c v ≡ c
+put-here st v c = rw (eq-eqb v v refl)
+
+pub put-there : (st : ℕ → Item) (v : ℕ) (c : Item) (f : ℕ) → f ≢ v → put st v c f ≡ st f
+put-there st v c f h = rw (ne-eqb f v h)
+
+-- c sets the first field of the path, the setter that stood there the next, and so on
+unfoldable pub turn : (ℕ → Item) → Item → List ℕ → ℕ → Item
+turn st c [] = st
+turn st c (v ∷ vs) = turn (put st v c) (st v) vs
+
+-- the item that is left over
+unfoldable pub left : (ℕ → Item) → Item → List ℕ → Item
+left st c [] = c
+left st c (v ∷ vs) = left (put st v c) (st v) vs
+
+-- ---- a path whose fields are distinct
+
+-- f is not on the path
+abbrev pub Off : ℕ → List ℕ → Type 0
+Off f vs = All (λ v. f ≢ v) vs
+
+-- w comes right after u on the path
+pub data Next : List ℕ → ℕ → ℕ → Type 0 where
+  here : {u w : ℕ} {vs : List ℕ} → Next (u ∷ w ∷ vs) u w
+  there : {u w v : ℕ} {vs : List ℕ} → Next vs u w → Next (v ∷ vs) u w
+
+-- a field that is not on the path keeps its setter
+pub turn-off : (st : ℕ → Item) (c : Item) (vs : List ℕ) (f : ℕ) → Off f vs → turn st c vs f ≡ st f
+unfolding turn
+turn-off st c [] f h = refl
+turn-off st c (v ∷ vs) f (a, b) = turn-off (put st v c) (st v) vs f b ∙ put-there st v c f a
+
+-- the first field is set by c
+pub turn-first : (st : ℕ → Item) (c : Item) (v : ℕ) (vs : List ℕ) → Off v vs → turn st c (v ∷ vs) v ≡ c
+unfolding turn
+turn-first st c v vs h = turn-off (put st v c) (st v) vs v h ∙ put-here st v c
+
+next-on : (v : ℕ) (vs : List ℕ) (u w : ℕ) → Off v vs → Next vs u w → u ≢ v
+next-on v vs u w h here = λ e. h .0 (sym e)
+next-on v vs u w h (there {vs = xs} n) = next-on v xs u w (h .1) n
+
+-- each later one by the setter of the field before it
+pub turn-next : (st : ℕ → Item) (c : Item) (vs : List ℕ) (u w : ℕ) → Distinct vs → Next vs u w → turn st c vs w ≡ st u
+unfolding turn
+turn-next st c vs u w h (here {vs = xs}) = turn-first (put st u c) (st u) w xs (h .1 .0)
+turn-next st c vs u w h (there {v = v} {vs = xs} n) =
+    turn-next (put st v c) (st v) xs u w (h .1) n ∙ put-there st v c u (next-on v xs u w (h .0) n)
+
+-- the last field's setter is left over
+pub left-last : (st : ℕ → Item) (c : Item) (v : ℕ) (vs : List ℕ) → Distinct (v ∷ vs) → left st c (v ∷ vs) ≡ st (lastOf v vs)
+unfolding left
+left-last st c v [] h = refl
+left-last st c v (w ∷ vs) (a, b) =
+    left-last (put st v c) (st v) w vs b ∙ put-there st v c (lastOf w vs) (λ e. last-on w vs (rw e a))
+  where
+    last-on : (w : ℕ) (vs : List ℕ) → Off (lastOf w vs) (w ∷ vs) → ⊥
+    last-on w [] (a, b) = a refl
+    last-on w (x ∷ vs) (a, b) = last-on x vs b
+
+-- ---- the links
+
+-- all but the standing agree
+pub record Alike (l m : Link) : Type 0 where
+  pub covered : l .covered ≡ m .covered
+  pub outputs : l .outputs ≡ m .outputs
+  pub level : l .level ≡ m .level
+  pub used : l .used ≡ m .used
+
+-- only standings differ
+abbrev pub AllAlike : List Link → List Link → Type 0
+AllAlike a b = (i : ℕ) → Alike (linkAt a i) (linkAt b i)
+
+pub all-alike-refl : (a : List Link) → AllAlike a a
+all-alike-refl a i = record { covered = refl; outputs = refl; level = refl; used = refl }
+
+alike-trans : {l m k : Link} → Alike l m → Alike m k → Alike l k
+alike-trans a b = record {
+  covered = a .covered ∙ b .covered;
+  outputs = a .outputs ∙ b .outputs;
+  level = a .level ∙ b .level;
+  used = a .used ∙ b .used;
+}
+
+-- another link of a number, read where it was put, and elsewhere
+pub link-here : (a : List Link) (i : ℕ) (l : Link) → i < length a → linkAt (set a i l) i ≡ l
+link-here a i l h = getD-set-same a i l noLink h
+
+pub link-there : (a : List Link) (i j : ℕ) (l : Link) → j ≢ i → linkAt (set a i l) j ≡ linkAt a j
+link-there a i j l h = getD-set-other a i j l noLink h
+
+alike-standing : (l : Link) (s : Standing) → Alike (standing l s) l
+alike-standing l s = record { covered = refl; outputs = refl; level = refl; used = refl }
+
+-- a link at another standing
+pub set-alike : (a : List Link) (i : ℕ) (s : Standing) → AllAlike (set a i (standing (linkAt a i) s)) a
+set-alike a i s j = go (ℕ-discrete j i) (decLt i (length a))
+  where
+    go : Dec (j ≡ i) → Dec (i < length a) → Alike (linkAt (set a i (standing (linkAt a i) s)) j) (linkAt a j)
+    go (no d) l = rw (link-there a i j (standing (linkAt a i) s) d) (all-alike-refl a j)
+    go (yes d) (yes l) = rw (d, link-here a i (standing (linkAt a i) s) l) (alike-standing (linkAt a i) s)
+    go (yes d) (no l) = rw (set-out a i (standing (linkAt a i) s) (omega arith)) (all-alike-refl a j)
+
+module _ (a b : List Link) (h : AllAlike a b) where
+  pub alike-level : (place : List ℕ) (d : Item) → levelOf a place d ≡ levelOf b place d
+  alike-level place (link i) = h i .level
+  alike-level place (stay f) = refl
+
+  pub alike-outputs : (d : Item) → outputsOf a d ≡ outputsOf b d
+  alike-outputs (link i) = h i .outputs
+  alike-outputs (stay f) = refl
+
+  pub alike-reads : (d : Item) (f : ℕ) → readsOf a d f ≡ readsOf b d f
+  alike-reads (link i) f = rw (h i .covered)
+  alike-reads (stay g) f = refl
+
+  pub alike-force : (n : ℕ) (d : Item) → inForce n a d ≡ inForce n b d
+  alike-force n (link i) = h i .used
+  alike-force n (stay f) = refl
+
+-- ---- one item holds a field
+
+module _ (p : Panel) (v : ℕ) where
+  pub holding-size : (c : Item) → holding p c v .size ≡ p .size
+  holding-size (link i) = refl
+  holding-size (stay g) = refl
+
+  pub holding-place : (c : Item) → holding p c v .place ≡ p .place
+  holding-place (link i) = refl
+  holding-place (stay g) = refl
+
+  pub holding-setter : (c : Item) → holding p c v .setter ≡ set (p .setter) v (numberOf c)
+  holding-setter (link i) = refl
+  holding-setter (stay g) = refl
+
+  pub holding-alike : (c : Item) → AllAlike (holding p c v .links) (p .links)
+  holding-alike (link i) = set-alike (p .links) i (Holding v)
+  holding-alike (stay g) = all-alike-refl (p .links)
+
+module _ (p : Panel) where
+  pub waiting-size : (c : Item) → waiting p c .size ≡ p .size
+  waiting-size (link i) = refl
+  waiting-size (stay g) = refl
+
+  pub waiting-place : (c : Item) → waiting p c .place ≡ p .place
+  waiting-place (link i) = refl
+  waiting-place (stay g) = refl
+
+  pub waiting-setter : (c : Item) → waiting p c .setter ≡ p .setter
+  waiting-setter (link i) = refl
+  waiting-setter (stay g) = refl
+
+  pub waiting-alike : (c : Item) → AllAlike (waiting p c .links) (p .links)
+  waiting-alike (link i) = set-alike (p .links) i Waiting
+  waiting-alike (stay g) = all-alike-refl (p .links)
+
+-- ---- what a reversal leaves as it was
+
+pub reversed-size : (p : Panel) (c : Item) (vs : List ℕ) → reversed p c vs .size ≡ p .size
+unfolding reversed
+reversed-size p c [] = waiting-size p c
+reversed-size p c (v ∷ vs) = reversed-size (holding p c v) (setterOf (p .setter) v) vs ∙ holding-size p v c
+
+pub reversed-place : (p : Panel) (c : Item) (vs : List ℕ) → reversed p c vs .place ≡ p .place
+unfolding reversed
+reversed-place p c [] = waiting-place p c
+reversed-place p c (v ∷ vs) = reversed-place (holding p c v) (setterOf (p .setter) v) vs ∙ holding-place p v c
+
+pub reversed-alike : (p : Panel) (c : Item) (vs : List ℕ) → AllAlike (reversed p c vs .links) (p .links)
+unfolding reversed
+reversed-alike p c [] i = waiting-alike p c i
+reversed-alike p c (v ∷ vs) i = alike-trans (reversed-alike (holding p c v) (setterOf (p .setter) v) vs i) (holding-alike p v c i)
+
+module _ (p : Panel) (c : Item) (vs : List ℕ) where
+  pub reversed-level : (place : List ℕ) (d : Item) → levelOf (reversed p c vs .links) place d ≡ levelOf (p .links) place d
+  reversed-level = alike-level (reversed p c vs .links) (p .links) (reversed-alike p c vs)
+
+  pub reversed-outputs : (d : Item) → outputsOf (reversed p c vs .links) d ≡ outputsOf (p .links) d
+  reversed-outputs = alike-outputs (reversed p c vs .links) (p .links) (reversed-alike p c vs)
+
+  pub reversed-reads : (d : Item) (f : ℕ) → readsOf (reversed p c vs .links) d f ≡ readsOf (p .links) d f
+  reversed-reads = alike-reads (reversed p c vs .links) (p .links) (reversed-alike p c vs)
+
+  pub reversed-force : (n : ℕ) (d : Item) → inForce n (reversed p c vs .links) d ≡ inForce n (p .links) d
+  reversed-force = alike-force (reversed p c vs .links) (p .links) (reversed-alike p c vs)
+
+-- ---- the setters after a reversal
+
+-- c may stand at v: a link of a number, or the stay of v itself
+abbrev pub Fit : Item → ℕ → Type 0
+Fit (link i) v = i < 128
+Fit (stay g) v = g ≡ v
+
+-- each carried item fits the field that it is put at
+abbrev pub Fits : (ℕ → Item) → Item → List ℕ → Type 0
+Fits st c [] = Unit {0}
+Fits st c (v ∷ vs) = (v < 64) × Fit c v × Fits (put st v c) (st v) vs
+
+pub set-setter : (setter : List ℕ) (v : ℕ) (c : Item) → length setter ≡ 64 → v < 64 → Fit c v
+    → setterOf (set setter v (numberOf c)) ≡ put (setterOf setter) v c
+unfolding setterOf
+set-setter setter v c full l fit = fun-ext (λ f. go f (ℕ-discrete f v))
+  where
+    number : (c : Item) → Fit c v → cond (ltb (numberOf c) 128) (link (numberOf c)) (stay v) ≡ c
+    number (link i) h = rw (lt-ltb i 128 h)
+    number (stay g) h = ap stay (sym h)
+
+    go : (f : ℕ) → Dec (f ≡ v) → setterOf (set setter v (numberOf c)) f ≡ put (setterOf setter) v c f
+    go f (yes d) =
+        let e : at (set setter v (numberOf c)) v ≡ numberOf c = getD-set-same setter v (numberOf c) 0 (omega arith) in
+        rw (d, eq-eqb v v refl, e) (number c fit)
+    go f (no d) = rw (ne-eqb f v d, getD-set-other setter v f (numberOf c) 0 d)
+
+pub holding-sets : (p : Panel) (v : ℕ) (c : Item) → length (p .setter) ≡ 64 → v < 64 → Fit c v
+    → setterOf (holding p c v .setter) ≡ put (setterOf (p .setter)) v c
+holding-sets p v c full l fit = rw (holding-setter p v c) (set-setter (p .setter) v c full l fit)
+
+pub holding-full : (p : Panel) (v : ℕ) (c : Item) → length (holding p c v .setter) ≡ length (p .setter)
+holding-full p v c = rw (holding-setter p v c) (length-set (p .setter) v (numberOf c))
+
+pub reversed-setters : (p : Panel) (c : Item) (vs : List ℕ) → length (p .setter) ≡ 64 → Fits (setterOf (p .setter)) c vs
+    → setterOf (reversed p c vs .setter) ≡ turn (setterOf (p .setter)) c vs
+unfolding reversed turn
+reversed-setters p c [] full h = ap setterOf (waiting-setter p c)
+reversed-setters p c (v ∷ vs) full (l, fit, h) =
+    let e = holding-sets p v c full l fit in
+    reversed-setters (holding p c v) (setterOf (p .setter) v) vs (holding-full p v c ∙ full) (rw e h) ∙ rw e
+
+-- ---- links that are not carried
+
+holding-other : (p : Panel) (v : ℕ) (c : Item) (i : ℕ) → c ≢ link i → linkAt (holding p c v .links) i ≡ linkAt (p .links) i
+holding-other p v (link j) i h = link-there (p .links) j i _ (λ d. h (ap link (sym d)))
+holding-other p v (stay g) i h = refl
+
+waiting-other : (p : Panel) (c : Item) (i : ℕ) → c ≢ link i → linkAt (waiting p c .links) i ≡ linkAt (p .links) i
+waiting-other p (link j) i h = link-there (p .links) j i _ (λ d. h (ap link (sym d)))
+waiting-other p (stay g) i h = refl
+
+-- a link that is not c and sets no field of the path is as before
+pub reversed-other : (p : Panel) (c : Item) (vs : List ℕ) (i : ℕ) → length (p .setter) ≡ 64 → Fits (setterOf (p .setter)) c vs
+    → c ≢ link i → All (λ v. setterOf (p .setter) v ≢ link i) vs → linkAt (reversed p c vs .links) i ≡ linkAt (p .links) i
+unfolding reversed
+reversed-other p c [] i full fits h off = waiting-other p c i h
+reversed-other p c (v ∷ vs) i full (l, fit, fits) h (a, off) =
+    let e = holding-sets p v c full l fit in
+    reversed-other (holding p c v) (setterOf (p .setter) v) vs i (holding-full p v c ∙ full) (rw e fits) a
+    (rw e (all-map (λ w k. at-put (eqb w v) k) vs off))
+    ∙ holding-other p v c i h
+  where
+    at-put : {d : Item} (b : Bool) → d ≢ link i → cond b c d ≢ link i
+    at-put true k = h
+    at-put false k = k

@@ -1,0 +1,112 @@
+-- Laws of `greatest`: the greatest s u of the numbers u below n that pass a test.
+use Prim.Native.Nat.{ℕ, zero, suc, _≤_, _<_, max, zero-le}
+use mathlib.Core.Path.{_≡_, refl, sym, ap, ap₂, _∙_}
+use mathlib.Core.Bool.{Bool, true, false}
+use native.Mathlib.Nat.{le-refl, le-antisymm, not-suc-le-zero}
+use native.Mathlib.Decide.{ℕ-discrete, decLt}
+use native.Mathlib.Omega.{arith}
+use Rattle.fieldset.specs.Fields.{member, without}
+use Rattle.fieldset.proofs.Numbers.{clash}
+use Rattle.fieldset.proofs.Fields.{member-empty, member-without-same, member-without-other}
+use Rattle.strength.specs.Strength.{greatest}
+
+-- x where the test passed, else 0
+abbrev keep : Bool → ℕ → ℕ
+keep b x = elim b as (λ y. ℕ) [ true ↦ x | false ↦ 0 ]
+
+pub greatest-cong : (p q : ℕ → Bool) (s t : ℕ → ℕ) (n : ℕ) → ((u : ℕ) → u < n → p u ≡ q u)
+    → ((u : ℕ) → u < n → p u ≡ true → s u ≡ t u) → greatest p s n ≡ greatest q t n
+unfolding greatest
+greatest-cong p q s t zero h e = refl
+greatest-cong p q s t (suc n) h e =
+    ap₂ max (greatest-cong p q s t n (λ u l. h u (omega arith)) (λ u l. e u (omega arith)))
+    (ap (λ (b : Bool). keep b (s n)) (h n (le-refl (suc n))) ∙ go (q n) (λ f. e n (le-refl (suc n)) (h n (le-refl (suc n)) ∙ f)))
+  where
+    go : (b : Bool) → (b ≡ true → s n ≡ t n) → keep b (s n) ≡ keep b (t n)
+    go true f = f refl
+    go false f = refl
+
+module _ (p : ℕ → Bool) (s : ℕ → ℕ) where
+  pub greatest-none : (n : ℕ) → ((u : ℕ) → u < n → p u ≡ false) → greatest p s n ≡ 0
+  unfolding greatest
+  greatest-none zero h = refl
+  greatest-none (suc n) h = rw (h n (le-refl (suc n)), greatest-none n (λ u l. h u (omega arith)))
+
+  -- no number that passes has more
+  pub greatest-ge : (n u : ℕ) → u < n → p u ≡ true → s u ≤ greatest p s n
+  unfolding greatest
+  greatest-ge zero u l e = absurd (not-suc-le-zero l)
+  greatest-ge (suc n) u l e = go (ℕ-discrete u n) (λ k. greatest-ge n u k e)
+    where
+      go : Dec (u ≡ n) → (u < n → s u ≤ greatest p s n) → s u ≤ max (greatest p s n) (keep (p n) (s n))
+      go (yes d) ih =
+          let pn : p n ≡ true = rw d at e in
+          rw (pn, d) (omega arith)
+      go (no d) ih = omega (arith, ih (omega arith))
+
+  -- a bound of all
+  pub greatest-le : (n b : ℕ) → ((u : ℕ) → u < n → p u ≡ true → s u ≤ b) → greatest p s n ≤ b
+  unfolding greatest
+  greatest-le zero b h = zero-le
+  greatest-le (suc n) b h = go (p n) (h n (le-refl (suc n))) (greatest-le n b (λ u l. h u (omega arith)))
+    where
+      go : (x : Bool) → (x ≡ true → s n ≤ b) → greatest p s n ≤ b → max (greatest p s n) (keep x (s n)) ≤ b
+      go true f ih = omega (arith, f refl)
+      go false f ih = omega arith
+
+  -- above 0 it is that of a number that passes
+  pub greatest-found : (n : ℕ) → 0 < greatest p s n → (u : ℕ) × (u < n) × (p u ≡ true) × (s u ≡ greatest p s n)
+  unfolding greatest
+  greatest-found zero h = absurd (omega arith)
+  greatest-found (suc n) h = go (p n) refl (decLt (greatest p s n) (s n)) h (greatest-found n)
+    where
+      go : (x : Bool) → p n ≡ x → Dec (greatest p s n < s n) → 0 < max (greatest p s n) (keep x (s n))
+          → (0 < greatest p s n → (u : ℕ) × (u < n) × (p u ≡ true) × (s u ≡ greatest p s n))
+          → (u : ℕ) × (u < suc n) × (p u ≡ true) × (s u ≡ max (greatest p s n) (keep x (s n)))
+      go true e (yes l) k ih = (n, le-refl (suc n), e, omega arith)
+      go true e (no l) k ih = let r = ih (omega arith) in (r .0, omega (arith, r .1), r .2, omega (arith, r .3))
+      go false e d k ih = let r = ih (omega arith) in (r .0, omega (arith, r .1), r .2, omega (arith, r .3))
+
+  -- where a number passes, it is that of one that does
+  pub greatest-some : (n u : ℕ) → u < n → p u ≡ true → (w : ℕ) × (w < n) × (p w ≡ true) × (s w ≡ greatest p s n)
+  greatest-some n u l e = go (decLt 0 (greatest p s n))
+    where
+      go : Dec (0 < greatest p s n) → (w : ℕ) × (w < n) × (p w ≡ true) × (s w ≡ greatest p s n)
+      go (yes k) = greatest-found n k
+      go (no k) = (u, l, e, omega (arith, greatest-ge n u l e))
+
+pub greatest-empty : (s : ℕ → ℕ) (n : ℕ) → greatest (member 0) s n ≡ 0
+greatest-empty s n = greatest-none (member 0) s n (λ u l. member-empty u)
+
+-- a greater test and greater numbers
+pub greatest-mono : (p q : ℕ → Bool) (s t : ℕ → ℕ) (n : ℕ) → ((u : ℕ) → u < n → p u ≡ true → q u ≡ true)
+    → ((u : ℕ) → u < n → p u ≡ true → s u ≤ t u) → greatest p s n ≤ greatest q t n
+greatest-mono p q s t n h e =
+    greatest-le p s n (greatest q t n) (λ u l k. omega (arith, e u l k, greatest-ge q t n u l (h u l k)))
+
+-- a field of a set, and the rest of the set
+pub greatest-without : (s : ℕ → ℕ) (m u : ℕ) → u < 64 → member m u ≡ true
+    → greatest (member m) s 64 ≡ max (s u) (greatest (member (without m u)) s 64)
+greatest-without s m u l e = le-antisymm (greatest-le (member m) s 64 _ each) (omega (arith, greatest-ge (member m) s 64 u l e, rest))
+  where
+    each : (j : ℕ) → j < 64 → member m j ≡ true → s j ≤ max (s u) (greatest (member (without m u)) s 64)
+    each j k f = go (ℕ-discrete j u)
+      where
+        go : Dec (j ≡ u) → s j ≤ max (s u) (greatest (member (without m u)) s 64)
+        go (yes d) = rw d (omega arith)
+        go (no d) = omega (arith, greatest-ge (member (without m u)) s 64 j k (member-without-other m u j k d ∙ f))
+
+    rest : greatest (member (without m u)) s 64 ≤ greatest (member m) s 64
+    rest = greatest-mono (member (without m u)) (member m) s s 64 (λ j k f. go j k f (ℕ-discrete j u)) (λ j k f. le-refl (s j))
+      where
+        go : (j : ℕ) → j < 64 → member (without m u) j ≡ true → Dec (j ≡ u) → member m j ≡ true
+        go j k f (yes d) = absurd (clash f (rw d (member-without-same m u)))
+        go j k f (no d) = sym (member-without-other m u j k d) ∙ f
+
+-- a scan of a set: the greatest so far with that of what is left is the greatest of the whole
+pub top-step : (s : ℕ → ℕ) (rest u top top′ goal : ℕ) → u < 64 → member rest u ≡ true → max top (greatest (member rest) s 64) ≡ goal → top′ ≡ max top (s u)
+    → max top′ (greatest (member (without rest u)) s 64) ≡ goal
+top-step s rest u top top′ goal l m e t = omega (arith, greatest-without s rest u l m)
+
+pub top-done : (s : ℕ → ℕ) (rest top goal : ℕ) → rest ≡ 0 → max top (greatest (member rest) s 64) ≡ goal → top ≡ goal
+top-done s rest top goal z e = omega (arith, ap (λ (m : ℕ). greatest (member m) s 64) z, greatest-empty s 64)

@@ -1,0 +1,270 @@
+-- Laws of `lowestAt`, `strongest` and `path`, and the reversible path as a chain.
+use Prim.Native.Nat.{ℕ, zero, suc, _≤_, _<_, max}
+use mathlib.Core.Path.{_≡_, refl, sym, ap, ap₂, _∙_}
+use mathlib.Core.Logic.{_≢_}
+use mathlib.Core.Bool.{Bool, true, false, _&&_, and-false, false≢true}
+use mathlib.Core.List.{List, [], _∷_}
+use native.Mathlib.Nat.{not-suc-le-zero}
+use native.Mathlib.Decide.{ℕ-discrete}
+use native.Mathlib.Omega.{arith}
+use borrow.Author.Tests.{eq-eqb, ne-eqb, eqb-true}
+use lib.Dec.{eqb}
+use lib.ListN.{length}
+use Rattle.fieldset.specs.Numbers.{lowest}
+use Rattle.fieldset.specs.Fields.{member, without}
+use Rattle.fieldset.proofs.Numbers.{lowest-cong, lowest-none, lowest-lt, lowest-true, lowest-unique}
+use Rattle.fieldset.proofs.Fields.{member-empty, member-without-other, lowestOf-before}
+use Rattle.strength.specs.Strength.{greatest, strength, lowestAt, strongest, path}
+use Rattle.strength.specs.Filling.{First, lastOf}
+use Rattle.strength.proofs.Maxima.{greatest-cong, greatest-found, greatest-some}
+use Rattle.strength.proofs.Depth.{Falls, strength-cong, strength-fixed}
+
+-- ---- the lowest-numbered field at a strength
+
+and-left : (a b : Bool) → (a && b) ≡ true → a ≡ true
+and-left true b e = refl
+and-left false b e = e
+
+and-right : (a b : Bool) → (a && b) ≡ true → b ≡ true
+and-right true b e = e
+and-right false b e = absurd (false≢true e)
+
+-- u is a field of the set m at the strength s
+pub record Tie (str : ℕ → ℕ) (s m u : ℕ) : Type 0 where
+  pub field : u < 64
+  pub is-in : member m u ≡ true
+  pub strong : str u ≡ s
+
+-- where there is one, the lowest-numbered is one
+pub lowestAt-found : (str : ℕ → ℕ) (s m u : ℕ) → Tie str s m u → Tie str s m (lowestAt str s m)
+unfolding lowestAt
+lowestAt-found str s m u T =
+    let p : ℕ → Bool = λ u. member m u && eqb (str u) s in
+    let hit : (member m u && eqb (str u) s) ≡ true = ap₂ _&&_ (T .is-in) (eq-eqb (str u) s (T .strong)) in
+    let w = lowest p 64 64 in
+    let h : (member m w && eqb (str w) s) ≡ true = lowest-true p 64 64 u (T .field) hit in
+    record {
+      field = lowest-lt p 64 64 u (T .field) hit;
+      is-in = and-left (member m w) (eqb (str w) s) h;
+      strong = eqb-true (str w) s (and-right (member m w) (eqb (str w) s) h);
+    }
+
+pub lowestAt-empty : (str : ℕ → ℕ) (s : ℕ) → lowestAt str s 0 ≡ 64
+unfolding lowestAt
+lowestAt-empty str s =
+    lowest-none (λ u. member 0 u && eqb (str u) s) 64 64 (λ u l. ap (λ (b : Bool). b && eqb (str u) s) (member-empty u))
+
+-- only the fields of the set count
+pub lowestAt-cong : (str str′ : ℕ → ℕ) (s m : ℕ) → ((u : ℕ) → u < 64 → member m u ≡ true → str u ≡ str′ u) → lowestAt str s m ≡ lowestAt str′ s m
+unfolding lowestAt
+lowestAt-cong str str′ s m h = lowest-cong (λ u. member m u && eqb (str u) s) (λ u. member m u && eqb (str′ u) s) 64 64 (λ u l. go u l (member m u) refl)
+  where
+    go : (u : ℕ) → u < 64 → (b : Bool) → member m u ≡ b → (b && eqb (str u) s) ≡ (b && eqb (str′ u) s)
+    go u l true e = ap (λ (x : ℕ). eqb x s) (h u l e)
+    go u l false e = refl
+
+-- the first field, where it has the strength
+pub lowestAt-hit : (str : ℕ → ℕ) (s : ℕ) {m u : ℕ} → First m u → str u ≡ s → lowestAt str s m ≡ u
+unfolding lowestAt
+lowestAt-hit str s {m} {u} U e =
+    lowest-unique (λ u. member m u && eqb (str u) s) 64 64 u (U .field) (ap₂ _&&_ (U .is-in) (eq-eqb (str u) s e))
+    (λ j l. ap (λ (b : Bool). b && eqb (str j) s) (lowestOf-before m j (rw (U .is-lowest) at l)))
+
+-- a field that has not may go
+pub lowestAt-pass : (str : ℕ → ℕ) (s m u : ℕ) → str u ≢ s → lowestAt str s (without m u) ≡ lowestAt str s m
+unfolding lowestAt
+lowestAt-pass str s m u n =
+    lowest-cong (λ j. member (without m u) j && eqb (str j) s) (λ j. member m j && eqb (str j) s) 64 64 (λ j l. go j l (ℕ-discrete j u))
+  where
+    miss : (k : ℕ) → (member k u && eqb (str u) s) ≡ false
+    miss k = ap (λ (b : Bool). member k u && b) (ne-eqb (str u) s n) ∙ and-false (member k u)
+
+    go : (j : ℕ) → j < 64 → Dec (j ≡ u) → (member (without m u) j && eqb (str j) s) ≡ (member m j && eqb (str j) s)
+    go j l (yes d) = rw d (miss (without m u) ∙ sym (miss m))
+    go j l (no d) = ap (λ (b : Bool). b && eqb (str j) s) (member-without-other m u j l d)
+
+-- a set that is not empty has a strongest field
+pub strongest-found : (str : ℕ → ℕ) (m u : ℕ) → u < 64 → member m u ≡ true → Tie str (greatest (member m) str 64) m (strongest str m)
+unfolding strongest
+strongest-found str m u l e =
+    let (w, h, f, g) = greatest-some (member m) str 64 u l e in
+    lowestAt-found str (greatest (member m) str 64) m w (record { field = h; is-in = f; strong = g })
+
+pub strongest-cong : (str str′ : ℕ → ℕ) (m : ℕ) → ((u : ℕ) → u < 64 → member m u ≡ true → str u ≡ str′ u) → strongest str m ≡ strongest str′ m
+unfolding strongest
+strongest-cong str str′ m h =
+    lowestAt-cong str str′ (greatest (member m) str 64) m h
+    ∙ ap (λ (s : ℕ). lowestAt str′ s m) (greatest-cong (member m) (member m) str str′ 64 (λ u l. refl) h)
+
+-- ---- the path
+
+module _ (level others str : ℕ → ℕ) (s : ℕ) where
+  pub path-none : (v : ℕ) → path level others str s 0 v ≡ []
+  unfolding path
+  path-none v = refl
+
+  -- it starts at v
+  pub path-starts : (k v : ℕ) → 0 < k → (vs : List ℕ) × (path level others str s k v ≡ v ∷ vs)
+  unfolding path
+  path-starts zero v h = absurd (not-suc-le-zero h)
+  path-starts (suc k) v h = (_, refl)
+
+  pub path-stop : (k v : ℕ) → level v ≡ s → path level others str s (suc k) v ≡ v ∷ []
+  unfolding path
+  path-stop k v e = rw (eq-eqb (level v) s e)
+
+  pub path-go : (k v : ℕ) → level v ≢ s
+      → path level others str s (suc k) v ≡ v ∷ path level others str s k (lowestAt str s (others v))
+  unfolding path
+  path-go k v e = rw (ne-eqb (level v) s e)
+
+-- vs is a path at the strength s: each field has this strength, each further field is another output of the setter of the field before it,
+-- and the level of the last field's setter is s, that of the others below s
+pub data Chain (level others str : ℕ → ℕ) (s : ℕ) : List ℕ → Type 0 where
+  last : {v : ℕ} → v < 64 → str v ≡ s → level v ≡ s → Chain level others str s (v ∷ [])
+  next : {v u : ℕ} {vs : List ℕ} → v < 64 → str v ≡ s → level v < s → member (others v) u ≡ true → Chain level others str s (u ∷ vs)
+      → Chain level others str s (v ∷ u ∷ vs)
+
+abbrev pub All : (ℕ → Type 0) → List ℕ → Type 0
+All P [] = Unit {0}
+All P (v ∷ vs) = P v × All P vs
+
+abbrev pub Distinct : List ℕ → Type 0
+Distinct [] = Unit {0}
+Distinct (v ∷ vs) = All (λ u. v ≢ u) vs × Distinct vs
+
+pub all-map : {P Q : ℕ → Type 0} → ((v : ℕ) → P v → Q v) → (vs : List ℕ) → All P vs → All Q vs
+all-map f [] h = tt
+all-map f (v ∷ vs) (a, b) = (f v a, all-map f vs b)
+
+module _ {level others str : ℕ → ℕ} {s : ℕ} where
+  -- the last field's setter has the level s
+  pub chain-last : {vs : List ℕ} → Chain level others str s vs → (d : ℕ) → level (lastOf d vs) ≡ s
+  chain-last (last l e h) d = h
+  chain-last (next {v = v} l e h f c) d = chain-last c v
+
+  pub chain-strong : {vs : List ℕ} → Chain level others str s vs → All (λ v. str v ≡ s) vs
+  chain-strong (last l e h) = (e, tt)
+  chain-strong (next l e h f c) = (e, chain-strong c)
+
+  pub chain-fields : {vs : List ℕ} → Chain level others str s vs → All (λ v. v < 64) vs
+  chain-fields (last l e h) = (l, tt)
+  chain-fields (next l e h f c) = (l, chain-fields c)
+
+  -- a closed set that has the first field has all
+  pub chain-closed : (P : ℕ → Type 0) → ((v u : ℕ) → P v → u < 64 → member (others v) u ≡ true → P u)
+      → {v : ℕ} {vs : List ℕ} → Chain level others str s (v ∷ vs) → P v → All P (v ∷ vs)
+  chain-closed P closed (last l e h) p = (p, tt)
+  chain-closed P closed (next {v = v} {u = u} l e h f c) p = (p, chain-closed P closed c (closed v u p (chain-fields c .0) f))
+
+  module _ (rank : ℕ → ℕ) (falls : Falls others rank) where
+    -- the ranks of the fields after the first are below its rank
+    chain-falls : {v : ℕ} {vs : List ℕ} → Chain level others str s (v ∷ vs) → All (λ u. rank u < rank v) vs
+    chain-falls (last l e h) = tt
+    chain-falls (next {v = v} {u = u} {vs = vs} l e h f c) =
+        let b : rank u < rank v = falls v u l (chain-fields c .0) f in
+        let under : (w : ℕ) → rank w < rank u → rank w < rank v = λ w q. omega arith in
+        (b, all-map under vs (chain-falls c))
+
+    pub chain-distinct : {vs : List ℕ} → Chain level others str s vs → Distinct vs
+    chain-distinct (last l e h) = (tt, tt)
+    chain-distinct (next {v = v} {u = u} {vs = vs} l e h f c) =
+        let other : (w : ℕ) → rank w < rank v → v ≢ w = λ w q d. omega (arith, ap rank d) in
+        (all-map other (u ∷ vs) (chain-falls (next l e h f c)), chain-distinct c)
+
+    -- there are no more fields than ranks
+    pub chain-short : {v : ℕ} {vs : List ℕ} → Chain level others str s (v ∷ vs) → length vs ≤ rank v
+    chain-short (last l e h) = omega arith
+    chain-short (next {v = v} {u = u} l e h f c) = omega (arith, chain-short c, falls v u l (chain-fields c .0) f)
+
+-- ---- the path at a strength
+
+module _ (level others rank : ℕ → ℕ) (falls : Falls others rank) (n : ℕ) where
+  -- from a field of strength s whose setter's level is another, the path goes on to another output of this setter at the strength s
+  pub path-onto : (s v : ℕ) → v < 64 → rank v < n → strength level others n v ≡ s → level v ≢ s
+      → (level v < s) × Tie (strength level others n) s (others v) (lowestAt (strength level others n) s (others v))
+  path-onto s v l r e h =
+      let m = greatest (member (others v)) (strength level others n) 64 in
+      let t : strength level others n v ≡ max (level v) m = strength-fixed level others rank falls n v l r in
+      let (u, lu, eu, su) = greatest-found (member (others v)) (strength level others n) 64 (omega arith) in
+      (omega arith, lowestAt-found (strength level others n) s (others v) u (record { field = lu; is-in = eu; strong = omega arith }))
+
+  -- with fuel above the rank it is a chain
+  pub path-chain : (s k v : ℕ) → v < 64 → rank v < n → rank v < k → strength level others n v ≡ s
+      → Chain level others (strength level others n) s (path level others (strength level others n) s k v)
+  path-chain s zero v l r q e = absurd (not-suc-le-zero q)
+  path-chain s (suc k) v l r q e = go (ℕ-discrete (level v) s) (path-chain s k)
+    where
+      go : Dec (level v ≡ s)
+          → ((u : ℕ) → u < 64 → rank u < n → rank u < k → strength level others n u ≡ s
+          → Chain level others (strength level others n) s (path level others (strength level others n) s k u))
+          → Chain level others (strength level others n) s (path level others (strength level others n) s (suc k) v)
+      go (yes d) ih = rw (path-stop level others (strength level others n) s k v d) (last l e d)
+      go (no d) ih =
+          let u = lowestAt (strength level others n) s (others v) in
+          let (h, T) = path-onto s v l r e d in
+          let f : rank u < rank v = falls v u l (T .field) (T .is-in) in
+          let (vs, w) = path-starts level others (strength level others n) s k u (omega arith) in
+          rw (path-go level others (strength level others n) s k v d, w)
+          (next l e h (T .is-in) (rw w at (ih u (T .field) (omega arith) (omega arith) (T .strong))))
+
+-- the reversible path from v
+pub record Reversible (level others : ℕ → ℕ) (n v : ℕ) (vs : List ℕ) : Type 0 where
+  pub chain : Chain level others (strength level others n) (strength level others n v) vs
+  pub rest : List ℕ
+  pub starts : vs ≡ v ∷ rest
+  pub ends : level (lastOf v vs) ≡ strength level others n v
+  pub inside : All (λ u. u < n) vs
+  pub short : length vs ≤ n
+  pub distinct : Distinct vs
+
+pub path-reversible : (level others rank : ℕ → ℕ) → Falls others rank → (n : ℕ) → n ≤ 64
+    → ((v u : ℕ) → v < n → u < 64 → member (others v) u ≡ true → u < n) → (v : ℕ) → v < n → rank v < n
+    → Reversible level others n v (path level others (strength level others n) (strength level others n v) n v)
+path-reversible level others rank falls n few closed v l r =
+    let s = strength level others n v in
+    let (vs, w) = path-starts level others (strength level others n) s n v (omega arith) in
+    let c = path-chain level others rank falls n s n v (omega arith) r r refl in
+    whole (path level others (strength level others n) s n v) vs w c
+  where
+    whole : (p vs : List ℕ) → p ≡ v ∷ vs → Chain level others (strength level others n) (strength level others n v) p → Reversible level others n v p
+    whole p vs w c =
+        let c′ : Chain level others (strength level others n) (strength level others n v) (v ∷ vs) = rw w at c in
+        record {
+          chain = c;
+          rest = vs;
+          starts = w;
+          ends = chain-last c v;
+          inside = rw w (chain-closed (λ u. u < n) closed c′ l);
+          short = rw w (omega (arith, chain-short rank falls c′));
+          distinct = chain-distinct rank falls c;
+        }
+
+-- levels and other outputs that agree below 64 have the same path
+pub path-cong : (level level′ others others′ rank : ℕ → ℕ) → Falls others rank → ((v : ℕ) → v < 64 → level v ≡ level′ v)
+    → ((v : ℕ) → v < 64 → others v ≡ others′ v) → (n s k v : ℕ) → v < 64 → rank v < n → strength level others n v ≡ s
+    → path level others (strength level others n) s k v ≡ path level′ others′ (strength level′ others′ n) s k v
+path-cong level level′ others others′ rank falls hl ho n s zero v l r e =
+    path-none level others (strength level others n) s v ∙ sym (path-none level′ others′ (strength level′ others′ n) s v)
+path-cong level level′ others others′ rank falls hl ho n s (suc k) v l r e =
+    go (ℕ-discrete (level v) s) (path-cong level level′ others others′ rank falls hl ho n s k)
+  where
+    go : Dec (level v ≡ s)
+        → ((u : ℕ) → u < 64 → rank u < n → strength level others n u ≡ s
+        → path level others (strength level others n) s k u ≡ path level′ others′ (strength level′ others′ n) s k u)
+        → path level others (strength level others n) s (suc k) v ≡ path level′ others′ (strength level′ others′ n) s (suc k) v
+    go (yes d) ih =
+        path-stop level others (strength level others n) s k v d
+        ∙ sym (path-stop level′ others′ (strength level′ others′ n) s k v (sym (hl v l) ∙ d))
+    go (no d) ih =
+        let u = lowestAt (strength level others n) s (others v) in
+        let T = path-onto level others rank falls n s v l r e d .1 in
+        let f : rank u < rank v = falls v u l (T .field) (T .is-in) in
+        let same : u ≡ lowestAt (strength level′ others′ n) s (others′ v) =
+        lowestAt-cong (strength level others n) (strength level′ others′ n) s (others v)
+        (λ w h q. strength-cong level level′ others others′ hl ho n w h)
+        ∙ ap (lowestAt (strength level′ others′ n) s) (ho v l) in
+        path-go level others (strength level others n) s k v d
+        ∙ ap (λ (vs : List ℕ). v ∷ vs)
+        (ih u (T .field) (omega arith) (T .strong) ∙ ap (path level′ others′ (strength level′ others′ n) s k) same)
+        ∙ sym (path-go level′ others′ (strength level′ others′ n) s k v (λ q. d (hl v l ∙ q)))

@@ -1,0 +1,162 @@
+-- What `path_from` keeps from turn to turn.
+use Prim.Native.Nat.{ℕ, zero, suc, _+_, _-_, _<_}
+use mathlib.Core.Path.{_≡_, refl, sym, ap, ap₂, _∙_, subst}
+use mathlib.Core.Logic.{_≢_}
+use mathlib.Core.Bool.{true}
+use mathlib.Core.List.{List, [], _∷_, _++_}
+use native.Mathlib.Numerals.{add-one}
+use native.Mathlib.Omega.{arith}
+use lib.ListN.{length, set, take, drop, length-set, length-append, length-drop, take-append-drop}
+use lib.Seq.{take-suc-set, drop-set-lt, drop-drop, append-snoc, length-take-le}
+use Rattle.fieldset.specs.Tables.{at}
+use Rattle.fieldset.specs.Fields.{member, without}
+use Rattle.strength.specs.Strength.{strength, lowestAt, strongest, path}
+use Rattle.strength.specs.Filling.{Acyclic, Strengths, First, lastOf, Topped, Walked}
+use Rattle.strength.proofs.Paths.{Tie, lowestAt-cong, lowestAt-empty, lowestAt-hit, lowestAt-pass, path-stop, path-go, path-onto, Reversible, path-reversible}
+
+last-snoc : (d : ℕ) (xs : List ℕ) (x : ℕ) → lastOf d (xs ++ (x ∷ [])) ≡ x
+last-snoc d [] x = refl
+last-snoc d (y ∷ xs) x = last-snoc y xs x
+
+-- the path from v at the strength s, with fuel k
+abbrev pub pathFrom : List ℕ → List ℕ → ℕ → ℕ → ℕ → ℕ → List ℕ
+pathFrom levels others n s k v = path (at levels) (at others) (strength (at levels) (at others) n) s k v
+
+-- `count` fields of the path from v stand at the start of the buffer, and the path goes on from the field `here`
+pub record Way (levels others : List ℕ) (n known v s : ℕ) (before buffer : List ℕ) (here count : ℕ) : Type 0 where
+  pub acyclic : Acyclic others n
+  pub field : here < n
+  pub is-known : member known here ≡ true
+  pub strong : strength (at levels) (at others) n here ≡ s
+  pub room : count + acyclic .rank here < n
+  pub size : length buffer ≡ 64
+  pub done : take count buffer ++ pathFrom levels others n s (n - count) here ≡ pathFrom levels others n s n v
+  pub kept : drop count buffer ≡ drop count before
+
+-- the scan of the other outputs: the field sought is among those that are left
+pub record Scan (table : List ℕ) (s set rest : ℕ) : Type 0 where
+  pub same : lowestAt (at table) s rest ≡ lowestAt (at table) s set
+  pub some : lowestAt (at table) s set < 64
+
+module _ {table : List ℕ} {s set rest : ℕ} (C : Scan table s set rest) where
+  pub scan-pos : 0 < rest
+  scan-pos = go rest (C .same)
+    where
+      go : (m : ℕ) → lowestAt (at table) s m ≡ lowestAt (at table) s set → 0 < m
+      go zero e = absurd (omega (arith, C .some, lowestAt-empty (at table) s))
+      go (suc m) e = omega arith
+
+  pub scan-pass : {u : ℕ} → First rest u → at table u ≢ s → Scan table s set (without rest u)
+  scan-pass {u} U h = record { same = lowestAt-pass (at table) s rest u h ∙ C .same; some = C .some }
+
+  pub scan-found : {u : ℕ} → First rest u → at table u ≡ s → u ≡ lowestAt (at table) s set
+  scan-found U h = sym (lowestAt-hit (at table) s U h) ∙ C .same
+
+module _ {levels others table : List ℕ} {n known v : ℕ} {before : List ℕ} (A : Acyclic others n) (S : Strengths levels others n known table) where
+  pub way-start : v < n → member known v ≡ true → length before ≡ 64 → Way levels others n known v (at table v) before before v 0
+  way-start l e h = record {
+    acyclic = A;
+    field = l;
+    is-known = e;
+    strong = sym (S .right v (omega (arith, A .few)) e);
+    room = omega (arith, A .ranked .small v l);
+    size = h;
+    done = ap (λ (k : ℕ). pathFrom levels others n (at table v) k v) (omega arith);
+    kept = refl;
+  }
+
+module _ {levels others table : List ℕ} {n known v s : ℕ} {before buffer : List ℕ} {here count : ℕ} (S : Strengths levels others n known table)
+    (W : Way levels others n known v s before buffer here count) where
+  small : here < 64
+  small = omega (arith, W .field, W .acyclic .few)
+
+  kept-after : drop (suc count) (set buffer count here) ≡ drop (suc count) before
+  kept-after =
+      drop-set-lt (suc count) buffer count here (omega arith) ∙ ap (λ (k : ℕ). drop k buffer) (sym (add-one count)) ∙ sym (drop-drop 1 count buffer)
+      ∙ ap (drop 1) (W .kept) ∙ drop-drop 1 count before ∙ ap (λ (k : ℕ). drop k before) (add-one count)
+
+  taken-after : take (suc count) (set buffer count here) ≡ take count buffer ++ (here ∷ [])
+  taken-after = take-suc-set buffer count here (omega (arith, W .room, W .size, W .acyclic .few))
+
+  fuel : n - count ≡ suc (n - (count + 1))
+  fuel = omega (arith, W .room)
+
+  -- the setter's level is another: the path goes on
+  module _ (h : at levels here ≢ s) where
+    onto : Tie (strength (at levels) (at others) n) s (at others here) (lowestAt (strength (at levels) (at others) n) s (at others here))
+    onto = path-onto (at levels) (at others) (W .acyclic .rank) (W .acyclic .ranked .falls) n s here small (omega (arith, W .room)) (W .strong) h .1
+
+    same-table : lowestAt (at table) s (at others here) ≡ lowestAt (strength (at levels) (at others) n) s (at others here)
+    same-table =
+        lowestAt-cong (at table) (strength (at levels) (at others) n) s (at others here)
+        (λ u l e. S .right u l (S .closed here u small l (W .is-known) e))
+
+    pub scan-start : Scan table s (at others here) (at others here)
+    scan-start = record { same = refl; some = rw same-table (onto .field) }
+
+    pub way-turn : {u : ℕ} → u ≡ lowestAt (at table) s (at others here) → Way levels others n known v s before (set buffer count here) u (count + 1)
+    way-turn {u} e = rw (e ∙ same-table) (go (lowestAt (strength (at levels) (at others) n) s (at others here)) refl onto)
+      where
+        go : (w : ℕ) → w ≡ lowestAt (strength (at levels) (at others) n) s (at others here) → Tie (strength (at levels) (at others) n) s (at others here) w
+            → Way levels others n known v s before (set buffer count here) w (count + 1)
+        go w q T = record {
+          acyclic = W .acyclic;
+          field = W .acyclic .inside here w (W .field) (T .field) (T .is-in);
+          is-known = S .closed here w small (T .field) (W .is-known) (T .is-in);
+          strong = T .strong;
+          room = omega (arith, W .room, W .acyclic .ranked .falls here w small (T .field) (T .is-in));
+          size = length-set buffer count here ∙ W .size;
+          done =
+              ap (λ (k : ℕ). take k (set buffer count here) ++ pathFrom levels others n s (n - (count + 1)) w) (add-one count)
+              ∙ ap (λ (l : List ℕ). l ++ pathFrom levels others n s (n - (count + 1)) w) taken-after
+              ∙ append-snoc (take count buffer) here (pathFrom levels others n s (n - (count + 1)) w)
+              ∙ ap (λ (l : List ℕ). take count buffer ++ l)
+              (ap (λ (x : ℕ). here ∷ pathFrom levels others n s (n - (count + 1)) x) q
+              ∙ sym (ap (λ (k : ℕ). pathFrom levels others n s k here) fuel
+              ∙ path-go (at levels) (at others) (strength (at levels) (at others) n) s (n - (count + 1)) here h))
+              ∙ W .done;
+          kept = ap (λ (k : ℕ). drop k (set buffer count here)) (add-one count) ∙ kept-after ∙ ap (λ (k : ℕ). drop k before) (sym (add-one count));
+        }
+
+  -- the setter's level is the strength: the path ends
+  pub way-stop : s ≡ strength (at levels) (at others) n v → at levels here ≡ s → Walked levels others n v before (set buffer count here) here (count + 1)
+  way-stop es h =
+      let whole : take (suc count) (set buffer count here) ≡ pathFrom levels others n s n v =
+      taken-after
+      ∙ ap (λ (l : List ℕ). take count buffer ++ l)
+      (sym (ap (λ (k : ℕ). pathFrom levels others n s k here) fuel
+      ∙ path-stop (at levels) (at others) (strength (at levels) (at others) n) s (n - (count + 1)) here h))
+      ∙ W .done in
+      let long : suc count ≡ length (pathFrom levels others n s n v) =
+      sym (length-take-le (suc count) (set buffer count here) (omega (arith, W .room, W .acyclic .few, W .size, length-set buffer count here))) ∙ ap length whole in
+      record {
+        fields = pathFrom levels others n s n v;
+        is-path = ap (λ (x : ℕ). pathFrom levels others n x n v) es;
+        stored =
+            sym (take-append-drop (suc count) (set buffer count here)) ∙ ap₂ _++_ whole kept-after
+            ∙ ap (λ (k : ℕ). pathFrom levels others n s n v ++ drop k before) long;
+        counted = add-one count ∙ long;
+        ended = sym (last-snoc v (take count buffer) here) ∙ ap (lastOf v) (sym taken-after ∙ whole);
+        stops = h ∙ es;
+      }
+
+-- the fields that `path_from` stores are a reversible path
+pub walked-reversible : {levels others : List ℕ} {n v : ℕ} {before after : List ℕ} {end count : ℕ} → Acyclic others n → v < n
+    → (W : Walked levels others n v before after end count) → Reversible (at levels) (at others) n v (W .fields)
+walked-reversible {levels} {others} {n} {v} A l W =
+    subst (Reversible (at levels) (at others) n v) (sym (W .is-path))
+    (path-reversible (at levels) (at others) (A .rank) (A .ranked .falls) n (A .few) (A .inside) v l (A .ranked .small v l))
+
+-- the buffer keeps its length
+pub walked-full : {levels others : List ℕ} {n v : ℕ} {before after : List ℕ} {end count : ℕ} → Acyclic others n → v < n → length before ≡ 64
+    → Walked levels others n v before after end count → length after ≡ 64
+walked-full {before = before} A l size W =
+    ap length (W .stored) ∙ simp (length-append, length-drop) (omega (arith, walked-reversible A l W .short, A .few))
+
+-- with the table that `greatest` leaves, `lowest_at` finds the strongest field of the set
+pub topped-strongest : {levels others : List ℕ} {n set top known : ℕ} {table : List ℕ} → Topped levels others n set top known table
+    → lowestAt (at table) top set ≡ strongest (strength (at levels) (at others) n) set
+unfolding strongest
+topped-strongest {levels} {others} {n} {set} {top} {table = table} T =
+    lowestAt-cong (at table) (strength (at levels) (at others) n) top set (λ u l e. T .strengths .right u l (T .has u l e))
+    ∙ ap (λ (s : ℕ). lowestAt (strength (at levels) (at others) n) s set) (T .is-greatest)

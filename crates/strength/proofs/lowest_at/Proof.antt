@@ -1,0 +1,20 @@
+-- `strength::lowest_at` meets its contract.
+use mathlib.Core.Path.{ap, _∙_}
+use Rattle.fieldset.specs.Tables.{at}
+use Rattle.fieldset.specs.Fields.{lowestOf}
+use Rattle.strength.proofs.Ties.{lowest-ties}
+use borrow.Author.Needs.{needs}
+use Rattle.strength.proofs.lowest_at.Statement.{statement}
+use Rattle.strength.proofs.lowest_at.Tie as tie
+
+tied-requires : tie.Need-tied-requires
+tied-requires c κs = search needs
+
+lowest-requires : tie.Need-lowest-requires
+lowest-requires c κs = search needs
+
+returns : tie.Need-returns
+returns c = c .lowest .ensures ∙ ap lowestOf (c .before .tied .ensures) ∙ lowest-ties (at (c .before .before .args .table .now)) (c .before .before .args .s) (c .before .before .args .set)
+
+pub lowest-at-spec : {M : Type 1} → statement M
+lowest-at-spec = tie.close (tie.spec tied-requires lowest-requires returns)

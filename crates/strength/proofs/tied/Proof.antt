@@ -1,0 +1,57 @@
+-- `strength::tied` meets its contract. The loop keeps `Tying`, and its measure is what is left of the set.
+use mathlib.Core.Path.{_∙_}
+use mathlib.Core.Logic.{⊎-elim, inl, inr}
+use native.Mathlib.Omega.{arith}
+use Rattle.fieldset.specs.Tables.{at}
+use Rattle.strength.proofs.Ties.{first-falls, Tying, tying-start, tying-step, tying-done}
+use Rattle.strength.proofs.tied.Statement.{statement}
+use Rattle.strength.proofs.tied.Tie as tie
+
+abbrev Inv-loop : tie.InvT-loop
+Inv-loop table s set ties₀ rest₀ ties rest = Tying (at table) s set ties rest
+
+abbrev μ-loop : tie.MeasureT-loop
+μ-loop table s set ties₀ rest₀ ties rest = rest
+
+loop-holds : tie.Need-loop-holds Inv-loop μ-loop
+loop-holds c = tying-start
+
+first-requires : tie.Need-first-requires Inv-loop μ-loop
+first-requires c κs = omega arith
+
+element-copy-out-if1 : tie.Need-element-copy-out-if1 Inv-loop μ-loop
+element-copy-out-if1 c = c .first .ensures .field
+
+with-requires : tie.Need-with-requires Inv-loop μ-loop
+with-requires c κs = c .before .before .first .ensures .field
+
+without-lowest-requires : tie.Need-without-lowest-requires Inv-loop μ-loop
+without-lowest-requires c κs = omega arith
+
+loop-less : tie.Need-loop-less Inv-loop μ-loop
+loop-less c = first-falls (c .before .before .before .first .ensures) (c .without-lowest .ensures)
+
+loop-again : tie.Need-loop-again Inv-loop μ-loop
+loop-again c =
+    let U = c .before .before .before .first .ensures in
+    rw (c .without-lowest .ensures, ← U .is-lowest)
+    (tying-step (c .before .before .before .before .before .loop .inv) U
+    (⊎-elim (λ w. inl (w .0 .taken, w .2 ∙ w .1 .ensures)) (λ w. inr (w .0 .left, w .1)) (c .before .if1 .came)))
+
+returns : tie.Need-returns Inv-loop μ-loop
+returns c = tying-done (rw (c .loop-test .left) at (c .before .loop .inv))
+
+pub tied-spec : {M : Type 1} → statement M
+tied-spec =
+    tie.close
+    (tie.spec
+    Inv-loop
+    μ-loop
+    loop-holds
+    first-requires
+    element-copy-out-if1
+    with-requires
+    without-lowest-requires
+    loop-less
+    loop-again
+    returns)

@@ -1,0 +1,123 @@
+-- Laws of what is blocked, by a table of the strengths.
+use Prim.Native.Nat.{ℕ, _^_, _≤_, _<_}
+use mathlib.Core.Path.{_≡_, refl, sym, ap, _∙_}
+use mathlib.Core.Bool.{Bool, true, false, _&&_, and-false}
+use mathlib.Core.List.{List}
+use native.Mathlib.Decide.{ℕ-discrete}
+use native.Mathlib.Nat.{lt-of-lt-of-le}
+use native.Mathlib.Omega.{arith}
+use borrow.Author.Tests.{lt-ltb, le-ltb, eq-eqb, ne-eqb}
+use lib.Dec.{eqb, ltb}
+use Rattle.fieldset.specs.Numbers.{any}
+use Rattle.fieldset.specs.Tables.{at}
+use Rattle.fieldset.specs.Fields.{member, only, without, lowestOf}
+use Rattle.fieldset.proofs.Numbers.{any-here, any-none, any-cong}
+use Rattle.fieldset.proofs.Fields.{member-empty, member-only, member-without-other, lowestOf-lt, lowestOf-member}
+use Rattle.panel.specs.declared.Standing.{Standing}
+use Rattle.panel.specs.declared.Standing.the-variants.{Waiting, Holding}
+use Rattle.panel.specs.declared.Link.{Link}
+use Rattle.panel.specs.declared.Panel.{Panel}
+use Rattle.panel.specs.Items.{link, stay, linkAt, isWaiting}
+use Rattle.panel.specs.Solution.{level, strengthOf, isBlocked}
+use Rattle.panel.specs.Legal.{Legal, Formed}
+use Rattle.tables.specs.Leaves.{StrengthsOf, isOver, isBlockedLink}
+
+module _ (table : List ℕ) (level : ℕ) where
+  pub over-none : isOver table level 0 ≡ false
+  unfolding isOver
+  over-none = any-none (λ u. member 0 u && ltb level (at table u)) 64 (λ i l. rw (member-empty i))
+
+  module _ (m : ℕ) (small : m < 2 ^ 64) (pos : 0 < m) where
+    pub over-lowest : level < at table (lowestOf m) → isOver table level m ≡ true
+    unfolding isOver
+    over-lowest h =
+        any-here (λ u. member m u && ltb level (at table u)) 64 (lowestOf m) (lowestOf-lt m small pos)
+        (rw (lowestOf-member m small pos) (lt-ltb level (at table (lowestOf m)) h))
+
+    -- a field whose entry is not above the level may go
+    pub over-rest : at table (lowestOf m) ≤ level → isOver table level (without m (lowestOf m)) ≡ isOver table level m
+    unfolding isOver
+    over-rest h =
+        any-cong (λ u. member (without m (lowestOf m)) u && ltb level (at table u)) (λ u. member m u && ltb level (at table u)) 64
+        (λ u l. go u l (ℕ-discrete u (lowestOf m)))
+      where
+        go : (u : ℕ) → u < 64 → Dec (u ≡ lowestOf m) → (member (without m (lowestOf m)) u && ltb level (at table u)) ≡ (member m u && ltb level (at table u))
+        go u l (yes e) = rw (e, le-ltb level (at table (lowestOf m)) h) (and-false (member (without m (lowestOf m)) (lowestOf m)) ∙ sym (and-false (member m (lowestOf m))))
+        go u l (no e) = rw (member-without-other m (lowestOf m) u l e)
+
+-- of a set of one field
+pub any-only : (q : ℕ → Bool) (f : ℕ) → f < 64 → any (λ u. member (only f) u && q u) 64 ≡ q f
+any-only q f l = go (q f) refl
+  where
+    go : (b : Bool) → q f ≡ b → any (λ u. member (only f) u && q u) 64 ≡ q f
+    go true e = any-here (λ u. member (only f) u && q u) 64 f l (rw (member-only f f l, eq-eqb f f refl) e) ∙ sym e
+    go false e = any-none (λ u. member (only f) u && q u) 64 (λ u k. rw (member-only f u k) (at-field u (ℕ-discrete u f))) ∙ sym e
+      where
+        at-field : (u : ℕ) → Dec (u ≡ f) → (eqb u f && q u) ≡ false
+        at-field u (yes d) = rw (d, e) (and-false (eqb f f))
+        at-field u (no d) = rw (ne-eqb u f d)
+
+-- two numberings that agree on a set
+any-agree : (m level : ℕ) (s t : ℕ → ℕ) → ((u : ℕ) → u < 64 → member m u ≡ true → s u ≡ t u)
+    → any (λ u. member m u && ltb level (s u)) 64 ≡ any (λ u. member m u && ltb level (t u)) 64
+any-agree m level s t h = any-cong (λ u. member m u && ltb level (s u)) (λ u. member m u && ltb level (t u)) 64 (λ u l. go u l (member m u) refl)
+  where
+    go : (u : ℕ) → u < 64 → (b : Bool) → member m u ≡ b → (member m u && ltb level (s u)) ≡ (member m u && ltb level (t u))
+    go u l true e = rw (h u l e)
+    go u l false e = rw e
+
+module _ (p : Panel) (table : List ℕ) (L : Legal p) (S : StrengthsOf p table) where
+  -- the outputs of a link are fields of the panel, and their strengths stand in the table
+  pub link-blocked : (i : ℕ) → i < 128 → isBlocked p (link i) ≡ isBlockedLink table (linkAt (p .links) i)
+  unfolding isBlocked isOver
+  link-blocked i l = go (linkAt (p .links) i) (λ e. L .formed i l e)
+    where
+      go : (x : Link) → (x .used ≡ true → Formed (p .size) x)
+          → ((x .used && isWaiting (x .standing)) && any (λ u. member (x .outputs) u && ltb (x .level) (strengthOf p u)) 64)
+          ≡ ((x .used && isWaiting (x .standing)) && any (λ u. member (x .outputs) u && ltb (x .level) (at table u)) 64)
+      go x F = used (x .used) refl
+        where
+          used : (b : Bool) → x .used ≡ b
+              → ((b && isWaiting (x .standing)) && any (λ u. member (x .outputs) u && ltb (x .level) (strengthOf p u)) 64)
+              ≡ ((b && isWaiting (x .standing)) && any (λ u. member (x .outputs) u && ltb (x .level) (at table u)) 64)
+          used true e =
+              ap (λ (b : Bool). isWaiting (x .standing) && b)
+              (any-agree (x .outputs) (x .level) (strengthOf p) (at table) (λ u k m. sym (S u (F e .inside u k (F e .subset u k m)))))
+          used false e = refl
+
+  stay-blocked : (f : ℕ) → f < p .size → isBlocked p (stay f) ≡ (ltb (at (p .setter) f) 128 && ltb (level p (stay f)) (at table f))
+  unfolding isBlocked
+  stay-blocked f l =
+      rw (lt-ltb f (p .size) l, any-only (λ u. ltb (level p (stay f)) (strengthOf p u)) f (lt-of-lt-of-le l (L .few)), S f l)
+
+  module _ (f : ℕ) (l : f < p .size) where
+    pub stay-over : at (p .setter) f < 128 → level p (stay f) < at table f → isBlocked p (stay f) ≡ true
+    stay-over h k = stay-blocked f l ∙ rw (lt-ltb (at (p .setter) f) 128 h) (lt-ltb (level p (stay f)) (at table f) k)
+
+    pub stay-under : at table f ≤ level p (stay f) → isBlocked p (stay f) ≡ false
+    stay-under k = stay-blocked f l ∙ rw (le-ltb (level p (stay f)) (at table f) k) (and-false (ltb (at (p .setter) f) 128))
+
+    pub stay-sets : 128 ≤ at (p .setter) f → isBlocked p (stay f) ≡ false
+    stay-sets h = stay-blocked f l ∙ rw (le-ltb (at (p .setter) f) 128 h)
+
+-- a link by its parts
+module _ (table : List ℕ) (x : Link) where
+  pub link-unused : x .used ≡ false → false ≡ isBlockedLink table x
+  link-unused e = sym (ap (λ (u : Bool). (u && isWaiting (x .standing)) && isOver table (x .level) (x .outputs)) e)
+
+  pub link-holds : (f : ℕ) → x .standing ≡ Holding f → false ≡ isBlockedLink table x
+  link-holds f e =
+      sym (ap (λ (s : Standing). (x .used && isWaiting s) && isOver table (x .level) (x .outputs)) e
+      ∙ ap (λ (u : Bool). u && isOver table (x .level) (x .outputs)) (and-false (x .used)))
+
+  pub link-waits : (r : Bool) → x .used ≡ true → x .standing ≡ Waiting → r ≡ isOver table (x .level) (x .outputs) → r ≡ isBlockedLink table x
+  link-waits r u e o =
+      o ∙ sym (ap (λ (s : Standing). (x .used && isWaiting s) && isOver table (x .level) (x .outputs)) e
+      ∙ ap (λ (u : Bool). (u && true) && isOver table (x .level) (x .outputs)) u)
+
+pub link-level : (p : Panel) (i : ℕ) → Legal p → i < 128 → level p (link i) ≤ 15
+link-level p i L l = go (linkAt (p .links) i .used) refl
+  where
+    go : (b : Bool) → linkAt (p .links) i .used ≡ b → linkAt (p .links) i .level ≤ 15
+    go true e = L .formed i l e .level
+    go false e = rw (L .unused i l e) (omega arith)

@@ -1,0 +1,260 @@
+// The leaves of the operations on a panel: the tables of its setters, the field bytes of an add, the scan for blocked links and stays, the
+// reversal of a path, and how many fields moved.
+use fieldset::lowest;
+use fieldset::with;
+use fieldset::without;
+use fieldset::without_lowest;
+use panel::Blocked;
+use panel::Link;
+use panel::Panel;
+use panel::Standing;
+ghost use mathlib.Core.Path.{_≡_};
+ghost use mathlib.Core.Bool.{not, cond};
+ghost use Prim.Native.Nat.{_≤_, _<_};
+ghost use lib.Dec.{eqb};
+ghost use lib.ListN.{length, take};
+ghost use Rattle.fieldset.specs.Numbers.{count};
+ghost use Rattle.fieldset.specs.Tables.{at};
+ghost use Rattle.panel.specs.Panels.{standing};
+ghost use Rattle.panel.specs.Items.{link, stay, foundOf};
+ghost use Rattle.panel.specs.Solution.{reversed, leastBlocked};
+ghost use Rattle.panel.specs.Legal.{Legal};
+ghost use Rattle.tables.specs.Leaves.{FieldsOf, TablesOf, PathOf, StrengthsOf, itemOf, reversedReads, isOver, isBlockedLink, leastOf, numbered};
+
+// The setter of a field that its stay sets.
+pub const STAY: u8 = 128;
+
+// The same number, wider.
+pub fn wide(x: u8) -> usize
+    ensures { λ r. ⌜ r ≡ x ⌝ }
+{
+    x as usize
+}
+
+// The link at another standing.
+pub fn with_standing(l: Link, s: Standing) -> Link
+    ensures { λ r. ⌜ r ≡ standing l s ⌝ }
+{
+    Link {
+        covered: l.covered,
+        outputs: l.outputs,
+        level: l.level,
+        used: l.used,
+        standing: s,
+    }
+}
+
+// For each field of the panel the level, the other outputs and the read fields of its setter; the tables' rests are as they were.
+pub fn fill_tables(p: Panel, levels: &mut [u8; 64], others: &mut [u64; 64], reads: &mut [u64; 64])
+    requires { ⌜ Legal p × (length (now levels) ≡ 64) × (length (now others) ≡ 64) × (length (now reads) ≡ 64) ⌝ }
+    ensures { λ r. ⌜ TablesOf p (p .size) (now (levels .entry)) (now (others .entry)) (now (reads .entry)) (now (levels .exit)) (now (others .exit)) (now (reads .exit)) ⌝ }
+{
+    let n = p.size;
+    let mut f: usize = 0;
+    while f < n {
+        let c = p.setter[f];
+        // of its stay
+        let mut level = 16 + p.place[f];
+        let mut other = 0u64;
+        let mut read = 0u64;
+        if c < STAY {
+            let l = p.links[wide(c)];
+            level = l.level;
+            other = without(l.outputs, f);
+            read = without(l.covered, f);
+        }
+        levels[f] = level;
+        others[f] = other;
+        reads[f] = read;
+        f += 1;
+    }
+}
+
+// 1 where two setters differ, else 0.
+fn differs(a: u8, b: u8) -> u8
+    ensures { λ r. ⌜ r ≡ cond (eqb a b) 0 1 ⌝ }
+{
+    if a == b { 0 } else { 1 }
+}
+
+// How many of the first n fields have another setter.
+pub fn moved(before: &[u8; 64], after: &[u8; 64], n: usize) -> u8
+    requires { ⌜ n ≤ 64 ⌝ }
+    ensures { λ r. ⌜ r ≡ count (λ f. not (eqb (at (now (before .entry)) f) (at (now (after .entry)) f))) n ⌝ }
+{
+    let mut m: u8 = 0;
+    let mut f: usize = 0;
+    while f < n {
+        m += differs(before[f], after[f]);
+        f += 1;
+    }
+    m
+}
+
+// The fields of field bytes, those of them that are outputs, and whether they rise strictly, with bit 6 of each byte zero.
+pub struct Fields {
+    pub covered: u64,
+    pub outputs: u64,
+    pub rising: bool,
+}
+
+// Reads the field bytes of an add.
+pub fn read_fields(bytes: &[u8]) -> Fields
+    ensures { λ r. ⌜ FieldsOf (now (bytes .entry)) (r .covered) (r .outputs) (r .rising) ⌝ }
+{
+    let mut covered = 0u64;
+    let mut outputs = 0u64;
+    let mut rising = true;
+    // the least field that would rise
+    let mut least: usize = 0;
+    let mut i: usize = 0;
+    while i < bytes.len() {
+        let b = bytes[i];
+        let f = wide(b % 64);
+        covered = with(covered, f);
+        if 128 <= b {
+            outputs = with(outputs, f);
+        }
+        if f < least || b / 64 % 2 == 1 {
+            rising = false;
+        }
+        least = f + 1;
+        i += 1;
+    }
+    Fields {
+        covered,
+        outputs,
+        rising,
+    }
+}
+
+// The panel with a path reversed: `c`, a link's number or STAY, sets the path's first field, the setter of each field the next, and the last
+// setter waits.
+pub fn reverse(mut p: Panel, c: u8, path: &[u8; 64], count: usize) -> Panel
+    requires { ⌜ PathOf (now path) count × (length (now path) ≡ 64) ⌝ }
+    ensures { λ r. ⌜ r ≡ reversed p (itemOf c (at (now (path .entry)) 0)) (take count (now (path .entry))) ⌝ }
+{
+    let mut incoming = c;
+    let mut i: usize = 0;
+    while i < count {
+        let f = path[i];
+        let k = wide(f);
+        let old = p.setter[k];
+        let mut held = STAY;
+        if incoming < STAY {
+            let j = wide(incoming);
+            let l = p.links[j];
+            p.links[j] = with_standing(l, Standing::Holding(f));
+            held = incoming;
+        }
+        p.setter[k] = held;
+        incoming = old;
+        i += 1;
+    }
+    if incoming < STAY {
+        let j = wide(incoming);
+        let l = p.links[j];
+        p.links[j] = with_standing(l, Standing::Waiting);
+    }
+    p
+}
+
+// The read fields after a path is reversed: `covered` are the covered fields of what sets its first field.
+pub fn reverse_reads(reads: &mut [u64; 64], covered: u64, path: &[u8; 64], count: usize)
+    requires { ⌜ PathOf (now path) count × (length (now path) ≡ 64) × (length (now reads) ≡ 64) ⌝ }
+    ensures { λ r. ⌜ now (reads .exit) ≡ reversedReads (now (reads .entry)) covered (take count (now (path .entry))) ⌝ }
+{
+    let mut cover = covered;
+    let mut i: usize = 0;
+    while i < count {
+        let f = wide(path[i]);
+        let old = with(reads[f], f);
+        reads[f] = without(cover, f);
+        cover = old;
+        i += 1;
+    }
+}
+
+// Whether a field of the set has a strength above the level.
+fn is_over(set: u64, level: u8, table: &[u8; 64]) -> bool
+    ensures { λ r. ⌜ r ≡ isOver (now (table .entry)) level set ⌝ }
+{
+    let mut rest = set;
+    while rest != 0 {
+        let f = lowest(rest);
+        if level < table[f] {
+            return true;
+        }
+        rest = without_lowest(rest);
+    }
+    false
+}
+
+// Whether a link is in force, waits and is blocked.
+fn is_blocked(l: Link, table: &[u8; 64]) -> bool
+    ensures { λ r. ⌜ r ≡ isBlockedLink (now (table .entry)) l ⌝ }
+{
+    if !l.used {
+        return false;
+    }
+    let s = l.standing;
+    match s {
+        Standing::Waiting => is_over(l.outputs, l.level, table),
+        Standing::Holding(_) => false,
+    }
+}
+
+// The blocked link of least level, the lowest number among equals; 128 where none is.
+fn blocked_link(p: Panel, table: &[u8; 64]) -> usize
+    requires { ⌜ Legal p × StrengthsOf p (now table) ⌝ }
+    ensures { λ r. ⌜ leastOf p link 128 ≡ numbered link 128 r ⌝ }
+{
+    let mut found: usize = 128;
+    let mut least: u8 = 255;
+    let mut i: usize = 0;
+    while i < 128 {
+        let l = p.links[i];
+        if l.level < least && is_blocked(l, table) {
+            found = i;
+            least = l.level;
+        }
+        i += 1;
+    }
+    found
+}
+
+// The blocked stay of least level; 64 where none is.
+fn blocked_stay(p: Panel, table: &[u8; 64]) -> usize
+    requires { ⌜ Legal p × StrengthsOf p (now table) ⌝ }
+    ensures { λ r. ⌜ leastOf p stay (p .size) ≡ numbered stay 64 r ⌝ }
+{
+    let n = p.size;
+    let mut found: usize = 64;
+    let mut least: u8 = 255;
+    let mut f: usize = 0;
+    while f < n {
+        let level = 16 + p.place[f];
+        if p.setter[f] < STAY && level < table[f] && level < least {
+            found = f;
+            least = level;
+        }
+        f += 1;
+    }
+    found
+}
+
+// The blocked link or stay of least level, the lowest link number among equals, over a table of all strengths.
+pub fn find_blocked(p: Panel, table: &[u8; 64]) -> Blocked
+    requires { ⌜ Legal p × StrengthsOf p (now table) ⌝ }
+    ensures { λ r. ⌜ foundOf r ≡ leastBlocked p ⌝ }
+{
+    let i = blocked_link(p, table);
+    if i < 128 {
+        return Blocked::Link(i as u8);
+    }
+    let f = blocked_stay(p, table);
+    if f < 64 {
+        return Blocked::Stay(f as u8);
+    }
+    Blocked::Nothing
+}

@@ -1,0 +1,21 @@
+use borrow.Author.Tests.{lt-ltb, le-ltb}
+use borrow.Author.Needs.{needs}
+use Rattle.touching.proofs.pushed.Statement.{statement}
+use Rattle.touching.proofs.pushed.Tie as tie
+use Rattle.touching.proofs.pushed.Reads as reads
+use Rattle.touching.proofs.pushed.Lts as lts
+
+-- src/lib.rt:213:17
+add-result : tie.Need-add-result
+add-result c = search needs
+
+-- src/lib.rt:210:1
+returns : tie.Need-returns
+returns c = simp (lt-ltb _ _ (c .if1 .taken))
+
+-- src/lib.rt:210:1
+returns-2 : tie.Need-returns-2
+returns-2 c = simp (le-ltb _ _ (c .if1 .left))
+
+pub pushed-spec : {M : Type 1} → statement M
+pushed-spec = tie.close (tie.spec add-result returns returns-2)

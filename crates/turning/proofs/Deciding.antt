@@ -1,0 +1,92 @@
+-- What `decide` answers, from what its callees answer.
+use mathlib.Core.Path.{_≡_, refl, sym, ap, _∙_, subst}
+use mathlib.Core.Bool.{Bool, true, false}
+use mathlib.Core.List.{List, [], _∷_, _++_}
+use Prim.Native.Nat.{ℕ, zero, suc, _^_, _≤_, _<_}
+use native.Mathlib.Nat.{not-suc-le-zero, le-of-suc-le-suc}
+use native.Mathlib.Omega.{arith}
+use borrow.Author.Tests.{ltb-true}
+use lib.ListN.{length, take, drop, getD, length-append, length-drop, List·getD-append}
+use lib.Seq.{take-at}
+use Rattle.fieldset.specs.Tables.{at}
+use Rattle.fieldset.specs.Fields.{member, below}
+use Rattle.fieldset.proofs.Fields.{some-member, member-below}
+use Rattle.strength.specs.Strength.{greatest, strength, lowestAt, path}
+use Rattle.strength.specs.Filling.{Acyclic, Strengths, Within, Walked}
+use Rattle.strength.proofs.Maxima.{greatest-some}
+use Rattle.strength.proofs.Paths.{All, Tie, lowestAt-found, lowestAt-cong, Reversible, path-reversible}
+use Rattle.ordering.specs.Order.{hasLoop}
+use Rattle.ordering.specs.Walks.{Among}
+use Rattle.tables.specs.Leaves.{PathOf, reversedReads}
+use Rattle.turning.specs.Turns.{Undecided, Decided}
+use Rattle.turning.proofs.Decision.{among-reversed}
+
+all-at : (P : ℕ → Type 0) (vs : List ℕ) → All P vs → (i : ℕ) → i < length vs → P (at vs i)
+all-at P [] h i l = absurd (not-suc-le-zero l)
+all-at P (v ∷ vs) (a, h) zero l = a
+all-at P (v ∷ vs) (a, h) (suc i) l = all-at P vs h i (le-of-suc-le-suc l)
+
+module _ (levels others table : List ℕ) (n known s outputs covered : ℕ) (reads path₀ : List ℕ) (small : outputs < 2 ^ 64)
+    (u : Undecided levels others table n known s outputs covered reads path₀) where
+  pub start-same : lowestAt (at table) s outputs ≡ lowestAt (strength (at levels) (at others) n) s outputs
+  start-same =
+      lowestAt-cong (at table) (strength (at levels) (at others) n) s outputs (λ w l e. u .strengths .right w l (u .outputs-known w l e))
+
+  start-tie : Tie (strength (at levels) (at others) n) s outputs (lowestAt (at table) s outputs)
+  start-tie =
+      let m = some-member outputs small (u .some-output) in
+      let top = greatest-some (member outputs) (strength (at levels) (at others) n) 64 (m .0) (m .1) (m .2) in
+      rw start-same (lowestAt-found (strength (at levels) (at others) n) s outputs (top .0)
+      (record { field = top .1; is-in = top .2; strong = top .3 ∙ sym (u .is-greatest) }))
+
+  module _ (v : ℕ) (is : v ≡ lowestAt (at table) s outputs) where
+    tie : Tie (strength (at levels) (at others) n) s outputs v
+    tie = rw is start-tie
+
+    pub start-small : v < n
+    start-small = ltb-true v n (sym (member-below n v (tie .field)) ∙ u .outputs-inside v (tie .field) (tie .is-in))
+
+    pub start-known : member known v ≡ true
+    start-known = u .outputs-known v (tie .field) (tie .is-in)
+
+    module _ (path₁ : List ℕ) (end count : ℕ) (w : Walked levels others n v path₀ path₁ end count) where
+      is-reversible : Reversible (at levels) (at others) n v (w .fields)
+      is-reversible =
+          rw (w .is-path) (path-reversible (at levels) (at others) (u .acyclic .rank) (u .acyclic .ranked .falls) n (u .acyclic .few)
+          (u .acyclic .inside) v start-small (u .acyclic .ranked .small v start-small))
+
+      fields-taken : take count path₁ ≡ w .fields
+      fields-taken = rw (w .stored) (take-at (w .fields) (drop (length (w .fields)) path₀) count (sym (w .counted)))
+
+      pub path-of : PathOf path₁ count
+      path-of = record {
+        few = omega (arith, w .counted, is-reversible .short, u .acyclic .few);
+        fields = λ i l.
+            let k : i < length (w .fields) = omega (arith, w .counted) in
+            let low : at (w .fields) i < n = all-at (λ f. f < n) (w .fields) (is-reversible .inside) i k in
+            let same : at path₁ i ≡ at (w .fields) i =
+            ap (λ (x : List ℕ). at x i) (w .stored) ∙ List·getD-append (w .fields) (drop (length (w .fields)) path₀) 0 i k in
+            omega (arith, u .acyclic .few);
+      }
+
+      -- the buffer keeps its length
+      pub after-length : length path₁ ≡ 64
+      after-length =
+          ap length (w .stored)
+          ∙ simp (length-append, length-drop) (omega (arith, is-reversible .short, u .acyclic .few, u .path-length))
+
+      pub after-among : Among (reversedReads reads covered (take count path₁)) n
+      after-among =
+          rw fields-taken (among-reversed n (w .fields) reads covered (u .reads-length) (u .among) (u .covered-inside) (is-reversible .inside))
+
+      pub decided : (reads₁ : List ℕ) (looped : Bool) → reads₁ ≡ reversedReads reads covered (take count path₁) → looped ≡ hasLoop (at reads₁) n
+          → Decided levels others n s outputs covered reads path₁ count looped
+      decided reads₁ looped rs lp = record {
+        fields = path-of;
+        full = after-length;
+        is-path =
+            fields-taken ∙ w .is-path
+            ∙ ap (λ (x : ℕ). path (at levels) (at others) (strength (at levels) (at others) n) x n v) (tie .strong)
+            ∙ ap (λ (x : ℕ). path (at levels) (at others) (strength (at levels) (at others) n) s n x) (is ∙ start-same);
+        is-looped = lp ∙ ap (λ (x : List ℕ). hasLoop (at x) n) rs;
+      }

@@ -1,0 +1,6 @@
+pub mod Tables
+pub mod Reversal
+pub mod Steps
+pub mod Decision
+pub mod Deciding
+pub mod Gives

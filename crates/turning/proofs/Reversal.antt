@@ -1,0 +1,102 @@
+-- The table of read fields after a path is reversed is that of the reversed panel.
+use mathlib.Core.Path.{_≡_, refl, sym, ap, _∙_, subst}
+use mathlib.Core.Logic.{_≢_}
+use mathlib.Core.Bool.{Bool, true, false, not, _&&_, _||_}
+use mathlib.Core.List.{List, [], _∷_}
+use Prim.Native.Nat.{ℕ, _^_, _≤_, _<_}
+use native.Mathlib.Decide.{ℕ-discrete}
+use native.Mathlib.Nat.{lt-of-lt-of-le}
+use native.Mathlib.Omega.{arith}
+use borrow.Author.Tests.{eq-eqb, ne-eqb, eqb-true}
+use lib.Dec.{eqb}
+use lib.ListN.{length, set, length-set}
+use lib.Seq.{getD-set-same, getD-set-other}
+use Rattle.fieldset.specs.Tables.{at}
+use Rattle.fieldset.specs.Fields.{member, with, without, only}
+use Rattle.fieldset.proofs.Fields.{ext-member, empty-of-none, member-empty, member-only, member-with-same, member-with-other, member-without-same, member-without-other, only-lt, with-lt, without-lt}
+use Rattle.panel.specs.declared.Link.{Link}
+use Rattle.panel.specs.Items.{Item, link, stay, linkAt, outputsOf, readsOf, inForce}
+use Rattle.strength.proofs.Paths.{Distinct}
+use Rattle.panel.proofs.Turn.{put, put-here, put-there, turn}
+use Rattle.panel.proofs.Reversal.{Leads, leads-put}
+use Rattle.tables.specs.Leaves.{reversedReads}
+
+-- the covered fields of an item
+abbrev pub coverOf : List Link → Item → ℕ
+coverOf links (link i) = linkAt links i .covered
+coverOf links (stay g) = only g
+
+-- an item that sets v reads what it covers but for v, and covers what it reads and v
+pub record Covers (links : List Link) (d : Item) (v : ℕ) : Type 0 where
+  pub drops : without (coverOf links d) v ≡ readsOf links d v
+  pub adds : with (readsOf links d v) v ≡ coverOf links d
+
+-- a set whose member v is taken out and put in again
+with-without : (m v : ℕ) → m < 2 ^ 64 → v < 64 → member m v ≡ true → with (without m v) v ≡ m
+with-without m v hm l e = ext-member 64 (with (without m v) v) m (with-lt (without m v) v) hm (λ i h. go i h (ℕ-discrete i v))
+  where
+    go : (i : ℕ) → i < 64 → Dec (i ≡ v) → member (with (without m v) v) i ≡ member m i
+    go i h (yes d) = rw d (member-with-same (without m v) v l ∙ sym e)
+    go i h (no d) = member-with-other (without m v) v i h d ∙ member-without-other m v i h d
+
+without-only : (v : ℕ) → without (only v) v ≡ 0
+without-only v = empty-of-none 64 (without (only v) v) (without-lt (only v) v) (λ i h. go i h (ℕ-discrete i v))
+  where
+    go : (i : ℕ) → i < 64 → Dec (i ≡ v) → member (without (only v) v) i ≡ false
+    go i h (yes d) = rw d (member-without-same (only v) v)
+    go i h (no d) = member-without-other (only v) v i h d ∙ member-only v i h ∙ ne-eqb i v d
+
+pub cover-link : (links : List Link) (i v : ℕ) → linkAt links i .covered < 2 ^ 64 → v < 64 → member (linkAt links i .covered) v ≡ true → Covers links (link i) v
+cover-link links i v hm l e = record { drops = refl; adds = with-without (linkAt links i .covered) v hm l e }
+
+pub cover-stay : (links : List Link) (g v : ℕ) → v < 64 → member (only g) v ≡ true → Covers links (stay g) v
+cover-stay links g v l e =
+    let same : v ≡ g = eqb-true v g (sym (member-only g v l) ∙ e) in
+    rw same (record {
+      drops = without-only g;
+      adds = ap (λ (x : ℕ). with x g) (sym (without-only g)) ∙ with-without (only g) g (only-lt g) (rw same at l) (rw same at e);
+    })
+
+-- ---- the reversal of a path, over setters as a function
+
+module _ (n : ℕ) (links : List Link) (few : n ≤ 64) (Ok : Item → Type 0)
+    (covers : (d : Item) (v : ℕ) → Ok d → v < n → member (outputsOf links d) v ≡ true → Covers links d v) where
+  pub record Reading (st : ℕ → Item) (r : List ℕ) : Type 0 where
+    pub full : length r ≡ 64
+    pub reads : (f : ℕ) → f < n → at r f ≡ readsOf links (st f) f
+    pub ok : (f : ℕ) → f < n → Ok (st f)
+    pub output : (f : ℕ) → f < n → member (outputsOf links (st f)) f ≡ true
+
+  reading-step : (st : ℕ → Item) (r : List ℕ) (c : Item) (v : ℕ) → Reading st r → Ok c → v < n → member (outputsOf links c) v ≡ true
+      → Reading (put st v c) (set r v (without (coverOf links c) v))
+  reading-step st r c v h ok l out = record {
+    full = length-set r v (without (coverOf links c) v) ∙ h .full;
+    reads = λ f k. reads f k (ℕ-discrete f v);
+    ok = λ f k. okAt f k (ℕ-discrete f v);
+    output = λ f k. outAt f k (ℕ-discrete f v);
+  }
+    where
+      reads : (f : ℕ) → f < n → Dec (f ≡ v) → at (set r v (without (coverOf links c) v)) f ≡ readsOf links (put st v c f) f
+      reads f k (yes d) =
+          let here : v < length r = omega (arith, h .full) in
+          rw d (rw (put-here st v c) (getD-set-same r v (without (coverOf links c) v) 0 here ∙ covers c v ok l out .drops))
+      reads f k (no d) = rw (put-there st v c f d) (getD-set-other r v f (without (coverOf links c) v) 0 d ∙ h .reads f k)
+
+      okAt : (f : ℕ) → f < n → Dec (f ≡ v) → Ok (put st v c f)
+      okAt f k (yes d) = subst Ok (sym (ap (put st v c) d ∙ put-here st v c)) ok
+      okAt f k (no d) = rw (put-there st v c f d) (h .ok f k)
+
+      outAt : (f : ℕ) → f < n → Dec (f ≡ v) → member (outputsOf links (put st v c f)) f ≡ true
+      outAt f k (yes d) = rw d (rw (put-here st v c) out)
+      outAt f k (no d) = rw (put-there st v c f d) (h .output f k)
+
+  -- what set a field covers what it read and that field
+  pub reversed-reads : (st : ℕ → Item) (c : Item) (vs : List ℕ) (r : List ℕ) (m : ℕ) → Reading st r → Ok c → m ≡ coverOf links c
+      → Leads n (outputsOf links) st c vs → Distinct vs → Reading (turn st c vs) (reversedReads r m vs)
+  unfolding turn reversedReads
+  reversed-reads st c [] r m h ok e leads dis = h
+  reversed-reads st c (v ∷ vs) r m h ok e (l, out, leads) (off, dis) =
+      let next : with (at r v) v ≡ coverOf links (st v) =
+      ap (λ (x : ℕ). with x v) (h .reads v l) ∙ covers (st v) v (h .ok v l) l (h .output v l) .adds in
+      reversed-reads (put st v c) (st v) vs (set r v (without m v)) (with (at r v) v)
+      (rw e (reading-step st r c v h ok l out)) (h .ok v l) next (leads-put n (outputsOf links) st v c (st v) vs off leads) dis
