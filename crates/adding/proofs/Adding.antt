@@ -28,8 +28,9 @@ use Rattle.panel.proofs.Legal.{LegalBut}
 use Rattle.panel.proofs.Setters.{reads-there}
 use Rattle.panel.proofs.Changes.{legal-add}
 use Rattle.panel.proofs.Checks
-use Rattle.tables.specs.Leaves.{tableOf, TablesOf, FieldsOf, itemOf}
-use Rattle.tables.proofs.FieldBytes.{add-check, covered-within}
+use Rattle.tables.specs.Leaves.{tableOf, TablesOf, itemOf}
+use Rattle.fieldbytes.specs.Bytes.{FieldsOf}
+use Rattle.fieldbytes.proofs.FieldBytes.{add-check, covered-within}
 use Rattle.turning.proofs.Steps.{moved-none}
 use Rattle.turning.proofs.Decision.{answer}
 use Rattle.turning.proofs.Gives.{applies, passes, none-left}

@@ -1,4 +1,5 @@
 // Adding a link.
+use fieldbytes::read_fields;
 use fieldset::below;
 use fieldset::size;
 use fieldset::within;
@@ -11,7 +12,6 @@ use panel::Standing;
 use strength::greatest;
 use tables::fill_tables;
 use tables::moved;
-use tables::read_fields;
 use tables::reverse;
 use tables::wide;
 use turning::decide;

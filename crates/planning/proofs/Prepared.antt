@@ -26,7 +26,8 @@ use Rattle.panel.specs.Commands.{isOpen, performed, planning}
 use Rattle.panel.specs.Legal.{Legal}
 use Rattle.panel.proofs.Legal.{Carrying}
 use Rattle.panel.proofs.Setters.{whole}
-use Rattle.tables.specs.Leaves.{TablesOf, StrengthsOf}
+use Rattle.tables.specs.Leaves.{TablesOf}
+use Rattle.tables.specs.Leaves.{StrengthsOf}
 use Rattle.turning.specs.Outcomes.{Plans}
 use Rattle.turning.proofs.Tables.{at-table, reads-at, table-acyclic, table-among, table-strength}
 use Rattle.turning.proofs.Gives.{applies, passes, none-left}

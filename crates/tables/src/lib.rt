@@ -1,10 +1,6 @@
-// The leaves of the operations on a panel: the tables of its setters, the field bytes of an add, the scan for blocked links and stays, the
-// reversal of a path, and how many fields moved.
-use fieldset::lowest;
+// The tables of a panel's setters, the reversal of a path, and how many fields moved.
 use fieldset::with;
 use fieldset::without;
-use fieldset::without_lowest;
-use panel::Blocked;
 use panel::Link;
 use panel::Panel;
 use panel::Standing;
@@ -16,10 +12,9 @@ ghost use lib.ListN.{length, take};
 ghost use Rattle.fieldset.specs.Numbers.{count};
 ghost use Rattle.fieldset.specs.Tables.{at};
 ghost use Rattle.panel.specs.Panels.{standing};
-ghost use Rattle.panel.specs.Items.{link, stay, foundOf};
-ghost use Rattle.panel.specs.Solution.{reversed, leastBlocked};
+ghost use Rattle.panel.specs.Solution.{reversed};
 ghost use Rattle.panel.specs.Legal.{Legal};
-ghost use Rattle.tables.specs.Leaves.{FieldsOf, TablesOf, PathOf, StrengthsOf, itemOf, reversedReads, isOver, isBlockedLink, leastOf, numbered};
+ghost use Rattle.tables.specs.Leaves.{TablesOf, PathOf, itemOf, reversedReads};
 
 // The setter of a field that its stay sets.
 pub const STAY: u8 = 128;
@@ -91,43 +86,6 @@ pub fn moved(before: &[u8; 64], after: &[u8; 64], n: usize) -> u8
     m
 }
 
-// The fields of field bytes, those of them that are outputs, and whether they rise strictly, with bit 6 of each byte zero.
-pub struct Fields {
-    pub covered: u64,
-    pub outputs: u64,
-    pub rising: bool,
-}
-
-// Reads the field bytes of an add.
-pub fn read_fields(bytes: &[u8]) -> Fields
-    ensures { λ r. ⌜ FieldsOf (now (bytes .entry)) (r .covered) (r .outputs) (r .rising) ⌝ }
-{
-    let mut covered = 0u64;
-    let mut outputs = 0u64;
-    let mut rising = true;
-    // the least field that would rise
-    let mut least: usize = 0;
-    let mut i: usize = 0;
-    while i < bytes.len() {
-        let b = bytes[i];
-        let f = wide(b % 64);
-        covered = with(covered, f);
-        if 128 <= b {
-            outputs = with(outputs, f);
-        }
-        if f < least || b / 64 % 2 == 1 {
-            rising = false;
-        }
-        least = f + 1;
-        i += 1;
-    }
-    Fields {
-        covered,
-        outputs,
-        rising,
-    }
-}
-
 // The panel with a path reversed: `c`, a link's number or STAY, sets the path's first field, the setter of each field the next, and the last
 // setter waits.
 pub fn reverse(mut p: Panel, c: u8, path: &[u8; 64], count: usize) -> Panel
@@ -173,88 +131,4 @@ pub fn reverse_reads(reads: &mut [u64; 64], covered: u64, path: &[u8; 64], count
         cover = old;
         i += 1;
     }
-}
-
-// Whether a field of the set has a strength above the level.
-fn is_over(set: u64, level: u8, table: &[u8; 64]) -> bool
-    ensures { λ r. ⌜ r ≡ isOver (now (table .entry)) level set ⌝ }
-{
-    let mut rest = set;
-    while rest != 0 {
-        let f = lowest(rest);
-        if level < table[f] {
-            return true;
-        }
-        rest = without_lowest(rest);
-    }
-    false
-}
-
-// Whether a link is in force, waits and is blocked.
-fn is_blocked(l: Link, table: &[u8; 64]) -> bool
-    ensures { λ r. ⌜ r ≡ isBlockedLink (now (table .entry)) l ⌝ }
-{
-    if !l.used {
-        return false;
-    }
-    let s = l.standing;
-    match s {
-        Standing::Waiting => is_over(l.outputs, l.level, table),
-        Standing::Holding(_) => false,
-    }
-}
-
-// The blocked link of least level, the lowest number among equals; 128 where none is.
-fn blocked_link(p: Panel, table: &[u8; 64]) -> usize
-    requires { ⌜ Legal p × StrengthsOf p (now table) ⌝ }
-    ensures { λ r. ⌜ leastOf p link 128 ≡ numbered link 128 r ⌝ }
-{
-    let mut found: usize = 128;
-    let mut least: u8 = 255;
-    let mut i: usize = 0;
-    while i < 128 {
-        let l = p.links[i];
-        if l.level < least && is_blocked(l, table) {
-            found = i;
-            least = l.level;
-        }
-        i += 1;
-    }
-    found
-}
-
-// The blocked stay of least level; 64 where none is.
-fn blocked_stay(p: Panel, table: &[u8; 64]) -> usize
-    requires { ⌜ Legal p × StrengthsOf p (now table) ⌝ }
-    ensures { λ r. ⌜ leastOf p stay (p .size) ≡ numbered stay 64 r ⌝ }
-{
-    let n = p.size;
-    let mut found: usize = 64;
-    let mut least: u8 = 255;
-    let mut f: usize = 0;
-    while f < n {
-        let level = 16 + p.place[f];
-        if p.setter[f] < STAY && level < table[f] && level < least {
-            found = f;
-            least = level;
-        }
-        f += 1;
-    }
-    found
-}
-
-// The blocked link or stay of least level, the lowest link number among equals, over a table of all strengths.
-pub fn find_blocked(p: Panel, table: &[u8; 64]) -> Blocked
-    requires { ⌜ Legal p × StrengthsOf p (now table) ⌝ }
-    ensures { λ r. ⌜ foundOf r ≡ leastBlocked p ⌝ }
-{
-    let i = blocked_link(p, table);
-    if i < 128 {
-        return Blocked::Link(i as u8);
-    }
-    let f = blocked_stay(p, table);
-    if f < 64 {
-        return Blocked::Stay(f as u8);
-    }
-    Blocked::Nothing
 }

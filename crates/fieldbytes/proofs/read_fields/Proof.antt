@@ -1,4 +1,4 @@
--- `tables::read_fields` meets its contract: what is read, with what is left, is the whole. Assumes nothing.
+-- `fieldbytes::read_fields` meets its contract: what is read, with what is left, is the whole. Assumes nothing.
 use Prim.Native.Nat.{_-_}
 use mathlib.Core.Path.{_∙_}
 use mathlib.Core.Logic.{⊎-elim}
@@ -6,9 +6,9 @@ use native.Mathlib.Omega.{arith}
 use borrow.Author.Needs.{needs}
 use lib.ListN.{length}
 use Rattle.fieldset.specs.Tables.{at}
-use Rattle.tables.proofs.FieldBytes.{Reading, read-none, read-more, read-all, reads-output, reads-input, reads-low, reads-bit, reads-rising}
-use Rattle.tables.proofs.read_fields.Statement.{statement}
-use Rattle.tables.proofs.read_fields.Tie as tie
+use Rattle.fieldbytes.proofs.FieldBytes.{Reading, read-none, read-more, read-all, reads-output, reads-input, reads-low, reads-bit, reads-rising}
+use Rattle.fieldbytes.proofs.read_fields.Statement.{statement}
+use Rattle.fieldbytes.proofs.read_fields.Tie as tie
 
 abbrev Inv-loop : tie.InvT-loop
 Inv-loop bytes covered₀ outputs₀ rising₀ least₀ i₀ covered outputs rising least i = Reading bytes i covered outputs rising least

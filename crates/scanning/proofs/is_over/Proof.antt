@@ -1,14 +1,14 @@
--- `tables::is_over` meets its contract: what is left of the set has the answer of the whole. Assumes nothing.
+-- `scanning::is_over` meets its contract: what is left of the set has the answer of the whole. Assumes nothing.
 use Prim.Native.Nat.{_^_, _<_}
 use mathlib.Core.Path.{_≡_, refl, sym, ap, _∙_}
 use native.Mathlib.Omega.{arith}
 use borrow.Author.Needs.{needs}
 use Rattle.fieldset.specs.Fields.{lowestOf}
 use Rattle.fieldset.proofs.Fields.{lowestOf-lt, lowestOf-falls, without-lt}
-use Rattle.tables.specs.Leaves.{isOver}
-use Rattle.tables.proofs.Over.{over-none, over-lowest, over-rest}
-use Rattle.tables.proofs.is_over.Statement.{statement}
-use Rattle.tables.proofs.is_over.Tie as tie
+use Rattle.scanning.specs.Scan.{isOver}
+use Rattle.scanning.proofs.Over.{over-none, over-lowest, over-rest}
+use Rattle.scanning.proofs.is_over.Statement.{statement}
+use Rattle.scanning.proofs.is_over.Tie as tie
 
 abbrev Inv-loop : tie.InvT-loop
 Inv-loop set level table rest₀ rest = (rest < 2 ^ 64) × (isOver table level rest ≡ isOver table level set)

@@ -1,4 +1,4 @@
--- `tables::blocked_link` meets its contract: the links passed are scanned. Assumes nothing.
+-- `scanning::blocked_link` meets its contract: the links passed are scanned. Assumes nothing.
 use Prim.Native.Nat.{_-_, _≤_, _<_}
 use mathlib.Core.Path.{_≡_, sym, ap, _∙_}
 use mathlib.Core.Logic.{⊎-elim}
@@ -6,11 +6,11 @@ use native.Mathlib.Omega.{arith}
 use borrow.Author.Needs.{needs}
 use Rattle.panel.specs.Items.{link}
 use Rattle.panel.specs.Solution.{isBlocked, level}
-use Rattle.tables.specs.Leaves.{leastOf}
-use Rattle.tables.proofs.Over.{link-blocked, link-level}
-use Rattle.tables.proofs.Scan.{Scanned, scan-none, scan-takes, scan-leaves, scan-keeps}
-use Rattle.tables.proofs.blocked_link.Statement.{statement}
-use Rattle.tables.proofs.blocked_link.Tie as tie
+use Rattle.scanning.specs.Scan.{leastOf}
+use Rattle.scanning.proofs.Over.{link-blocked, link-level}
+use Rattle.scanning.proofs.Scan.{Scanned, scan-none, scan-takes, scan-leaves, scan-keeps}
+use Rattle.scanning.proofs.blocked_link.Statement.{statement}
+use Rattle.scanning.proofs.blocked_link.Tie as tie
 
 abbrev Inv-loop : tie.InvT-loop
 Inv-loop table p found₀ least₀ i₀ found least i = (i ≤ 128) × Scanned (isBlocked p) (level p) link 128 i found least

@@ -1,9 +1,9 @@
--- `tables::is_blocked` meets its contract. Assumes nothing.
+-- `scanning::is_blocked` meets its contract. Assumes nothing.
 use borrow.Author.Tests.{not-true, not-false}
-use Rattle.tables.proofs.Over.{link-unused, link-holds, link-waits}
+use Rattle.scanning.proofs.Over.{link-unused, link-holds, link-waits}
 use borrow.Author.Needs.{needs}
-use Rattle.tables.proofs.is_blocked.Statement.{statement}
-use Rattle.tables.proofs.is_blocked.Tie as tie
+use Rattle.scanning.proofs.is_blocked.Statement.{statement}
+use Rattle.scanning.proofs.is_blocked.Tie as tie
 
 returns : tie.Need-returns
 returns c =

@@ -1,9 +1,9 @@
--- `tables::find_blocked` meets its contract. Assumes nothing.
+-- `scanning::find_blocked` meets its contract. Assumes nothing.
 use mathlib.Core.Path.{_∙_}
-use Rattle.tables.proofs.Scan.{blocked-link-first, no-blocked-link, blocked-stay-first, no-blocked-stay}
+use Rattle.scanning.proofs.Scan.{blocked-link-first, no-blocked-link, blocked-stay-first, no-blocked-stay}
 use borrow.Author.Needs.{needs}
-use Rattle.tables.proofs.find_blocked.Statement.{statement}
-use Rattle.tables.proofs.find_blocked.Tie as tie
+use Rattle.scanning.proofs.find_blocked.Statement.{statement}
+use Rattle.scanning.proofs.find_blocked.Tie as tie
 
 blocked-link-requires : tie.Need-blocked-link-requires
 blocked-link-requires c κs = search needs

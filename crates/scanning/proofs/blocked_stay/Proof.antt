@@ -1,4 +1,4 @@
--- `tables::blocked_stay` meets its contract: the stays passed are scanned. Assumes nothing.
+-- `scanning::blocked_stay` meets its contract: the stays passed are scanned. Assumes nothing.
 use Prim.Native.Nat.{_-_, _≤_, _<_}
 use mathlib.Core.Path.{_≡_, sym, ap, _∙_}
 use mathlib.Core.Logic.{⊎-elim}
@@ -7,11 +7,11 @@ use borrow.Author.Tests.{ltb-true, ltb-false}
 use Rattle.fieldset.specs.Tables.{at}
 use Rattle.panel.specs.Items.{stay}
 use Rattle.panel.specs.Solution.{isBlocked, level}
-use Rattle.tables.specs.Leaves.{leastOf}
-use Rattle.tables.proofs.Over.{stay-over, stay-under, stay-sets}
-use Rattle.tables.proofs.Scan.{Scanned, scan-none, scan-takes, scan-leaves, scan-keeps}
-use Rattle.tables.proofs.blocked_stay.Statement.{statement}
-use Rattle.tables.proofs.blocked_stay.Tie as tie
+use Rattle.scanning.specs.Scan.{leastOf}
+use Rattle.scanning.proofs.Over.{stay-over, stay-under, stay-sets}
+use Rattle.scanning.proofs.Scan.{Scanned, scan-none, scan-takes, scan-leaves, scan-keeps}
+use Rattle.scanning.proofs.blocked_stay.Statement.{statement}
+use Rattle.scanning.proofs.blocked_stay.Tie as tie
 
 abbrev Inv-loop : tie.InvT-loop
 Inv-loop table p n found₀ least₀ f₀ found least f = (f ≤ n) × Scanned (isBlocked p) (level p) stay 64 f found least

@@ -13,8 +13,8 @@ use Rattle.panel.specs.declared.Panel.{Panel}
 use Rattle.panel.specs.Items.{Item, link, stay, itemsOf}
 use Rattle.panel.specs.Solution.{level, isBlocked, lesser, least, leastBlocked}
 use Rattle.panel.specs.Legal.{Legal}
-use Rattle.tables.specs.Leaves.{leastOf, numbered}
-use Rattle.tables.proofs.Over.{link-level}
+use Rattle.scanning.specs.Scan.{leastOf, numbered}
+use Rattle.scanning.proofs.Over.{link-level}
 
 module _ (q : Item → Bool) (lev : Item → ℕ) where
   -- of two that may be, the first among equals

@@ -17,7 +17,7 @@ use Rattle.fieldset.specs.Fields.{member, with, without, union, below, size, wi
 use Rattle.fieldset.proofs.Numbers.{clash, any-here, any-cong}
 use Rattle.fieldset.proofs.Fields.{ext-member, member-empty, member-with, member-with-same, member-with-other, member-without-same, member-without-other, member-union, member-below, with-lt, without-lt, union-lt, size-empty, size-without, within-true}
 use Rattle.panel.specs.Commands.{fieldOf, isOutput, hasBit6, anyOf, fieldsIn, coveredIn, outputsIn, isRising, areFieldBytes}
-use Rattle.tables.specs.Leaves.{FieldsOf}
+use Rattle.fieldbytes.specs.Bytes.{FieldsOf}
 
 field-lt : (b : ℕ) → fieldOf b < 64
 field-lt b = mod-lt b {m = 64} (omega arith)

@@ -20,7 +20,8 @@ use Rattle.panel.specs.declared.Panel.{Panel}
 use Rattle.panel.specs.Items.{link, stay, linkAt, isWaiting}
 use Rattle.panel.specs.Solution.{level, strengthOf, isBlocked}
 use Rattle.panel.specs.Legal.{Legal, Formed}
-use Rattle.tables.specs.Leaves.{StrengthsOf, isOver, isBlockedLink}
+use Rattle.tables.specs.Leaves.{StrengthsOf}
+use Rattle.scanning.specs.Scan.{isOver, isBlockedLink}
 
 module _ (table : List ℕ) (level : ℕ) where
   pub over-none : isOver table level 0 ≡ false
