@@ -15,7 +15,7 @@ ghost use Rattle.panel.specs.Legal.{Legal};
 ghost use Rattle.turning.specs.Outcomes.{Gives};
 
 // The link of a number that is not in use.
-fn no_link() -> Link
+pub fn no_link() -> Link
     ensures { λ r. ⌜ r ≡ noLink ⌝ }
 {
     Link {
