@@ -1,28 +1,28 @@
 -- Laws of an add.
-use mathlib.Core.Path.{_≡_, refl, sym, ap, _∙_, subst}
+use mathlib.Core.Path.{_≡_, refl, sym, ap, _∙_}
 use mathlib.Core.Bool.{Bool, true, false, not, _&&_, _||_, true≢false}
 use mathlib.Core.Logic.{_≢_}
-use mathlib.Core.List.{List, [], _∷_, _++_}
-use Prim.Native.Nat.{ℕ, zero, suc, _+_, _≤_, _<_, _^_}
+use mathlib.Core.List.{List, _++_}
+use Prim.Native.Nat.{ℕ, zero, suc, _<_}
 use native.Mathlib.Nat.{le-refl}
 use native.Mathlib.Omega.{arith}
 use borrow.Author.Tests.{lt-ltb, le-ltb, ltb-false, eq-eqb, ne-eqb}
-use lib.Dec.{eqb, ltb, leb}
+use lib.Dec.{ltb, leb}
 use lib.ListN.{set, drop}
 use Rattle.fieldset.specs.Tables.{tabulate}
-use Rattle.fieldset.specs.Fields.{member, without, below, within}
+use Rattle.fieldset.specs.Fields.{without, below, within}
 use Rattle.fieldset.proofs.Fields.{member-below}
 use Rattle.strength.specs.Filling.{Within}
 use Rattle.panel.specs.declared.Link.{Link}
 use Rattle.panel.specs.declared.Panel.{Panel}
 use Rattle.panel.specs.declared.Refusal.the-variants.{NotOpen, BadLink, NoSuchField, LinkTaken, Conflict}
-use Rattle.panel.specs.Items.{Item, link, stay, linkAt, setterOf, levelOf, outputsOf, readsOf, isWaiting, waits}
+use Rattle.panel.specs.Items.{Item, link, stay, linkAt, setterOf, levelOf, outputsOf, isWaiting, waits}
 use Rattle.panel.specs.Answers.{Answer, refused}
 use Rattle.panel.specs.Panels.{withLink}
 use Rattle.panel.specs.Solution.{level, setterLevel, setterOthers, setterReads, isBlocked, reversed}
-use Rattle.panel.specs.Steps.{accepted, turned, addStep}
-use Rattle.panel.specs.Commands.{checked, check, isOpen, performed, adding, areFieldBytes, isRising, anyOf, isOutput, hasBit6, fieldOf, coveredIn, outputsIn, addChecks}
-use Rattle.panel.specs.Legal.{Legal, Formed}
+use Rattle.panel.specs.Steps.{turned, addStep}
+use Rattle.panel.specs.Commands.{isOpen, performed, adding, areFieldBytes, isRising, anyOf, isOutput, fieldOf, coveredIn, outputsIn}
+use Rattle.panel.specs.Legal.{Legal}
 use Rattle.panel.proofs.Turn.{link-here, link-there}
 use Rattle.panel.proofs.Legal.{LegalBut}
 use Rattle.panel.proofs.Setters.{reads-there}

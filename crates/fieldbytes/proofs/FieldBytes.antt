@@ -16,30 +16,15 @@ use Rattle.fieldset.specs.Tables.{at}
 use Rattle.fieldset.specs.Fields.{member, with, without, union, below, size, within}
 use Rattle.fieldset.proofs.Numbers.{clash, any-here, any-cong}
 use Rattle.fieldset.proofs.Fields.{ext-member, member-empty, member-with, member-with-same, member-with-other, member-without-same, member-without-other, member-union, member-below, with-lt, without-lt, union-lt, size-empty, size-without, within-true}
+use Rattle.ordering.proofs.Sets.{and-left, and-right}
 use Rattle.panel.specs.Commands.{fieldOf, isOutput, hasBit6, anyOf, fieldsIn, coveredIn, outputsIn, isRising, areFieldBytes}
+use Rattle.panel.proofs.Checks.{fields-lt}
 use Rattle.fieldbytes.specs.Bytes.{FieldsOf}
 
 field-lt : (b : ℕ) → fieldOf b < 64
 field-lt b = mod-lt b {m = 64} (omega arith)
 
-and-left : (a b : Bool) → (a && b) ≡ true → a ≡ true
-and-left true b e = refl
-and-left false b e = e
-
-and-right : (a b : Bool) → (a && b) ≡ true → b ≡ true
-and-right true b e = e
-and-right false b e = absurd (clash e refl)
-
 -- ---- the sets of fields
-
-pub fields-lt : (q : ℕ → Bool) (bytes : List ℕ) → fieldsIn q bytes < 2 ^ 64
-unfolding fieldsIn
-fields-lt q [] = pow-pos 64
-fields-lt q (b ∷ bs) = go (q b) (fields-lt q bs)
-  where
-    go : (t : Bool) → fieldsIn q bs < 2 ^ 64 → elim t [ true ↦ with (fieldsIn q bs) (fieldOf b) | false ↦ fieldsIn q bs ] < 2 ^ 64
-    go true h = with-lt (fieldsIn q bs) (fieldOf b)
-    go false h = h
 
 pub covered-lt : (bytes : List ℕ) → coveredIn bytes < 2 ^ 64
 covered-lt bytes = fields-lt (λ b. true) bytes

@@ -1,6 +1,6 @@
 -- What a plan's rows are written from, and what the operation then gives.
-use mathlib.Core.Path.{_≡_, refl, sym, ap, ap₂, _∙_}
-use mathlib.Core.Bool.{true, false, not}
+use mathlib.Core.Path.{_≡_, refl, ap, _∙_}
+use mathlib.Core.Bool.{not}
 use mathlib.Core.List.{List, [], _∷_, _++_}
 use Prim.Native.Nat.{ℕ, _+_, _*_, _≤_, _<_}
 use native.Mathlib.Omega.{arith}
@@ -20,11 +20,10 @@ use Rattle.panel.specs.declared.Reply.{Reply}
 use Rattle.panel.specs.declared.Reply.the-variants.{Accepted, Refused}
 use Rattle.panel.specs.Items.{stay}
 use Rattle.panel.specs.Answers.{Answer, refused, replyBytes}
-use Rattle.panel.specs.Solution.{setterReads, strengthOf, planOf, isLooped, rowsOf}
+use Rattle.panel.specs.Solution.{setterReads, planOf, isLooped, rowsOf}
 use Rattle.panel.specs.Steps.{planStep}
 use Rattle.panel.specs.Commands.{isOpen, performed, planning}
 use Rattle.panel.specs.Legal.{Legal}
-use Rattle.panel.proofs.Legal.{Carrying}
 use Rattle.panel.proofs.Setters.{whole}
 use Rattle.tables.specs.Leaves.{TablesOf}
 use Rattle.tables.specs.Leaves.{StrengthsOf}

@@ -5,7 +5,6 @@ use mathlib.Core.Bool.{Bool, true, false, not, cond, and-not-self}
 use mathlib.Core.List.{List, [], _∷_, append-assoc}
 use native.Mathlib.Numerals.{add-one}
 use native.Mathlib.Omega.{arith}
-use borrow.Author.Tests.{lt-ltb, le-ltb}
 use lib.Dec.{eqb}
 use lib.ListN.{length, drop, set}
 use lib.Seq.{drop-cons, set-at}
@@ -15,8 +14,9 @@ use Rattle.fieldset.specs.Fields.{only, without}
 use Rattle.fieldset.proofs.Fields.{empty-of-none, without-lt, member-without, member-only}
 use Rattle.fieldset.proofs.Tables.{length-tabulate}
 use Rattle.panel.specs.declared.Panel.{Panel}
-use Rattle.panel.specs.Items.{link, stay, linkAt, setterOf}
+use Rattle.panel.specs.Items.{linkAt}
 use Rattle.panel.specs.Solution.{setterLevel, setterOthers, setterReads}
+use Rattle.panel.proofs.Turn.{setter-link, setter-stay}
 use Rattle.tables.specs.Leaves.{tableOf, TablesOf}
 
 -- one more entry
@@ -25,16 +25,6 @@ unfolding tabulate
 table-more g f x before l h e t =
     rw (t, drop-cons before f 0, set-at (tabulate g f) (at before f) (drop (suc f) before) x f (length-tabulate g f), e, add-one f)
     (sym (append-assoc (tabulate g f) (g f ∷ []) (drop (suc f) before)))
-
--- the setter of a field, by what stands in the table
-module _ (setter : List ℕ) (f : ℕ) where
-  pub setter-link : at setter f < 128 → setterOf setter f ≡ link (at setter f)
-  unfolding setterOf
-  setter-link h = rw (lt-ltb (at setter f) 128 h)
-
-  pub setter-stay : 128 ≤ at setter f → setterOf setter f ≡ stay f
-  unfolding setterOf
-  setter-stay h = rw (le-ltb (at setter f) 128 h)
 
 -- a stay has no other output
 pub stay-others : (f : ℕ) → without (only f) f ≡ 0

@@ -1,12 +1,12 @@
 -- Laws of a touch, for the panel with the touched stay in front.
-use mathlib.Core.Path.{_≡_, refl, sym, ap, _∙_, subst}
-use mathlib.Core.Bool.{Bool, true, false, not, _&&_, cond, and-false}
-use mathlib.Core.List.{List, [], _∷_}
+use mathlib.Core.Path.{_≡_, refl, sym, ap, _∙_}
+use mathlib.Core.Bool.{true, false, not, and-false}
+use mathlib.Core.List.{List}
 use mathlib.Core.Logic.{_≢_}
-use Prim.Native.Nat.{ℕ, zero, suc, _+_, _≤_, _<_}
+use Prim.Native.Nat.{ℕ, zero, suc, _≤_, _<_}
 use native.Mathlib.Omega.{arith}
 use borrow.Author.Tests.{lt-ltb, le-ltb, le-leb, lt-leb, eq-eqb, eqb-true}
-use lib.Dec.{eqb, ltb, leb}
+use lib.Dec.{ltb, leb}
 use Rattle.fieldset.specs.Tables.{at, tabulate}
 use Rattle.fieldset.specs.Fields.{member, only, below}
 use Rattle.fieldset.proofs.Tables.{getD-tabulate}
@@ -15,12 +15,12 @@ use Rattle.fieldset.proofs.Numbers.{clash}
 use Rattle.strength.specs.Filling.{Within}
 use Rattle.panel.specs.declared.Panel.{Panel}
 use Rattle.panel.specs.declared.Refusal.the-variants.{NotOpen, NoSuchField}
-use Rattle.panel.specs.Items.{Item, stay, waits}
+use Rattle.panel.specs.Items.{stay, waits}
 use Rattle.panel.specs.Answers.{Answer, refused}
 use Rattle.panel.specs.Panels.{placeAfter, toFront}
 use Rattle.panel.specs.Solution.{level, isBlocked}
 use Rattle.panel.specs.Steps.{accepted, turned, touchStep}
-use Rattle.panel.specs.Commands.{checked, isOpen, performed, touching}
+use Rattle.panel.specs.Commands.{isOpen, performed, touching}
 use Rattle.panel.specs.Legal.{Legal}
 use Rattle.panel.proofs.Changes.{legal-front}
 use Rattle.turning.proofs.Steps.{moved-none, not-blocked}

@@ -1,18 +1,18 @@
 -- What `decide` answers, from what its callees answer.
-use mathlib.Core.Path.{_≡_, refl, sym, ap, _∙_, subst}
-use mathlib.Core.Bool.{Bool, true, false}
-use mathlib.Core.List.{List, [], _∷_, _++_}
-use Prim.Native.Nat.{ℕ, zero, suc, _^_, _≤_, _<_}
+use mathlib.Core.Path.{_≡_, sym, ap, _∙_}
+use mathlib.Core.Bool.{Bool, true}
+use mathlib.Core.List.{List, [], _∷_}
+use Prim.Native.Nat.{ℕ, zero, suc, _^_, _<_}
 use native.Mathlib.Nat.{not-suc-le-zero, le-of-suc-le-suc}
 use native.Mathlib.Omega.{arith}
 use borrow.Author.Tests.{ltb-true}
-use lib.ListN.{length, take, drop, getD, length-append, length-drop, List·getD-append}
+use lib.ListN.{length, take, drop, length-append, length-drop, List·getD-append}
 use lib.Seq.{take-at}
 use Rattle.fieldset.specs.Tables.{at}
-use Rattle.fieldset.specs.Fields.{member, below}
+use Rattle.fieldset.specs.Fields.{member}
 use Rattle.fieldset.proofs.Fields.{some-member, member-below}
-use Rattle.strength.specs.Strength.{greatest, strength, lowestAt, path}
-use Rattle.strength.specs.Filling.{Acyclic, Strengths, Within, Walked}
+use Rattle.strength.specs.Strength.{strength, lowestAt, path}
+use Rattle.strength.specs.Filling.{Walked}
 use Rattle.strength.proofs.Maxima.{greatest-some}
 use Rattle.strength.proofs.Paths.{All, Tie, lowestAt-found, lowestAt-cong, Reversible, path-reversible}
 use Rattle.ordering.specs.Order.{hasLoop}

@@ -1,9 +1,9 @@
 -- Deciding on a reversal: what `decide` answers about the tables of a panel is what the panel's definitions say.
-use mathlib.Core.Path.{_≡_, refl, sym, ap, ap₂, _∙_, subst}
-use mathlib.Core.Logic.{_≢_, ⊎-elim}
-use mathlib.Core.Bool.{Bool, true, false, not, _&&_, _||_}
+use mathlib.Core.Path.{_≡_, refl, sym, ap, ap₂, _∙_}
+use mathlib.Core.Logic.{⊎-elim}
+use mathlib.Core.Bool.{Bool, true, false, not}
 use mathlib.Core.List.{List, [], _∷_}
-use Prim.Native.Nat.{ℕ, zero, suc, _^_, _≤_, _<_}
+use Prim.Native.Nat.{ℕ, zero, suc, _<_}
 use native.Mathlib.Decide.{ℕ-discrete}
 use native.Mathlib.Omega.{arith}
 use borrow.Author.Tests.{eqb-true, ltb-true, lt-ltb}
@@ -12,34 +12,32 @@ use lib.ListN.{length, take, set, replicate, length-set}
 use lib.Seq.{getD-set-same, getD-set-other}
 use Rattle.fieldset.specs.Numbers
 use Rattle.fieldset.specs.Tables.{at}
-use Rattle.fieldset.specs.Fields.{member, with, without, below, only}
-use Rattle.fieldset.proofs.Numbers.{clash}
+use Rattle.fieldset.specs.Fields.{member, with, without, below}
 use Rattle.fieldset.proofs.Fields.{member-with, member-below, member-only}
 use Rattle.strength.specs.Strength.{greatest, strength, lowestAt, strongest, path}
-use Rattle.strength.specs.Filling.{Acyclic, Strengths, Within}
-use Rattle.strength.proofs.Paths.{All, Tie, strongest-found, lowestAt-cong}
+use Rattle.strength.specs.Filling.{Strengths, Within}
+use Rattle.strength.proofs.Paths.{All, strongest-found, lowestAt-cong}
 use Rattle.ordering.specs.Order.{hasLoop}
 use Rattle.ordering.specs.Walks.{Among}
 use Rattle.ordering.proofs.Sets.{or-cases, without-cases}
 use Rattle.ordering.proofs.Plan.{hasLoop-cong}
 use Rattle.panel.specs.declared.Link.{Link}
 use Rattle.panel.specs.declared.Panel.{Panel}
-use Rattle.panel.specs.Items.{Item, link, stay, linkAt, setterOf, outputsOf, readsOf, inForce, waits}
+use Rattle.panel.specs.Items.{Item, link, stay, setterOf, outputsOf, readsOf, inForce, waits}
 use Rattle.panel.specs.Solution.{level, setterLevel, setterOthers, setterReads, strengthOf, isBlocked, pathFor, reversed, isLooped}
 use Rattle.panel.specs.declared.Refusal.the-variants.{Loop}
 use Rattle.panel.specs.Answers.{Answer, refused}
 use Rattle.panel.specs.Panels.{moved}
 use Rattle.panel.specs.Steps.{accepted, turned}
-use Rattle.panel.specs.Legal.{Formed}
 use Rattle.panel.proofs.Turn.{numberOf, turn, alike-reads, reversed-size, reversed-alike}
-use Rattle.panel.proofs.Legal.{Carrying, Filled, used-small}
+use Rattle.panel.proofs.Legal.{Carrying, used-small}
 use Rattle.panel.proofs.Setters.{setter-force, setter-output, outputs-inside}
-use Rattle.panel.proofs.Reversal.{Leads, turned-setters, Start, startOf, start-of, blocking, path-for, route-for}
+use Rattle.panel.proofs.Reversal.{turned-setters, Start, startOf, start-of, blocking, path-for, route-for}
 use Rattle.tables.specs.Leaves.{TablesOf, itemOf, reversedReads}
 use Rattle.turning.specs.Turns.{Undecided, Decided}
 use Rattle.turning.proofs.Tables.{level-at, others-at, reads-at, table-inside, table-acyclic, table-among, table-strength, table-tied, greatest-same, path-same, length-table}
 use Rattle.turning.proofs.Steps.{turned-loop, turned-done, blocked-over}
-use Rattle.turning.proofs.Reversal.{coverOf, Covers, cover-link, cover-stay, Reading, reversed-reads}
+use Rattle.turning.proofs.Reversal.{coverOf, Covers, cover-link, cover-stay, reversed-reads}
 
 -- ---- the read fields after a reversal are fields of the panel
 

@@ -1,19 +1,18 @@
 -- What an operation gives, by the first check that applies.
-use mathlib.Core.Path.{_≡_, refl, sym, ap, _∙_, subst}
-use mathlib.Core.Bool.{Bool, true, false, not, _||_}
+use mathlib.Core.Path.{_≡_, sym, subst}
+use mathlib.Core.Bool.{Bool, true, false, _||_}
 use mathlib.Core.List.{List, [], _∷_}
-use Prim.Native.Nat.{ℕ, _≤_, _<_}
+use Prim.Native.Nat.{ℕ, _<_}
 use native.Mathlib.Omega.{arith}
-use borrow.Author.Tests.{lt-ltb, le-ltb, eq-eqb, ne-eqb}
+use borrow.Author.Tests.{lt-ltb, le-ltb}
 use lib.Dec.{eqb, ltb}
 use Rattle.panel.specs.declared.Panel.{Panel}
 use Rattle.panel.specs.declared.Done.{Done}
 use Rattle.panel.specs.declared.Refusal.{Refusal}
-use Rattle.panel.specs.declared.Refusal.the-variants.{AlreadyOpen, BadSize, NotOpen}
+use Rattle.panel.specs.declared.Refusal.the-variants.{AlreadyOpen, BadSize}
 use Rattle.panel.specs.Answers.{Answer, answerOf, refused}
-use Rattle.panel.specs.Panels.{opened}
 use Rattle.panel.specs.Steps.{openStep}
-use Rattle.panel.specs.Commands.{Check, check, checked, isOpen, openChecks, Command, opening, performed}
+use Rattle.panel.specs.Commands.{Check, check, checked, isOpen, Command, opening, performed}
 use Rattle.panel.specs.Legal.{Legal}
 use Rattle.panel.proofs.Performed.{legal-performed}
 use Rattle.turning.specs.Outcomes.{Gives}

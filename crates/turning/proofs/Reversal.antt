@@ -1,25 +1,23 @@
 -- The table of read fields after a path is reversed is that of the reversed panel.
 use mathlib.Core.Path.{_≡_, refl, sym, ap, _∙_, subst}
-use mathlib.Core.Logic.{_≢_}
-use mathlib.Core.Bool.{Bool, true, false, not, _&&_, _||_}
+use mathlib.Core.Bool.{true}
 use mathlib.Core.List.{List, [], _∷_}
 use Prim.Native.Nat.{ℕ, _^_, _≤_, _<_}
 use native.Mathlib.Decide.{ℕ-discrete}
-use native.Mathlib.Nat.{lt-of-lt-of-le}
 use native.Mathlib.Omega.{arith}
-use borrow.Author.Tests.{eq-eqb, ne-eqb, eqb-true}
-use lib.Dec.{eqb}
+use borrow.Author.Tests.{eqb-true}
 use lib.ListN.{length, set, length-set}
 use lib.Seq.{getD-set-same, getD-set-other}
 use Rattle.fieldset.specs.Tables.{at}
 use Rattle.fieldset.specs.Fields.{member, with, without, only}
-use Rattle.fieldset.proofs.Fields.{ext-member, empty-of-none, member-empty, member-only, member-with-same, member-with-other, member-without-same, member-without-other, only-lt, with-lt, without-lt}
+use Rattle.fieldset.proofs.Fields.{ext-member, member-only, member-with-same, member-with-other, member-without-other, only-lt, with-lt}
 use Rattle.panel.specs.declared.Link.{Link}
-use Rattle.panel.specs.Items.{Item, link, stay, linkAt, outputsOf, readsOf, inForce}
+use Rattle.panel.specs.Items.{Item, link, stay, linkAt, outputsOf, readsOf}
 use Rattle.strength.proofs.Paths.{Distinct}
 use Rattle.panel.proofs.Turn.{put, put-here, put-there, turn}
 use Rattle.panel.proofs.Reversal.{Leads, leads-put}
 use Rattle.tables.specs.Leaves.{reversedReads}
+use Rattle.tables.proofs.Filling.{stay-others}
 
 -- the covered fields of an item
 abbrev pub coverOf : List Link → Item → ℕ
@@ -39,13 +37,6 @@ with-without m v hm l e = ext-member 64 (with (without m v) v) m (with-lt (witho
     go i h (yes d) = rw d (member-with-same (without m v) v l ∙ sym e)
     go i h (no d) = member-with-other (without m v) v i h d ∙ member-without-other m v i h d
 
-without-only : (v : ℕ) → without (only v) v ≡ 0
-without-only v = empty-of-none 64 (without (only v) v) (without-lt (only v) v) (λ i h. go i h (ℕ-discrete i v))
-  where
-    go : (i : ℕ) → i < 64 → Dec (i ≡ v) → member (without (only v) v) i ≡ false
-    go i h (yes d) = rw d (member-without-same (only v) v)
-    go i h (no d) = member-without-other (only v) v i h d ∙ member-only v i h ∙ ne-eqb i v d
-
 pub cover-link : (links : List Link) (i v : ℕ) → linkAt links i .covered < 2 ^ 64 → v < 64 → member (linkAt links i .covered) v ≡ true → Covers links (link i) v
 cover-link links i v hm l e = record { drops = refl; adds = with-without (linkAt links i .covered) v hm l e }
 
@@ -53,8 +44,8 @@ pub cover-stay : (links : List Link) (g v : ℕ) → v < 64 → member (only g) 
 cover-stay links g v l e =
     let same : v ≡ g = eqb-true v g (sym (member-only g v l) ∙ e) in
     rw same (record {
-      drops = without-only g;
-      adds = ap (λ (x : ℕ). with x g) (sym (without-only g)) ∙ with-without (only g) g (only-lt g) (rw same at l) (rw same at e);
+      drops = stay-others g;
+      adds = ap (λ (x : ℕ). with x g) (sym (stay-others g)) ∙ with-without (only g) g (only-lt g) (rw same at l) (rw same at e);
     })
 
 -- ---- the reversal of a path, over setters as a function

@@ -1,33 +1,27 @@
 -- Laws of the steps, by their cases.
-use mathlib.Core.Path.{_≡_, refl, sym, ap, ap₂, _∙_}
-use mathlib.Core.Logic.{_≢_}
-use mathlib.Core.Bool.{Bool, true, false, not, _&&_}
-use mathlib.Core.List.{List, [], _∷_}
-use mathlib.Core.Option.{Option, none, some}
-use Prim.Native.Nat.{ℕ, zero, suc, _≤_, _<_}
-use native.Mathlib.Nat.{not-suc-le-zero}
+use mathlib.Core.Path.{_≡_, refl, sym, ap, _∙_}
+use mathlib.Core.Bool.{Bool, true, false, not}
+use mathlib.Core.List.{List}
+use Prim.Native.Nat.{ℕ, _<_}
 use native.Mathlib.Omega.{arith}
-use borrow.Author.Tests.{eq-eqb, ne-eqb, lt-ltb, le-ltb}
-use lib.Dec.{eqb, ltb}
-use lib.ListN.{length, getD, set, replicate, length-replicate, getD-replicate}
+use borrow.Author.Tests.{eq-eqb}
+use lib.Dec.{ltb}
+use lib.ListN.{replicate, length-replicate, getD-replicate}
 use lib.Seq.{ext-getD}
-use Rattle.fieldset.specs.Numbers.{count, any}
 use Rattle.fieldset.specs.Tables.{at, tabulate}
 use Rattle.fieldset.specs.Fields.{member}
-use Rattle.fieldset.proofs.Numbers.{clash, count-none, count-cong}
+use Rattle.fieldset.proofs.Numbers.{count-none}
 use Rattle.fieldset.proofs.Tables.{length-tabulate, getD-tabulate}
 use Rattle.fieldset.proofs.Fields.{some-member}
 use Rattle.strength.specs.Strength.{greatest}
-use Rattle.panel.specs.declared.Link.{Link}
 use Rattle.panel.specs.declared.Panel.{Panel}
-use Rattle.panel.specs.declared.Refusal.{Refusal}
-use Rattle.panel.specs.declared.Refusal.the-variants.{Loop, Conflict}
-use Rattle.panel.specs.Items.{Item, link, stay, noLink, linkAt, outputsOf, waits}
-use Rattle.panel.specs.Answers.{Answer, refused}
-use Rattle.panel.specs.Panels.{opened, withLink, moved}
+use Rattle.panel.specs.declared.Refusal.the-variants.{Loop}
+use Rattle.panel.specs.Items.{Item, noLink, linkAt, outputsOf, waits}
+use Rattle.panel.specs.Answers.{refused}
+use Rattle.panel.specs.Panels.{opened, moved}
 use Rattle.panel.specs.Solution.{level, strengthOf, isBlocked, pathFor, reversed, isLooped}
 use Rattle.panel.specs.Steps.{accepted, turned}
-use Rattle.panel.specs.Legal.{Legal, Formed}
+use Rattle.panel.specs.Legal.{Legal}
 use Rattle.turning.proofs.Tables.{any-over}
 
 -- ---- moved

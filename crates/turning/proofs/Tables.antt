@@ -1,15 +1,15 @@
 -- The tables of a panel's setters say what the panel's own functions say: strengths, the greatest strength of a set, the path.
-use mathlib.Core.Path.{_≡_, refl, sym, ap, ap₂, _∙_}
+use mathlib.Core.Path.{_≡_, refl, ap, ap₂, _∙_}
 use mathlib.Core.Logic.{_≢_}
 use mathlib.Core.Bool.{Bool, true, false, _&&_}
-use mathlib.Core.List.{List, [], _∷_, _++_, append-nil}
+use mathlib.Core.List.{List, _∷_, _++_, append-nil}
 use Prim.Native.Nat.{ℕ, zero, suc, _+_, _-_, _≤_, _<_, max}
 use native.Mathlib.Nat.{lt-of-lt-of-le}
 use native.Mathlib.Decide.{decLt}
 use native.Mathlib.Omega.{arith}
 use borrow.Author.Tests.{eqb-false, lt-ltb, ltb-true}
 use lib.Dec.{eqb, ltb}
-use lib.ListN.{length, getD, drop, length-append, length-drop, drop-of-length-le, replicate, length-replicate, List·getD-append, getD-replicate, List·getD-eq-default}
+use lib.ListN.{length, drop, length-append, length-drop, drop-of-length-le, replicate, length-replicate, List·getD-append, getD-replicate, List·getD-eq-default}
 use lib.Seq.{getD-append-add, getD-drop}
 use Rattle.fieldset.specs.Numbers.{any}
 use Rattle.fieldset.specs.Tables.{at, tabulate}

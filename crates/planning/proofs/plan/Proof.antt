@@ -1,6 +1,6 @@
 -- `planning::plan` meets its contract: the rows of the fields passed stand in the buffer.
 use Prim.Native.Nat.{_-_}
-use mathlib.Core.Path.{_≡_, refl}
+use mathlib.Core.Path.{refl}
 use native.Mathlib.Omega.{arith}
 use borrow.Author.Needs.{needs}
 use Rattle.planning.proofs.Prepared.{Prepared, panel-acyclic, panel-among, prepared, Written, written-none, written-more, plan-closed, plan-done}

@@ -1,5 +1,4 @@
 -- `planning::put_row` meets its contract.
-use mathlib.Core.Path.{_≡_, refl}
 use native.Mathlib.Numerals.{add-one, add-two}
 use borrow.Author.Needs.{needs}
 use Rattle.planning.proofs.put_row.Statement.{statement}

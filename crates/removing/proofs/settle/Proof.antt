@@ -1,10 +1,7 @@
 -- `removing::settle` meets its contract.
-use mathlib.Core.Path.{refl, sym, subst}
-use mathlib.Core.List.{List}
+use mathlib.Core.Path.{refl}
 use mathlib.Core.Logic.{⊎-elim}
-use Prim.Native.Nat.{ℕ}
 use borrow.Author.Needs.{needs}
-use Rattle.tables.specs.Leaves.{PathOf}
 use Rattle.removing.proofs.Settling.{Taken, taken-link, taken-stay, link-small, stay-small, panel-acyclic, panel-strengths, undecided, settle-refused, settle-turned, settle-none}
 use Rattle.removing.proofs.settle.Statement.{statement}
 use Rattle.removing.proofs.settle.Tie as tie

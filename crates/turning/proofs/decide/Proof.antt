@@ -1,5 +1,4 @@
 -- `turning::decide` meets its contract.
-use mathlib.Core.Path.{_≡_, refl}
 use borrow.Author.Needs.{needs}
 use Rattle.turning.proofs.Deciding.{start-small, start-known, path-of, after-length, after-among, decided}
 use Rattle.turning.proofs.decide.Statement.{statement}
