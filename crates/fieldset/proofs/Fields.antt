@@ -11,7 +11,7 @@ use borrow.Author.Tests.{lt-ltb, le-ltb, eq-eqb, ne-eqb}
 use lib.Dec.{eqb, ltb}
 use lib.Pow.{pow-pos, pow-mono, mod-pow-add}
 use Rattle.fieldset.specs.Numbers.{lowest}
-use Rattle.fieldset.specs.Fields.{member, setOf, with, without, union, only, below, lowestOf, size, meets, within}
+use Rattle.fieldset.specs.Fields.{member, setOf, with, without, union, only, below, lowestOf, size, within}
 use Rattle.fieldset.proofs.Numbers.{clash, but, but-same, but-other, sum, sum-cong, sum-but, count-cong, count-none, count-but, count-mono, count-le, Lowest, lowest-is, lowest-none, lowest-before, lowest-bound, lowest-lt, lowest-true, lowest-le, any-here, any-none}
 
 -- ---- sets by their members

@@ -1,6 +1,6 @@
 -- A set of fields is one 64-bit number, bit i for field i (document 01, "Fields, links, stays").
 use Prim.Native.Nat.{ℕ, zero, suc, _+_, _/_, _%_, _^_}
-use mathlib.Core.Bool.{Bool, true, false, not, _&&_, _||_, cond}
+use mathlib.Core.Bool.{Bool, not, _&&_, _||_, cond}
 use lib.Dec.{eqb, ltb}
 use Rattle.fieldset.specs.Numbers.{count, any, lowest}
 

@@ -1,6 +1,6 @@
 -- The numbers below n that pass a test: how many there are, whether there is one, and the lowest.
 use Prim.Native.Nat.{ℕ, zero, suc}
-use mathlib.Core.Bool.{Bool, true, false, _||_, cond}
+use mathlib.Core.Bool.{Bool, false, _||_, cond}
 
 -- how many numbers below n pass the test
 unfoldable pub count : (ℕ → Bool) → ℕ → ℕ

@@ -1,11 +1,10 @@
 -- The numbers and values of a line's command and of a text's answer tell their cases apart. Assumes nothing.
 use mathlib.Core.Path.{_≡_, refl, sym, ap, _∙_}
-use mathlib.Core.Bool.{Bool, true, false, cond}
-use mathlib.Core.List.{List, [], _∷_}
+use mathlib.Core.Bool.{cond}
+use mathlib.Core.List.{List}
 use Prim.Native.Nat.{ℕ}
 use native.Mathlib.Omega.{arith}
 use lib.Dec.{eqb}
-use lib.ListN.{getD}
 use Rattle.fieldset.specs.Tables.{at}
 use Rattle.panel.proofs.Answers.{refusalAt, refusal-at}
 use Rattle.frames.specs.declared.Command.{Command}

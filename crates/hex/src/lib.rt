@@ -1,1 +1,151 @@
 // Hexadecimal, two digits a byte.
+ghost use mathlib.Core.Path.{_≡_};
+ghost use mathlib.Core.Bool.{true};
+ghost use mathlib.Core.List.{_∷_, []};
+ghost use Prim.Native.Nat.{_+_, _*_, _^_, _<_, _≤_};
+ghost use lib.ListN.{length, take, set};
+ghost use lib.Seq.{sets};
+ghost use Rattle.hex.specs.Hex.{isDigit, digitOf, charOf, areDigits, bytesOf, hexOf, lineOf};
+ghost use Rattle.hex.specs.Answers.{digitValues, digitRead, decodedValues, decoded, frameAfter};
+
+// What a character is: a digit's value, or another character.
+pub enum Digit {
+    Value(u8),
+    Other,
+}
+
+// What a line is: refused, or a frame of so many bytes.
+pub enum Decoded {
+    BadHex,
+    Frame(usize),
+}
+
+// The value of a digit.
+pub fn digit_of(c: u8) -> Digit
+    ensures { λ r. ⌜ digitValues r ≡ digitRead c ⌝ }
+{
+    if c < 48 {
+        Digit::Other
+    } else if c <= 57 {
+        Digit::Value(c - 48)
+    } else if c < 65 {
+        Digit::Other
+    } else if c <= 70 {
+        Digit::Value(c - 55)
+    } else {
+        Digit::Other
+    }
+}
+
+// The digit of a value.
+pub fn char_of(x: u8) -> u8
+    requires { ⌜ x < 16 ⌝ }
+    ensures { λ r. ⌜ r ≡ charOf x ⌝ }
+{
+    if x < 10 { x + 48 } else { x + 55 }
+}
+
+// x at a position, where there is one.
+pub fn store(out: &mut [u8], at: usize, x: u8)
+    ensures { λ _. ⌜ now (out .exit) ≡ set (now (out .entry)) at x ⌝ }
+{
+    if at < out.len() {
+        out[at] = x;
+    }
+}
+
+// A byte as two digits at a position, as far as they fit.
+pub fn put(out: &mut [u8], at: usize, b: u8)
+    requires { ⌜ at + 1 < 2 ^ 64 ⌝ }
+    ensures { λ _. ⌜ now (out .exit) ≡ sets (now (out .entry)) at (hexOf (b ∷ [])) ⌝ }
+{
+    store(out, at, char_of(b / 16));
+    store(out, at + 1, char_of(b % 16));
+}
+
+// Two bytes and the first n of rows as a line, with its LF, at a position, as far as it fits; the position behind it.
+pub fn put_line(out: &mut [u8], at: usize, a: u8, b: u8, rows: &[u8; 192], n: usize) -> usize
+    requires { ⌜ at + 389 < 2 ^ 64 ⌝ }
+    requires { ⌜ (n ≤ 192) × (length (now rows) ≡ 192) ⌝ }
+    ensures { λ r. ⌜ now (out .exit) ≡ sets (now (out .entry)) at (lineOf (a ∷ b ∷ take n (now (rows .entry)))) ⌝ }
+    ensures { λ r. ⌜ r ≡ at + length (lineOf (a ∷ b ∷ take n (now (rows .entry)))) ⌝ }
+{
+    put(out, at, a);
+    put(out, at + 2, b);
+    let mut i = 0;
+    while i < n {
+        put(out, at + 4 + 2 * i, rows[i]);
+        i += 1;
+    }
+    store(out, at + 4 + 2 * n, 10);
+    at + 5 + 2 * n
+}
+
+// Whether every character is a digit.
+pub fn are_digits(s: &[u8]) -> bool
+    ensures { λ r. ⌜ r ≡ areDigits (now (s .entry)) ⌝ }
+{
+    let mut i = 0;
+    while i < s.len() {
+        let d = digit_of(s[i]);
+        match d {
+            Digit::Value(_) => {}
+            Digit::Other => return false,
+        }
+        i += 1;
+    }
+    true
+}
+
+// The value of a character that is a digit.
+fn value(c: u8) -> u8
+    requires { ⌜ isDigit c ≡ true ⌝ }
+    ensures { λ r. ⌜ r ≡ digitOf c ⌝ }
+{
+    let d = digit_of(c);
+    match d {
+        Digit::Value(x) => x,
+        Digit::Other => 0,
+    }
+}
+
+// Two digits as a byte.
+fn byte(a: u8, b: u8) -> u8
+    requires { ⌜ (isDigit a ≡ true) × (isDigit b ≡ true) ⌝ }
+    ensures { λ r. ⌜ r ≡ digitOf a * 16 + digitOf b ⌝ }
+{
+    value(a) * 16 + value(b)
+}
+
+// The first bytes of a line of digits, at most 12.
+fn fill(s: &[u8], frame: &mut [u8; 12])
+    requires { ⌜ (areDigits (now s) ≡ true) × (length (now frame) ≡ 12) ⌝ }
+    ensures { λ _. ⌜ now (frame .exit) ≡ sets (now (frame .entry)) 0 (bytesOf (now (s .entry))) ⌝ }
+{
+    let mut i = 0;
+    while i < 12 && 2 * i + 1 < s.len() {
+        frame[i] = byte(s[2 * i], s[2 * i + 1]);
+        i += 1;
+    }
+}
+
+// A line: BadHex, or the length of its frame, whose first bytes, at most 12, are put into the buffer.
+pub fn decode(s: &[u8], frame: &mut [u8; 12]) -> Decoded
+    requires { ⌜ length (now frame) ≡ 12 ⌝ }
+    ensures { λ r. ⌜ decodedValues r ≡ decoded (now (s .entry)) ⌝ }
+    ensures { λ r. ⌜ now (frame .exit) ≡ frameAfter (now (s .entry)) (now (frame .entry)) ⌝ }
+{
+    let n = s.len();
+    if n == 0 {
+        return Decoded::BadHex;
+    }
+    if n % 2 == 1 {
+        return Decoded::BadHex;
+    }
+    if are_digits(s) {
+        fill(s, frame);
+        Decoded::Frame(n / 2)
+    } else {
+        Decoded::BadHex
+    }
+}

@@ -1,7 +1,6 @@
 -- Every item marked P holds of document 01's definitions: they give its text its output. By computation; assumes nothing.
 use mathlib.Core.Path.{_≡_, refl}
-use mathlib.Core.List.{List, [], _∷_, map}
-use Prim.Native.Nat.{ℕ}
+use mathlib.Core.List.{map}
 use Rattle.fieldset.specs.Numbers.{count, any, lowest}
 use Rattle.fieldset.specs.Tables.{tabulate}
 use Rattle.fieldset.specs.Fields.{member, setOf, with, without, only, within}
@@ -17,7 +16,7 @@ use Rattle.tally.specs.Tallies.{counted, tallied, threeBytes, tallyBytes}
 use Rattle.frames.specs.Frames.{isFrame, frameOf, commandOf, lineAnswer}
 use Rattle.frames.specs.Texts.{linesOf, refusalOf, output, outputOf}
 use Rattle.items.specs.Characters.{characters}
-use Rattle.items.specs.Items.{Item, items}
+use Rattle.items.specs.Items.{items}
 
 pub items-hold : map (λ i. outputOf (characters (i .text))) items ≡ map (λ i. characters (i .output)) items
 unfolding characters items outputOf output refusalOf linesOf lineAnswer commandOf frameOf isFrame tallyBytes threeBytes tallied counted lineOf hexOf bytesOf isHex areDigits charOf digitOf isDigit checked areFieldBytes isRising fieldsIn anyOf planStep touchStep removeStep addStep turned rowsOf isLooped planOf leastBlocked least reversed pathFor isBlocked strengthOf moved toFront opened itemsOf setterOf tabulate hasLoop order following next path strongest lowestAt strength greatest within only without with setOf member lowest any count

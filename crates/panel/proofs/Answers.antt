@@ -1,7 +1,6 @@
 -- The numbers and values of an answer tell its cases apart. Assumes nothing.
 use mathlib.Core.Path.{_≡_, refl, sym, ap, _∙_}
 use mathlib.Core.List.{List, [], _∷_}
-use mathlib.Core.Option.{Option, none, some}
 use Prim.Native.Nat.{ℕ}
 use native.Mathlib.Omega.{arith}
 use lib.ListN.{getD, drop}
@@ -11,7 +10,7 @@ use Rattle.panel.specs.declared.Reply.{Reply}
 use Rattle.panel.specs.declared.Reply.the-variants.{Accepted, Refused}
 use Rattle.panel.specs.declared.Blocked.{Blocked}
 use Rattle.panel.specs.declared.Blocked.the-variants.{Nothing, Link, Stay}
-use Rattle.panel.specs.Items.{Item, link, stay, foundOf}
+use Rattle.panel.specs.Items.{foundOf}
 use Rattle.panel.specs.Answers.{refusalBytes, replyBytes}
 
 -- the refusal of a number

@@ -6,7 +6,6 @@ use mathlib.Core.Bool.{true, false}
 use lib.ListN.{length}
 use Rattle.fieldset.specs.Tables.{at}
 use Rattle.fieldset.specs.Fields.{member, size}
-use Rattle.panel.specs.declared.Standing.{Standing}
 use Rattle.panel.specs.declared.Standing.the-variants.{Waiting, Holding}
 use Rattle.panel.specs.declared.Link.{Link}
 use Rattle.panel.specs.declared.Panel.{Panel}

@@ -1,7 +1,7 @@
 -- The four steps, on a command that has passed the checks: what is refused with Conflict or Loop, and what is done.
 use Prim.Native.Nat.{ℕ}
-use mathlib.Core.Bool.{Bool, true, false}
-use mathlib.Core.List.{List, [], _∷_}
+use mathlib.Core.Bool.{true, false}
+use mathlib.Core.List.{[], _∷_}
 use mathlib.Core.Option.{Option, none, some}
 use lib.Dec.{eqb}
 use Rattle.panel.specs.declared.Standing.{Standing}

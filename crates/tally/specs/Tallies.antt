@@ -1,6 +1,6 @@
 -- The tally: "lines, accepted, refused, last refusal number (00 if none)".
 use Prim.Native.Nat.{ℕ, _+_, _/_, _%_, min}
-use mathlib.Core.Bool.{Bool, true, false, cond}
+use mathlib.Core.Bool.{cond}
 use mathlib.Core.List.{List, [], _∷_, _++_}
 use lib.Dec.{eqb, ltb}
 use Rattle.tally.specs.declared.Tally.{Tally}

@@ -1,7 +1,6 @@
 -- `strength::top_of` meets its contract. The greatest so far with that of what is left is the greatest of the set; the measure is what is left.
-use mathlib.Core.Path.{_≡_, refl}
-use mathlib.Core.Bool.{Bool}
-use Prim.Native.Nat.{ℕ, max}
+use mathlib.Core.Path.{_≡_}
+use Prim.Native.Nat.{max}
 use native.Mathlib.Omega.{arith}
 use borrow.Author.Needs.{needs}
 use Rattle.fieldset.specs.Tables.{at}

@@ -1,0 +1,62 @@
+-- Lengths and bounds of digits, lines and frames. Assumes nothing.
+use mathlib.Core.Path.{_≡_, refl, sym, ap, ap₂, _∙_}
+use mathlib.Core.Bool.{true}
+use mathlib.Core.List.{List, [], _∷_, _++_}
+use Prim.Native.Nat.{ℕ, zero, suc, _+_, _*_, _/_, _%_, _<_}
+use native.Mathlib.Nat.{not-suc-le-zero}
+use native.Mathlib.Omega.{arith}
+use lib.ListN.{length, getD, length-append}
+use Rattle.hex.specs.Hex.{isDigit, digitOf, charOf, areDigits, bytesOf, hexOf, lineOf}
+use Rattle.hex.proofs.Digits.{and-true, digit-below, char-below}
+
+pub length-hex : (a : List ℕ) → length (hexOf a) ≡ 2 * length a
+unfolding hexOf
+length-hex [] = refl
+length-hex (x ∷ a) = omega (arith, length-hex a)
+
+pub length-line : (a : List ℕ) → length (lineOf a) ≡ 2 * length a + 1
+unfolding lineOf
+length-line a = omega (arith, length-append (hexOf a) (10 ∷ []), length-hex a)
+
+pub length-bytes : (s : List ℕ) → length (bytesOf s) ≡ length s / 2
+unfolding bytesOf
+length-bytes [] = refl
+length-bytes (a ∷ []) = refl
+length-bytes (a ∷ b ∷ s) = omega (arith, length-bytes s)
+
+-- the digits of bytes are bytes
+pub hex-below : (a : List ℕ) → ((k : ℕ) → getD a k 0 < 256) → (k : ℕ) → getD (hexOf a) k 0 < 256
+unfolding hexOf
+hex-below [] h k = omega arith
+hex-below (x ∷ a) h zero = char-below (x / 16) (omega (arith, h 0))
+hex-below (x ∷ a) h (suc zero) = char-below (x % 16) (omega arith)
+hex-below (x ∷ a) h (suc (suc k)) = hex-below a (λ j. h (suc j)) k
+
+-- a line of digits has bytes
+pub bytes-below : (s : List ℕ) → areDigits s ≡ true → (k : ℕ) → getD (bytesOf s) k 0 < 256
+unfolding areDigits bytesOf
+bytes-below [] e k = omega arith
+bytes-below (a ∷ []) e k = omega arith
+bytes-below (a ∷ b ∷ s) e zero =
+    let p = and-true (isDigit a) _ e in
+    let q = and-true (isDigit b) (areDigits s) (p .1) in
+    omega (arith, digit-below a (p .0), digit-below b (q .0))
+bytes-below (a ∷ b ∷ s) e (suc k) =
+    let p = and-true (isDigit a) _ e in
+    let q = and-true (isDigit b) (areDigits s) (p .1) in
+    bytes-below s (q .1) k
+
+pub hex-append : (a b : List ℕ) → hexOf (a ++ b) ≡ hexOf a ++ hexOf b
+unfolding hexOf
+hex-append [] b = refl
+hex-append (x ∷ a) b = ap (λ (t : List ℕ). charOf (x / 16) ∷ charOf (x % 16) ∷ t) (hex-append a b)
+
+pub byte-at : (s : List ℕ) (k : ℕ) → 2 * k + 1 < length s → getD (bytesOf s) k 0 ≡ digitOf (getD s (2 * k) 0) * 16 + digitOf (getD s (2 * k + 1) 0)
+unfolding bytesOf
+byte-at [] k h = absurd (not-suc-le-zero h)
+byte-at (a ∷ []) k h = absurd (omega arith)
+byte-at (a ∷ b ∷ s) zero h = refl
+byte-at (a ∷ b ∷ s) (suc k) h =
+    let e : 2 * suc k ≡ suc (suc (2 * k)) = omega arith in
+    let f : 2 * suc k + 1 ≡ suc (suc (2 * k + 1)) = omega arith in
+    byte-at s k (omega arith) ∙ ap₂ (λ (x : ℕ) (y : ℕ). digitOf (getD (a ∷ b ∷ s) x 0) * 16 + digitOf (getD (a ∷ b ∷ s) y 0)) (sym e) (sym f)

@@ -1,0 +1,117 @@
+-- Digits, one by one and in a line. Assumes nothing.
+use mathlib.Core.Path.{_≡_, refl, sym, ap, _∙_}
+use mathlib.Core.Bool.{Bool, true, false, _&&_, _||_, cond}
+use mathlib.Core.List.{List, [], _∷_}
+use Prim.Native.Nat.{ℕ, zero, suc, _+_, _-_, _≤_, _<_}
+use native.Mathlib.Nat.{not-suc-le-zero, le-of-suc-le-suc}
+use native.Mathlib.Numerals.{add-one}
+use native.Mathlib.Omega.{arith}
+use lib.Dec.{leb, ltb}
+use lib.ListN.{length, getD, drop, drop-of-length-le}
+use lib.Seq.{drop-cons}
+use borrow.Author.Tests.{le-leb, lt-leb, leb-true}
+use Rattle.hex.specs.Hex.{isDigit, digitOf, charOf, areDigits}
+use Rattle.hex.specs.Answers.{digitRead}
+
+pub and-true : (a b : Bool) → a && b ≡ true → (a ≡ true) × (b ≡ true)
+and-true true true h = (refl, refl)
+and-true true false h = let z : _≡_ {A = Bool} false true = h in (refl, z)
+and-true false b h = let z : _≡_ {A = Bool} false true = h in (z, cc)
+
+-- what each character is
+pub below-0 : (c : ℕ) → c < 48 → [] ≡ digitRead c
+unfolding digitRead isDigit
+below-0 c h = simp (lt-leb 48 c h, lt-leb 65 c (omega arith))
+
+pub from-0 : (c : ℕ) → 48 ≤ c → c ≤ 57 → (c - 48) ∷ [] ≡ digitRead c
+unfolding digitRead isDigit digitOf
+from-0 c h k = simp (le-leb 48 c h, le-leb c 57 k)
+
+pub below-A : (c : ℕ) → 57 < c → c < 65 → [] ≡ digitRead c
+unfolding digitRead isDigit
+below-A c h k = simp (le-leb 48 c (omega arith), lt-leb c 57 h, lt-leb 65 c k)
+
+pub from-A : (c : ℕ) → 65 ≤ c → c ≤ 70 → (c - 55) ∷ [] ≡ digitRead c
+unfolding digitRead isDigit digitOf
+from-A c h k = simp (le-leb 48 c (omega arith), lt-leb c 57 (omega arith), le-leb 65 c h, le-leb c 70 k)
+
+pub behind-F : (c : ℕ) → 70 < c → [] ≡ digitRead c
+unfolding digitRead isDigit
+behind-F c h = simp (le-leb 48 c (omega arith), lt-leb c 57 (omega arith), le-leb 65 c (omega arith), lt-leb c 70 h)
+
+-- what reading a character tells
+pub value-read : (c x : ℕ) → x ∷ [] ≡ digitRead c → (isDigit c ≡ true) × (x ≡ digitOf c)
+unfolding digitRead
+value-read c x e = go (isDigit c) e where
+  go : (b : Bool) → x ∷ [] ≡ cond b (digitOf c ∷ []) [] → (b ≡ true) × (x ≡ digitOf c)
+  go true h = (refl, cc)
+  go false h = let z : _≡_ {A = ℕ} 0 1 = cc in absurd (omega arith)
+
+other-read : (c : ℕ) → [] ≡ digitRead c → isDigit c ≡ false
+unfolding digitRead
+other-read c e = go (isDigit c) e where
+  go : (b : Bool) → [] ≡ cond b (digitOf c ∷ []) [] → b ≡ false
+  go true h = let z : _≡_ {A = ℕ} 0 1 = cc in absurd (omega arith)
+  go false h = refl
+
+pub not-other : (c : ℕ) → isDigit c ≡ true → [] ≡ digitRead c → ⊥
+not-other c e h =
+    let f = other-read c h in
+    let z : _≡_ {A = ℕ} 0 1 = cc in
+    omega arith
+
+-- the value of a digit is below 16
+pub digit-below : (c : ℕ) → isDigit c ≡ true → digitOf c < 16
+unfolding isDigit digitOf
+digit-below c e = go (leb c 57) refl where
+  last : (a b d : Bool) → a && false || b && d ≡ true → d ≡ true
+  last a b true h = refl
+  last true true false h = h
+  last true false false h = h
+  last false true false h = h
+  last false false false h = h
+
+  go : (b : Bool) → leb c 57 ≡ b → cond (leb c 57) (c - 48) (c - 55) < 16
+  go true h = rw h (omega (arith, leb-true c 57 h))
+  go false h = rw h (omega (arith, leb-true c 70 (last (leb 48 c) (leb 65 c) (leb c 70) (rw h at e))))
+
+-- the digit of a value is a byte
+pub char-below : (x : ℕ) → x < 16 → charOf x < 256
+unfolding charOf
+char-below x h = go (ltb x 10) where
+  go : (b : Bool) → cond b (x + 48) (x + 55) < 256
+  go true = omega arith
+  go false = omega arith
+
+-- the characters from i on decide whether all are digits
+pub record Read (s : List ℕ) (i : ℕ) : Type 0 where
+  pub within : i ≤ length s
+  pub rest : areDigits (drop i s) ≡ areDigits s
+
+pub read-none : (s : List ℕ) → Read s 0
+read-none s = record { within = omega arith; rest = refl }
+
+pub read-more : (s : List ℕ) (i x : ℕ) → Read s i → i < length s → x ∷ [] ≡ digitRead (getD s i 0) → Read s (i + 1)
+unfolding areDigits
+read-more s i x was h e =
+    let k = value-read (getD s i 0) x e .0 in
+    let on : areDigits (drop (i + 1) s) ≡ areDigits (drop i s) = rw (add-one, drop-cons s i 0 h) (simp k) in
+    record { within = omega arith; rest = on ∙ was .rest }
+
+-- another character, or the end
+pub read-other : (s : List ℕ) (i : ℕ) → Read s i → i < length s → [] ≡ digitRead (getD s i 0) → false ≡ areDigits s
+unfolding areDigits
+read-other s i was h e =
+    let k = other-read (getD s i 0) e in
+    let stop : areDigits (drop i s) ≡ false = rw (drop-cons s i 0 h) (simp k) in
+    sym stop ∙ was .rest
+
+pub read-end : (s : List ℕ) (i : ℕ) → Read s i → length s ≤ i → true ≡ areDigits s
+unfolding areDigits
+read-end s i was h = ap areDigits (sym (drop-of-length-le s {i = i} h)) ∙ was .rest
+
+pub digits-at : (s : List ℕ) (i : ℕ) → areDigits s ≡ true → i < length s → isDigit (getD s i 0) ≡ true
+unfolding areDigits
+digits-at [] i e h = absurd (not-suc-le-zero h)
+digits-at (c ∷ s) zero e h = and-true (isDigit c) (areDigits s) e .0
+digits-at (c ∷ s) (suc i) e h = digits-at s i (and-true (isDigit c) (areDigits s) e .1) (le-of-suc-le-suc h)

@@ -1,0 +1,5 @@
+pub mod Stores
+pub mod Digits
+pub mod Bytes
+pub mod Lines
+pub mod Answers

@@ -1,0 +1,35 @@
+-- Runs of stores. Assumes nothing.
+use mathlib.Core.Path.{_≡_, refl, sym, ap, _∙_}
+use mathlib.Core.List.{List, [], _∷_, _++_}
+use Prim.Native.Nat.{ℕ, zero, suc, _+_, _≤_, _<_}
+use native.Mathlib.Nat.{add-zero, add-suc, suc-add}
+use native.Mathlib.Numerals.{add-one}
+use native.Mathlib.Omega.{arith}
+use lib.ListN.{length, getD, take, set, length-take, length-set}
+use lib.Seq.{sets, set-out, take-suc}
+
+-- a run of stores, and a further run behind it
+pub sets-append : (l : List ℕ) (i : ℕ) (a b : List ℕ) → sets (sets l i a) (i + length a) b ≡ sets l i (a ++ b)
+sets-append l i [] b = ap (λ (k : ℕ). sets l k b) (add-zero i)
+sets-append l i (x ∷ a) b =
+    ap (λ (k : ℕ). sets (sets (set l i x) (suc i) a) k b) (add-suc i (length a) ∙ sym (suc-add i (length a))) ∙ sets-append (set l i x) (suc i) a b
+
+-- stores past the end change nothing
+pub sets-out : (l : List ℕ) (i : ℕ) (vs : List ℕ) → length l ≤ i → sets l i vs ≡ l
+sets-out l i [] h = refl
+sets-out l i (x ∷ vs) h =
+    let k : length (set l i x) ≤ suc i = omega (arith, length-set l i x) in
+    sets-out (set l i x) (suc i) vs k ∙ set-out l i x h
+
+-- so only as many count as fit
+pub sets-fit : (n : ℕ) (l : List ℕ) (i : ℕ) (vs : List ℕ) → length l ≤ i + n → sets l i (take n vs) ≡ sets l i vs
+sets-fit zero l i vs h = sym (sets-out l i vs (omega arith))
+sets-fit (suc n) l i [] h = refl
+sets-fit (suc n) l i (x ∷ vs) h = sets-fit n (set l i x) (suc i) vs (omega (arith, length-set l i x))
+
+-- one more store
+pub sets-more : (l : List ℕ) (n : ℕ) (vs : List ℕ) → n < length vs → set (sets l 0 (take n vs)) n (getD vs n 0) ≡ sets l 0 (take (n + 1) vs)
+sets-more l n vs h =
+    let e : n ≡ 0 + length (take n vs) = omega (arith, length-take n vs) in
+    ap (λ (k : ℕ). set (sets l 0 (take n vs)) k (getD vs n 0)) e ∙ sets-append l 0 (take n vs) (getD vs n 0 ∷ [])
+    ∙ ap (sets l 0) (sym (take-suc vs n 0 h)) ∙ ap (λ (k : ℕ). sets l 0 (take k vs)) (sym (add-one n))

@@ -1,0 +1,20 @@
+-- `tally::more` meets its contract. Assumes nothing.
+use borrow.Author.Tests.{lt-ltb, le-ltb}
+use Rattle.tally.specs.Tallies.{counted}
+use borrow.Author.Needs.{needs}
+use Rattle.tally.proofs.more.Statement.{statement}
+use Rattle.tally.proofs.more.Tie as tie
+
+add-result : tie.Need-add-result
+add-result c = search needs
+
+returns : tie.Need-returns
+unfolding counted
+returns c = simp (lt-ltb _ _ (c .if1 .taken))
+
+returns-2 : tie.Need-returns-2
+unfolding counted
+returns-2 c = simp (le-ltb _ _ (c .if1 .left))
+
+pub more-spec : {M : Type 1} → statement M
+more-spec = tie.close (tie.spec add-result returns returns-2)
