@@ -107,6 +107,8 @@ fn add_link(p: Panel, id: u8, level: u8, covered: u64, outputs: u64) -> Done
 }
 
 // Adds a link.
+// The contract rules out, for instance, counting an equal strength as blocked and setters that never change (must-fail: equal_is_blocked,
+// setters_never_change).
 pub fn add(p: Panel, id: u8, level: u8, bytes: &[u8]) -> Done
     requires { ⌜ Legal p ⌝ }
     ensures { λ r. ⌜ Gives r (performed p (adding id level (now (bytes .entry)))) ⌝ }

@@ -47,6 +47,7 @@ pub fn unopened() -> Panel
 }
 
 // Opens the panel with n fields.
+// The contract rules out, for instance, a panel of another size and a refusal of 64 fields (must-fail: one_field_only, size_64_refused).
 pub fn open(p: Panel, n: u8) -> Done
     requires { ⌜ Legal p ⌝ }
     ensures { λ r. ⌜ Gives r (performed p (opening n)) ⌝ }

@@ -24,6 +24,8 @@ fn put_row(rows: &mut [u8; 192], i: usize, f: u8, c: u8, s: u8)
 }
 
 // The plan: a row for each field, in the order of evaluation, at the start of the buffer.
+// The contract rules out, for instance, setter and strength swapped and the setter of another field (must-fail:
+// setter_and_strength_swapped, setter_of_another_field).
 pub fn plan(p: Panel, rows: &mut [u8; 192]) -> Reply
     requires { ⌜ Legal p × (length (now rows) ≡ 192) ⌝ }
     ensures { λ r. ⌜ Plans p r (now (rows .entry)) (now (rows .exit)) ⌝ }

@@ -89,6 +89,8 @@ fn settle(p: Panel, q: Panel) -> Done
 }
 
 // Removes a link.
+// The contract rules out, for instance, a field left without a setter and a moved count since the stay stepped in (must-fail:
+// stay_does_not_step_in, moved_since_the_stay_stepped_in).
 pub fn remove(p: Panel, id: u8) -> Done
     requires { ⌜ Legal p ⌝ }
     ensures { λ r. ⌜ Gives r (performed p (removing id)) ⌝ }

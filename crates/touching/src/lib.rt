@@ -44,6 +44,8 @@ fn to_front(place: &mut [u8; 64], f: usize)
 }
 
 // Touches a field: its stay becomes the strongest of the stays.
+// The contract rules out, for instance, an order that stays as it was and an invented moved count (must-fail: order_kept,
+// moved_count_invented).
 pub fn touch(p: Panel, f: u8) -> Done
     requires { ⌜ Legal p ⌝ }
     ensures { λ r. ⌜ Gives r (performed p (touching f)) ⌝ }
