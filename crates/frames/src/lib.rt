@@ -1,5 +1,11 @@
 // Lines of hexadecimal, one frame a line, and the text that they are in.
 use panel::Refusal;
+ghost use mathlib.Core.Path.{_≡_};
+ghost use Prim.Native.Nat.{_+_, _≤_};
+ghost use lib.ListN.{length, take, drop};
+ghost use Rattle.panel.specs.Commands.{hasBit6, anyOf};
+ghost use Rattle.frames.specs.Frames.{commandBytes};
+ghost use Rattle.frames.specs.Reading.{frameRead, Reaches, LineRead, upTo, behindOf};
 
 // What a line asks. The field bytes of an add stand beside it, in the frame.
 pub enum Command {
@@ -15,4 +21,127 @@ pub enum Command {
 pub enum Outcome {
     Length(usize),
     TextTooLong,
+}
+
+// A line's command, the first bytes of its frame, and how many of them count.
+pub struct Line {
+    pub command: Command,
+    pub frame: [u8; 12],
+    pub len: usize,
+}
+
+// Whether bit 6 is set in a field byte of a frame of n bytes.
+fn has_bit6(frame: &[u8; 12], n: usize) -> bool
+    requires { ⌜ (n ≤ 12) × (length (now frame) ≡ 12) ⌝ }
+    ensures { λ r. ⌜ r ≡ anyOf hasBit6 (drop 3 (take n (now (frame .entry)))) ⌝ }
+{
+    let mut i = 3;
+    while i < n {
+        if frame[i] / 64 % 2 == 1 {
+            return true;
+        }
+        i += 1;
+    }
+    false
+}
+
+// The command of a frame of n bytes, by its kind and length; the buffer has at most the first 12 of them.
+pub fn read_frame(frame: &[u8; 12], n: usize) -> Command
+    requires { ⌜ length (now frame) ≡ 12 ⌝ }
+    ensures { λ r. ⌜ commandBytes r (drop 3 (take n (now (frame .entry)))) ≡ frameRead n (now (frame .entry)) ⌝ }
+    ensures { λ r. ⌜ Reaches r n ⌝ }
+{
+    let kind = frame[0];
+    if kind == 1 {
+        if n == 2 {
+            return Command::Open(frame[1]);
+        }
+        return Command::Refused(Refusal::BadFrame);
+    }
+    if kind == 2 {
+        if n < 4 {
+            return Command::Refused(Refusal::BadFrame);
+        }
+        if 11 < n {
+            return Command::Refused(Refusal::BadFrame);
+        }
+        if has_bit6(frame, n) {
+            return Command::Refused(Refusal::BadFrame);
+        }
+        return Command::Add(frame[1], frame[2]);
+    }
+    if kind == 3 {
+        if n == 2 {
+            return Command::Remove(frame[1]);
+        }
+        return Command::Refused(Refusal::BadFrame);
+    }
+    if kind == 4 {
+        if n == 2 {
+            return Command::Touch(frame[1]);
+        }
+        return Command::Refused(Refusal::BadFrame);
+    }
+    if kind == 5 {
+        if n == 1 {
+            return Command::Plan;
+        }
+        return Command::Refused(Refusal::BadFrame);
+    }
+    Command::Refused(Refusal::BadFrame)
+}
+
+// The command of a line, with the bytes of its frame.
+pub fn read_line(line: &[u8]) -> Line
+    ensures { λ r. ⌜ LineRead (now (line .entry)) r ⌝ }
+{
+    let mut frame = [0u8; 12];
+    let d = hex::decode(line, &mut frame);
+    match d {
+        hex::Decoded::BadHex => {
+            let c = Command::Refused(Refusal::BadHex);
+            Line {
+                command: c,
+                frame: frame,
+                len: 0,
+            }
+        }
+        hex::Decoded::Frame(n) => {
+            let c = read_frame(&frame, n);
+            if n < 12 {
+                Line {
+                    command: c,
+                    frame: frame,
+                    len: n,
+                }
+            } else {
+                Line {
+                    command: c,
+                    frame: frame,
+                    len: 12,
+                }
+            }
+        }
+    }
+}
+
+// The position of the first LF from a position on, or the text's end.
+pub fn line_end(text: &[u8], from: usize) -> usize
+    ensures { λ r. ⌜ r ≡ from + upTo (drop from (now (text .entry))) ⌝ }
+{
+    let mut i = from;
+    while i < text.len() {
+        if text[i] == 10 {
+            return i;
+        }
+        i += 1;
+    }
+    i
+}
+
+// The position of the next line: behind an LF, or the text's end.
+pub fn behind(text: &[u8], end: usize) -> usize
+    ensures { λ r. ⌜ r ≡ behindOf end (length (now (text .entry))) ⌝ }
+{
+    if end < text.len() { end + 1 } else { end }
 }

@@ -106,14 +106,14 @@ pub fn strengths(levels: &[u8; 64], others: &[u64; 64], n: usize, table: &mut [u
 pub fn top_of(table: &[u8; 64], set: u64) -> u8
     ensures { λ r. ⌜ r ≡ greatest (member set) (at (now (table .entry))) 64 ⌝ }
 {
-    let mut top = 0u8;
+    let mut most = 0u8;
     let mut rest = set;
     while rest != 0 {
         let u = first(rest);
-        top = larger(top, table[u]);
+        most = larger(most, table[u]);
         rest = without_lowest(rest);
     }
-    top
+    most
 }
 
 // The fields of a set that have the strength s.

@@ -1,0 +1,126 @@
+-- The lines of a text: where a line ends, and what is behind it. Assumes nothing.
+use mathlib.Core.Path.{_≡_, refl, sym, ap, ap₂, _∙_}
+use mathlib.Core.Bool.{Bool, true, false, cond}
+use mathlib.Core.List.{List, [], _∷_}
+use Prim.Native.Nat.{ℕ, suc, _+_, _-_, _≤_, _<_}
+use native.Mathlib.Nat.{not-suc-le-zero}
+use native.Mathlib.Numerals.{add-one}
+use native.Mathlib.Omega.{arith}
+use lib.Dec.{ltb, eqb}
+use lib.ListN.{length, getD, take, drop, drop-of-length-le, length-drop}
+use lib.Seq.{drop-cons, drop-drop, take-add, drop-at, length-take-le}
+use borrow.Author.Tests.{ltb-true, ltb-false, eq-eqb, ne-eqb}
+use Rattle.frames.specs.Texts.{linesOf, before}
+use Rattle.frames.specs.Reading.{upTo, behindOf}
+
+-- ---- where a line ends
+
+pub up-to-on : (s : List ℕ) (i : ℕ) → i < length s → (getD s i 0 ≡ 10 → ⊥) → i + 1 + upTo (drop (i + 1) s) ≡ i + upTo (drop i s)
+unfolding upTo
+up-to-on s i h k = rw (add-one, drop-cons s i 0 h) (simp (ne-eqb (getD s i 0) 10 k) (omega arith))
+
+pub up-to-stop : (s : List ℕ) (i : ℕ) → i < length s → getD s i 0 ≡ 10 → i ≡ i + upTo (drop i s)
+unfolding upTo
+up-to-stop s i h k = rw (drop-cons s i 0 h) (simp (eq-eqb (getD s i 0) 10 k) (omega arith))
+
+pub up-to-end : (s : List ℕ) (i : ℕ) → length s ≤ i → i ≡ i + upTo (drop i s)
+unfolding upTo
+up-to-end s i h = rw (drop-of-length-le s {i = i} h) (omega arith)
+
+pub up-to-le : (s : List ℕ) → upTo s ≤ length s
+unfolding upTo
+up-to-le [] = omega arith
+up-to-le (c ∷ s) = go (eqb c 10) (up-to-le s) where
+  go : (b : Bool) → upTo s ≤ length s → cond b 0 (suc (upTo s)) ≤ suc (length s)
+  go true h = omega arith
+  go false h = omega arith
+
+-- ---- the first line and the rest
+
+pub lines-none : linesOf [] ≡ []
+unfolding linesOf
+lines-none = refl
+
+-- an LF ends a line; another character belongs to the first line
+lines-lf : (c : ℕ) (s : List ℕ) → eqb c 10 ≡ true → linesOf (c ∷ s) ≡ [] ∷ linesOf s
+unfolding linesOf
+lines-lf c s e = simp e
+
+lines-other : (c : ℕ) (s : List ℕ) → eqb c 10 ≡ false → linesOf (c ∷ s) ≡ before c (linesOf s)
+unfolding linesOf
+lines-other c s e = simp e
+
+in-front : (c : ℕ) (s : List ℕ) → (0 < length s → linesOf s ≡ take (upTo s) s ∷ linesOf (drop (suc (upTo s)) s))
+    → before c (linesOf s) ≡ (c ∷ take (upTo s) s) ∷ linesOf (drop (suc (upTo s)) s)
+unfolding linesOf upTo
+in-front c [] h = refl
+in-front c (d ∷ s) h = ap (before c) (h (omega arith))
+
+lines-first : (s : List ℕ) → 0 < length s → linesOf s ≡ take (upTo s) s ∷ linesOf (drop (suc (upTo s)) s)
+unfolding upTo
+lines-first [] h = absurd (not-suc-le-zero h)
+lines-first (c ∷ s) h = go (eqb c 10) refl (in-front c s (lines-first s)) where
+  go : (b : Bool) → eqb c 10 ≡ b → before c (linesOf s) ≡ (c ∷ take (upTo s) s) ∷ linesOf (drop (suc (upTo s)) s)
+      → linesOf (c ∷ s) ≡ take (cond b 0 (suc (upTo s))) (c ∷ s) ∷ linesOf (drop (suc (cond b 0 (suc (upTo s)))) (c ∷ s))
+  go true e i = lines-lf c s e
+  go false e i = lines-other c s e ∙ i
+
+pub lines-few : (s : List ℕ) → length (linesOf s) ≤ length s
+unfolding linesOf
+lines-few [] = omega arith
+lines-few (c ∷ s) = go (eqb c 10) (lines-few s) (linesOf s) refl where
+  go : (b : Bool) → length (linesOf s) ≤ length s → (ls : List (List ℕ)) → linesOf s ≡ ls → length (cond b ([] ∷ ls) (before c ls)) ≤ suc (length s)
+  go true h ls e = omega (arith, ap length e)
+  go false h [] e = omega arith
+  go false h (x ∷ ls) e = omega (arith, ap length e)
+
+-- ---- the line from a position of a text, its end, and the position behind it
+
+module _ (text : List ℕ) (from end : ℕ) (h : from < length text) (e : end ≡ from + upTo (drop from text)) where
+  pub end-from : from ≤ end
+  end-from = omega arith
+
+  pub end-within : end ≤ length text
+  end-within = omega (arith, up-to-le (drop from text), length-drop from text)
+
+  pub behind-within : behindOf end (length text) ≤ length text
+  unfolding behindOf
+  behind-within = go (ltb end (length text)) refl where
+    go : (b : Bool) → ltb end (length text) ≡ b → cond b (end + 1) end ≤ length text
+    go true t = omega (arith, ltb-true end (length text) t)
+    go false t = end-within
+
+  pub behind-on : from < behindOf end (length text)
+  unfolding behindOf
+  behind-on = go (ltb end (length text)) refl where
+    go : (b : Bool) → ltb end (length text) ≡ b → from < cond b (end + 1) end
+    go true t = omega arith
+    go false t = omega (arith, ltb-false end (length text) t)
+
+  behind-rest : drop (suc (upTo (drop from text))) (drop from text) ≡ drop (behindOf end (length text)) text
+  unfolding behindOf
+  behind-rest = drop-drop (suc (upTo (drop from text))) from text ∙ go (ltb end (length text)) refl where
+    go : (b : Bool) → ltb end (length text) ≡ b → drop (from + suc (upTo (drop from text))) text ≡ drop (cond b (end + 1) end) text
+    go true t = let k : from + suc (upTo (drop from text)) ≡ end + 1 = omega arith in ap (λ (i : ℕ). drop i text) k
+    go false t =
+        let k : length text ≤ end = ltb-false _ _ t in
+        let l : length text ≤ from + suc (upTo (drop from text)) = omega arith in
+        drop-of-length-le text l ∙ sym (drop-of-length-le text k)
+
+  pub lines-on : linesOf (drop from text) ≡ take (end - from) (drop from text) ∷ linesOf (drop (behindOf end (length text)) text)
+  lines-on =
+      let k : upTo (drop from text) ≡ end - from = omega arith in
+      lines-first (drop from text) (omega (arith, length-drop from text))
+      ∙ ap₂ (λ (n : ℕ) (r : List ℕ). take n (drop from text) ∷ linesOf r) k behind-rest
+
+  -- the same line as the code's slice
+  pub line-slice : drop from (take end text) ≡ take (end - from) (drop from text)
+  line-slice =
+      let k : end ≡ from + (end - from) = omega arith in
+      ap (λ (t : ℕ). drop from (take t text)) k
+      ∙ ap (drop from) (take-add from (end - from) text)
+      ∙ drop-at (take from text) (take (end - from) (drop from text)) from (length-take-le from text (omega arith))
+
+-- at the end of a text there is no further line
+pub lines-end : (text : List ℕ) (from : ℕ) → length text ≤ from → linesOf (drop from text) ≡ []
+lines-end text from h = ap linesOf (drop-of-length-le text h) ∙ lines-none

@@ -1,0 +1,20 @@
+-- `frames::behind` meets its contract. Assumes nothing.
+use borrow.Author.Tests.{lt-ltb, le-ltb}
+use Rattle.frames.specs.Reading.{behindOf}
+use borrow.Author.Needs.{needs}
+use Rattle.frames.proofs.behind.Statement.{statement}
+use Rattle.frames.proofs.behind.Tie as tie
+
+add-result : tie.Need-add-result
+add-result c = search needs
+
+returns : tie.Need-returns
+unfolding behindOf
+returns c = simp (lt-ltb _ _ (c .if1 .taken))
+
+returns-2 : tie.Need-returns-2
+unfolding behindOf
+returns-2 c = simp (le-ltb _ _ (c .if1 .left))
+
+pub behind-spec : {M : Type 1} → statement M
+behind-spec = tie.close (tie.spec add-result returns returns-2)

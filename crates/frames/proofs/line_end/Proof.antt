@@ -1,0 +1,61 @@
+-- `frames::line_end` meets its contract. The loop's invariant: from the position on the line ends where it does from the start on.
+-- The measure is what is left of the text. Assumes nothing.
+use borrow.Author.Needs.{needs}
+use mathlib.Core.Path.{_≡_, refl, _∙_}
+use Prim.Native.Nat.{_+_, _-_}
+use native.Mathlib.Omega.{arith}
+use lib.ListN.{length, drop}
+use Rattle.frames.specs.Reading.{upTo}
+use Rattle.frames.proofs.Lines.{up-to-on, up-to-stop, up-to-end}
+use Rattle.frames.proofs.line_end.Statement.{statement}
+use Rattle.frames.proofs.line_end.Tie as tie
+
+abbrev Inv-loop : tie.InvT-loop
+Inv-loop text from i₀ i = i + upTo (drop i text) ≡ from + upTo (drop from text)
+
+abbrev μ-loop : tie.MeasureT-loop
+μ-loop text from i₀ i = length text - i
+
+loop-holds : tie.Need-loop-holds Inv-loop μ-loop
+loop-holds c = refl
+
+shared-slice-read-if1 : tie.Need-shared-slice-read-if1 Inv-loop μ-loop
+shared-slice-read-if1 c = search needs
+
+returns : tie.Need-returns Inv-loop μ-loop
+returns c =
+    let a = c .before .before .before .loop in
+    let b = c .before .before .before .before in
+    up-to-stop (b .args .text .now) (a .i) (omega arith) (c .if1 .taken) ∙ a .inv
+
+add-i : tie.Need-add-i Inv-loop μ-loop
+add-i c = search needs
+
+loop-less : tie.Need-loop-less Inv-loop μ-loop
+loop-less c = search needs
+
+loop-again : tie.Need-loop-again Inv-loop μ-loop
+loop-again c =
+    let a = c .before .before .before .loop in
+    let b = c .before .before .before .before in
+    up-to-on (b .args .text .now) (a .i) (omega arith) (c .if1 .left) ∙ a .inv
+
+returns-2 : tie.Need-returns-2 Inv-loop μ-loop
+returns-2 c =
+    let a = c .before .loop in
+    let b = c .before .before in
+    up-to-end (b .args .text .now) (a .i) (omega arith) ∙ a .inv
+
+pub line-end-spec : {M : Type 1} → statement M
+line-end-spec =
+    tie.close
+    (tie.spec
+    Inv-loop
+    μ-loop
+    loop-holds
+    shared-slice-read-if1
+    returns
+    add-i
+    loop-less
+    loop-again
+    returns-2)
