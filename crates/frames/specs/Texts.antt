@@ -30,12 +30,33 @@ linesOf (c ∷ s) = cond (eqb c 10) ([] ∷ linesOf s) (before c (linesOf s))
 unfoldable pub refusalOf : List ℕ → ℕ
 refusalOf reply = cond (isRefusal reply) (at reply 1) 0
 
+-- the panel after lines
+unfoldable pub panelAfter : Panel → List (List ℕ) → Panel
+panelAfter p [] = p
+panelAfter p (l ∷ ls) = panelAfter (lineAnswer p l .panel) ls
+
+-- the replies to lines, "one reply a line"
+unfoldable pub replies : Panel → List (List ℕ) → List (List ℕ)
+replies p [] = []
+replies p (l ∷ ls) =
+    let a = lineAnswer p l in
+    a .reply ∷ replies (a .panel) ls
+
+-- the tally after replies
+unfoldable pub tallyAfter : Tally → List (List ℕ) → Tally
+tallyAfter t [] = t
+tallyAfter t (r ∷ rs) = tallyAfter (tallied t (refusalOf r)) rs
+
+-- replies as lines
+unfoldable pub written : List (List ℕ) → List ℕ
+written [] = []
+written (r ∷ rs) = lineOf r ++ written rs
+
 -- "one reply a line, then the tally", from a panel and a tally on
 unfoldable pub output : Panel → Tally → List (List ℕ) → List ℕ
-output p t [] = lineOf (tallyBytes t)
-output p t (l ∷ ls) =
-    let a = lineAnswer p l in
-    lineOf (a .reply) ++ output (a .panel) (tallied t (refusalOf (a .reply))) ls
+output p t lines =
+    let rs = replies p lines in
+    written rs ++ lineOf (tallyBytes (tallyAfter t rs))
 
 -- "TextTooLong, over 65,535 bytes"
 abbrev pub isTooLong : List ℕ → Bool
