@@ -23,31 +23,28 @@ byte-put o o₁ o₂ at b x y ex e₁ ey e₂ =
     e₂ ∙ ap₂ (λ (l : List ℕ) (z : ℕ). set l (at + 1) z) (e₁ ∙ ap (set o at) ex) ey
     ∙ ap (λ (k : ℕ). set (set o at (charOf (b / 16))) k (charOf (b % 16))) (add-one at)
 
--- the first i rows of n are written at p
-pub record Written (rows before after : List ℕ) (p n i : ℕ) : Type 0 where
-  pub within : i ≤ n
-  pub digits : after ≡ sets before p (hexOf (take i rows))
+-- the first i bytes are written at p
+pub record Written (bytes before after : List ℕ) (p i : ℕ) : Type 0 where
+  pub within : i ≤ length bytes
+  pub digits : after ≡ sets before p (hexOf (take i bytes))
 
-pub written-none : (rows o : List ℕ) (p n : ℕ) → Written rows o o p n 0
+pub written-none : (bytes o : List ℕ) (p : ℕ) → Written bytes o o p 0
 unfolding hexOf
-written-none rows o p n = record { within = omega arith; digits = refl }
+written-none bytes o p = record { within = omega arith; digits = refl }
 
-pub written-more : (rows o q after : List ℕ) (p n i : ℕ) → Written rows o q p n i → i < n → n ≤ length rows
-    → after ≡ sets q (p + 2 * i) (hexOf (getD rows i 0 ∷ [])) → Written rows o after p n (i + 1)
-written-more rows o q after p n i was less fits e = record { within = omega arith; digits = e ∙ row } where
-  h : i < length rows
-  h = omega arith
+pub written-more : (bytes o q after : List ℕ) (p i : ℕ) → Written bytes o q p i → i < length bytes
+    → after ≡ sets q (p + 2 * i) (hexOf (getD bytes i 0 ∷ [])) → Written bytes o after p (i + 1)
+written-more bytes o q after p i was less e = record { within = omega arith; digits = e ∙ more } where
+  place : p + 2 * i ≡ p + length (hexOf (take i bytes))
+  place = omega (arith, length-hex (take i bytes), length-take i bytes)
 
-  place : p + 2 * i ≡ p + length (hexOf (take i rows))
-  place = omega (arith, length-hex (take i rows), length-take i rows)
+  more : sets q (p + 2 * i) (hexOf (getD bytes i 0 ∷ [])) ≡ sets o p (hexOf (take (i + 1) bytes))
+  more =
+      ap₂ (λ (l : List ℕ) (k : ℕ). sets l k (hexOf (getD bytes i 0 ∷ []))) (was .digits) place
+      ∙ sets-append o p (hexOf (take i bytes)) (hexOf (getD bytes i 0 ∷ []))
+      ∙ ap (sets o p) (sym (hex-append (take i bytes) (getD bytes i 0 ∷ [])) ∙ ap hexOf (sym (take-suc bytes i 0 less) ∙ ap (λ (k : ℕ). take k bytes) (sym (add-one i))))
 
-  row : sets q (p + 2 * i) (hexOf (getD rows i 0 ∷ [])) ≡ sets o p (hexOf (take (i + 1) rows))
-  row =
-      ap₂ (λ (l : List ℕ) (k : ℕ). sets l k (hexOf (getD rows i 0 ∷ []))) (was .digits) place
-      ∙ sets-append o p (hexOf (take i rows)) (hexOf (getD rows i 0 ∷ []))
-      ∙ ap (sets o p) (sym (hex-append (take i rows) (getD rows i 0 ∷ [])) ∙ ap hexOf (sym (take-suc rows i 0 h) ∙ ap (λ (k : ℕ). take k rows) (sym (add-one i))))
-
--- a whole line: two bytes, the rows, LF
+-- a whole line: two bytes, further ones, LF
 line-done : (o : List ℕ) (at a b : ℕ) (r : List ℕ)
     → set (sets (sets (sets o at (hexOf (a ∷ []))) (at + 2) (hexOf (b ∷ []))) (at + 4) (hexOf r)) (at + 4 + 2 * length r) 10
     ≡ sets o at (lineOf (a ∷ b ∷ r))
@@ -60,16 +57,15 @@ line-done o at a b r =
     ∙ ap (λ (t : List ℕ). sets t (at + 4) (hexOf r ++ (10 ∷ []))) (sets-append o at (hexOf (a ∷ [])) (hexOf (b ∷ [])))
     ∙ sets-append o at (hexOf (a ∷ b ∷ [])) (hexOf r ++ (10 ∷ []))
 
-pub line-put : (rows o o₁ o₂ o₃ o₄ : List ℕ) (at a b n i : ℕ) → n ≤ length rows
-    → o₁ ≡ sets o at (hexOf (a ∷ [])) → o₂ ≡ sets o₁ (at + 2) (hexOf (b ∷ [])) → Written rows o₂ o₃ (at + 4) n i → n ≤ i → o₄ ≡ set o₃ (at + 4 + 2 * n) 10
-    → (o₄ ≡ sets o at (lineOf (a ∷ b ∷ take n rows))) × (at + 5 + 2 * n ≡ at + length (lineOf (a ∷ b ∷ take n rows)))
-line-put rows o o₁ o₂ o₃ o₄ at a b n i fits e₁ e₂ was less e₄ =
-    let same : i ≡ n = omega arith in
-    let size : n ≡ length (take n rows) = omega (arith, length-take n rows) in
-    let all : o₃ ≡ sets o₂ (at + 4) (hexOf (take n rows)) = rw same at (was .digits) in (
-      e₄ ∙ ap₂ (λ (l : List ℕ) (k : ℕ). set l (at + 4 + 2 * k) 10) (all ∙ ap (λ (l : List ℕ). sets l (at + 4) (hexOf (take n rows))) (e₂ ∙ ap (λ (l : List ℕ). sets l (at + 2) (hexOf (b ∷ []))) e₁)) size
-          ∙ line-done o at a b (take n rows),
-      omega (arith, length-line (a ∷ b ∷ take n rows)),
+pub line-put : (rest o o₁ o₂ o₃ o₄ : List ℕ) (at a b i : ℕ)
+    → o₁ ≡ sets o at (hexOf (a ∷ [])) → o₂ ≡ sets o₁ (at + 2) (hexOf (b ∷ [])) → Written rest o₂ o₃ (at + 4) i → length rest ≤ i
+    → o₄ ≡ set o₃ (at + 4 + 2 * length rest) 10
+    → (o₄ ≡ sets o at (lineOf (a ∷ b ∷ rest))) × (at + 5 + 2 * length rest ≡ at + length (lineOf (a ∷ b ∷ rest)))
+line-put rest o o₁ o₂ o₃ o₄ at a b i e₁ e₂ was end e₄ =
+    let all : o₃ ≡ sets o₂ (at + 4) (hexOf rest) = was .digits ∙ ap (λ (l : List ℕ). sets o₂ (at + 4) (hexOf l)) (take-all i rest end) in (
+      e₄ ∙ ap (λ (l : List ℕ). set l (at + 4 + 2 * length rest) 10) (all ∙ ap (λ (l : List ℕ). sets l (at + 4) (hexOf rest)) (e₂ ∙ ap (λ (l : List ℕ). sets l (at + 2) (hexOf (b ∷ []))) e₁))
+          ∙ line-done o at a b rest,
+      omega (arith, length-line (a ∷ b ∷ rest)),
     )
 
 and-false : (a : Bool) → a && false ≡ false

@@ -2,8 +2,8 @@
 ghost use mathlib.Core.Path.{_≡_};
 ghost use mathlib.Core.Bool.{true};
 ghost use mathlib.Core.List.{_∷_, []};
-ghost use Prim.Native.Nat.{_+_, _*_, _^_, _<_, _≤_};
-ghost use lib.ListN.{length, take, set};
+ghost use Prim.Native.Nat.{_+_, _*_, _^_, _<_};
+ghost use lib.ListN.{length, set};
 ghost use lib.Seq.{sets};
 ghost use Rattle.hex.specs.Hex.{isDigit, digitOf, charOf, areDigits, bytesOf, hexOf, lineOf};
 ghost use Rattle.hex.specs.Answers.{digitValues, digitRead, decodedValues, decoded, frameAfter};
@@ -63,18 +63,18 @@ pub fn put(out: &mut [u8], at: usize, b: u8)
     store(out, at + 1, char_of(b % 16));
 }
 
-// Two bytes and the first n of rows as a line, with its LF, at a position, as far as it fits; the position behind it.
-pub fn put_line(out: &mut [u8], at: usize, a: u8, b: u8, rows: &[u8; 192], n: usize) -> usize
-    requires { ⌜ at + 389 < 2 ^ 64 ⌝ }
-    requires { ⌜ (n ≤ 192) × (length (now rows) ≡ 192) ⌝ }
-    ensures { λ r. ⌜ now (out .exit) ≡ sets (now (out .entry)) at (lineOf (a ∷ b ∷ take n (now (rows .entry)))) ⌝ }
-    ensures { λ r. ⌜ r ≡ at + length (lineOf (a ∷ b ∷ take n (now (rows .entry)))) ⌝ }
+// Two bytes and further ones as a line, with its LF, at a position, as far as it fits; the position behind it.
+pub fn put_line(out: &mut [u8], at: usize, a: u8, b: u8, rest: &[u8]) -> usize
+    requires { ⌜ at + 5 + 2 * length (now rest) < 2 ^ 64 ⌝ }
+    ensures { λ r. ⌜ now (out .exit) ≡ sets (now (out .entry)) at (lineOf (a ∷ b ∷ now (rest .entry))) ⌝ }
+    ensures { λ r. ⌜ r ≡ at + length (lineOf (a ∷ b ∷ now (rest .entry))) ⌝ }
 {
+    let n = rest.len();
     put(out, at, a);
     put(out, at + 2, b);
     let mut i = 0;
     while i < n {
-        put(out, at + 4 + 2 * i, rows[i]);
+        put(out, at + 4 + 2 * i, rest[i]);
         i += 1;
     }
     store(out, at + 4 + 2 * n, 10);

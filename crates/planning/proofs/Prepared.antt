@@ -13,14 +13,14 @@ use Rattle.strength.specs.Strength.{strength}
 use Rattle.strength.specs.Filling.{Acyclic}
 use Rattle.ordering.specs.Order.{order}
 use Rattle.ordering.specs.Walks.{Among}
-use Rattle.ordering.proofs.Plan.{no-loop-length, order-low, order-cong}
+use Rattle.ordering.proofs.Plan.{order-low, order-cong}
 use Rattle.panel.specs.declared.Panel.{Panel}
 use Rattle.panel.specs.declared.Refusal.the-variants.{NotOpen}
 use Rattle.panel.specs.declared.Reply.{Reply}
 use Rattle.panel.specs.declared.Reply.the-variants.{Accepted, Refused}
 use Rattle.panel.specs.Items.{stay}
 use Rattle.panel.specs.Answers.{Answer, refused, replyBytes}
-use Rattle.panel.specs.Solution.{setterReads, planOf, isLooped, rowsOf}
+use Rattle.panel.specs.Solution.{setterReads, planOf, rowsOf}
 use Rattle.panel.specs.Steps.{planStep}
 use Rattle.panel.specs.Commands.{isOpen, performed, planning}
 use Rattle.panel.specs.Legal.{Legal}
@@ -31,6 +31,7 @@ use Rattle.turning.specs.Outcomes.{Plans}
 use Rattle.turning.proofs.Tables.{at-table, reads-at, table-acyclic, table-among, table-strength}
 use Rattle.turning.proofs.Gives.{applies, passes, none-left}
 use Rattle.planning.proofs.Rows.{rowOf, rows-step}
+use Rattle.planning.proofs.Replies.{plan-long}
 
 -- every field's strength, and the fields of the plan
 pub record Prepared (p : Panel) (table listed : List ℕ) (count : ℕ) : Type 0 where
@@ -58,13 +59,9 @@ module _ (p : Panel) (h : Legal p) (levels others reads : List ℕ)
       order-cong (at reads) (setterReads p) (p .size)
       (λ f i l k. ap (λ (m : ℕ). member m i) (reads-at p (stay (p .size)) (whole p h) (h .loopless) levels others reads t f l))
 
-  plan-long : length (planOf p) ≡ p .size
-  unfolding planOf isLooped
-  plan-long = no-loop-length (setterReads p) (p .size) (h .loopless)
-
   plan-low : (i : ℕ) → i < p .size → at (planOf p) i < p .size
   unfolding planOf
-  plan-low i l = order-low (setterReads p) (p .size) (h .few) i (omega (arith, plan-long))
+  plan-low i l = order-low (setterReads p) (p .size) (h .few) i (omega (arith, plan-long p h))
 
   pub prepared : (table listed : List ℕ) (count : ℕ)
       → table ≡ tabulate (strength (at levels) (at others) (p .size)) (p .size) ++ drop (p .size) (replicate 64 0)
@@ -76,8 +73,8 @@ module _ (p : Panel) (h : Legal p) (levels others reads : List ℕ)
         ap (λ (x : List ℕ). at x f) st
         ∙ at-table (strength (at levels) (at others) (p .size)) (p .size) (replicate 64 0) f l
         ∙ table-strength p (stay (p .size)) (whole p h) (h .loopless) levels others reads t f l;
-    counted = co ∙ ap length same-order ∙ plan-long;
-    long = plan-long;
+    counted = co ∙ ap length same-order ∙ plan-long p h;
+    long = plan-long p h;
     fields = same;
     low = λ i l. rw (same i l) (plan-low i l);
   }
@@ -85,7 +82,7 @@ module _ (p : Panel) (h : Legal p) (levels others reads : List ℕ)
       same : (i : ℕ) → i < p .size → at listed i ≡ at (planOf p) i
       same i l =
           ap (λ (x : List ℕ). at x i) (li ∙ ap (λ (x : List ℕ). x ++ drop count (replicate 64 0)) same-order)
-          ∙ List·getD-append (planOf p) (drop count (replicate 64 0)) 0 i (omega (arith, plan-long))
+          ∙ List·getD-append (planOf p) (drop count (replicate 64 0)) 0 i (omega (arith, plan-long p h))
 
 -- ---- rows
 

@@ -1,6 +1,6 @@
--- `hex::put_line` meets its contract. The loop's invariant: the first `i` rows are written; the measure is how many are left.
+-- `hex::put_line` meets its contract. The loop's invariant: the first `i` further bytes are written; the measure is how many are left.
 -- Assumes nothing.
-use mathlib.Core.Path.{ap, _∙_}
+use mathlib.Core.Path.{_≡_, refl, ap, _∙_}
 use Prim.Native.Nat.{_+_, _-_}
 use native.Mathlib.Omega.{arith}
 use borrow.Author.Needs.{needs}
@@ -11,10 +11,10 @@ use Rattle.hex.proofs.put_line.Statement.{statement}
 use Rattle.hex.proofs.put_line.Tie as tie
 
 abbrev Inv-loop : tie.InvT-loop
-Inv-loop out₀ at a b rows n i₀ out i = Written rows out₀ out (at + 4) n i
+Inv-loop out₀ at a b rest n i₀ out i = (n ≡ length rest) × Written rest out₀ out (at + 4) i
 
 abbrev μ-loop : tie.MeasureT-loop
-μ-loop out₀ at a b rows n i₀ out i = n - i
+μ-loop out₀ at a b rest n i₀ out i = n - i
 
 put-requires : tie.Need-put-requires Inv-loop μ-loop
 put-requires c κs = search needs
@@ -26,7 +26,7 @@ put-requires-2 : tie.Need-put-requires-2 Inv-loop μ-loop
 put-requires-2 c κs = search needs
 
 loop-holds : tie.Need-loop-holds Inv-loop μ-loop
-loop-holds c = written-none _ _ _ _
+loop-holds c = (refl, written-none _ _ _)
 
 add-put-2 : tie.Need-add-put-2 Inv-loop μ-loop
 add-put-2 c = search needs
@@ -37,8 +37,8 @@ mul-put c = search needs
 add-put-3 : tie.Need-add-put-3 Inv-loop μ-loop
 add-put-3 c = search needs
 
-element-copy-out-put : tie.Need-element-copy-out-put Inv-loop μ-loop
-element-copy-out-put c = search needs
+shared-slice-read-put : tie.Need-shared-slice-read-put Inv-loop μ-loop
+shared-slice-read-put c = search needs
 
 put-requires-3 : tie.Need-put-requires-3 Inv-loop μ-loop
 put-requires-3 c κs = search needs
@@ -52,7 +52,7 @@ loop-less c = search needs
 loop-again : tie.Need-loop-again Inv-loop μ-loop
 loop-again c =
     let a = c .before .before .before .before .before .before .loop in
-    written-more _ _ _ _ _ _ (a .i) (a .inv) (omega arith) (omega arith) (c .before .before .put3 .ensures)
+    (a .inv .0, written-more _ _ _ _ _ (a .i) (a .inv .1) (omega (arith, a .inv .0)) (c .before .before .put3 .ensures))
 
 add-store : tie.Need-add-store Inv-loop μ-loop
 add-store c = search needs
@@ -79,7 +79,7 @@ whole : tie.Need-returns Inv-loop μ-loop
 whole c =
     let a = c .before .before .before .before .before .loop in
     let p = c .before .before .before .before .before .before .before .before in
-    line-put _ _ _ _ _ _ _ _ _ _ (a .i) (omega arith) (p .before .before .before .before .put .ensures) (p .put2 .ensures) (a .inv) (omega arith) (c .before .before .store .ensures)
+    line-put _ _ _ _ _ _ _ _ _ (a .i) (p .before .before .before .before .put .ensures) (p .put2 .ensures) (a .inv .1) (omega (arith, a .inv .0)) (c .before .before .store .ensures)
 
 same-length : tie.Need-same-length Inv-loop μ-loop
 same-length c = ap length (whole c .0) ∙ simp length-sets
@@ -100,7 +100,7 @@ put-line-spec =
     add-put-2
     mul-put
     add-put-3
-    element-copy-out-put
+    shared-slice-read-put
     put-requires-3
     add-i
     loop-less

@@ -1,0 +1,3 @@
+pub mod Arms
+pub mod Going
+pub mod Whole

@@ -1,0 +1,142 @@
+// The two operations on a text of lines.
+use frames::Command;
+use frames::Outcome;
+use panel::Done;
+use panel::Panel;
+use panel::Reply;
+use tally::Tally;
+ghost use mathlib.Core.Path.{_≡_};
+ghost use Prim.Native.Nat.{_+_, _*_, _^_, _≤_, _<_};
+ghost use lib.ListN.{length, drop};
+ghost use lib.Seq.{sets};
+ghost use Rattle.panel.specs.Legal.{Legal};
+ghost use Rattle.hex.specs.Hex.{lineOf};
+ghost use Rattle.tally.specs.Tallies.{tallyBytes};
+ghost use Rattle.frames.specs.Texts.{linesOf};
+ghost use Rattle.text.specs.Runs.{longest, fitting, Ran, Resumed, Told, Paced};
+
+// Where a run over a text stands: the position of the next line, the panel, the tally, and how many bytes were written.
+pub struct Progress {
+    pub next: usize,
+    pub panel: Panel,
+    pub tally: Tally,
+    pub written: usize,
+}
+
+// Answers whole lines while the room has place for a longest reply; what does not fit the buffer is counted, not stored.
+fn answer_lines(text: &[u8], from: usize, p: Panel, t: Tally, out: &mut [u8], room: usize) -> Progress
+    requires { ⌜ (from ≤ length (now text)) × Legal p × (room < 2 ^ 63) ⌝ }
+    ensures { λ r. ⌜ Ran (now (text .entry)) (linesOf (drop from (now (text .entry)))) (fitting room p (linesOf (drop from (now (text .entry))))) p t (now (out .entry)) (now (out .exit)) r ⌝ }
+    ensures { λ r. ⌜ Paced (now (text .entry)) from room (fitting room p (linesOf (drop from (now (text .entry))))) r ⌝ }
+{
+    let mut at = from;
+    let mut q = p;
+    let mut u = t;
+    let mut n: usize = 0;
+    let mut rows = [0u8; 192];
+    while at < text.len() && 389 <= room - n {
+        let end = frames::line_end(text, at);
+        let line = frames::read_line(&text[at..end]);
+        let command = line.command;
+        let frame = line.frame;
+        let len = line.len;
+        let mut count: usize = 0;
+        let d = match command {
+            Command::Open(n) => opening::open(q, n),
+            Command::Add(id, level) => {
+                let bytes = &frame[..len];
+                adding::add(q, id, level, &bytes[3..])
+            }
+            Command::Remove(id) => removing::remove(q, id),
+            Command::Touch(f) => touching::touch(q, f),
+            Command::Plan => {
+                count = 3 * q.size;
+                let reply = planning::plan(q, &mut rows);
+                Done {
+                    panel: q,
+                    reply: reply,
+                }
+            }
+            Command::Refused(r) => {
+                let reply = Reply::Refused(r);
+                Done {
+                    panel: q,
+                    reply: reply,
+                }
+            }
+        };
+        q = d.panel;
+        let reply = d.reply;
+        let b = frames::reply_bytes(reply);
+        n = hex::put_line(out, n, b[0], b[1], &rows[..count]);
+        u = tally::counted_line(u, frames::refusal_of(b[0], b[1]));
+        at = frames::behind(text, end);
+    }
+    Progress {
+        next: at,
+        panel: q,
+        tally: u,
+        written: n,
+    }
+}
+
+// Goes on from a position of a text: answers whole lines while a longest reply, with its LF, still fits the buffer.
+pub fn lines_from(text: &[u8], from: usize, p: Panel, t: Tally, out: &mut [u8]) -> Progress
+    requires { ⌜ (from ≤ length (now text)) × Legal p ⌝ }
+    ensures { λ r. ⌜ Ran (now (text .entry)) (linesOf (drop from (now (text .entry)))) (fitting (length (now (out .entry))) p (linesOf (drop from (now (text .entry))))) p t (now (out .entry)) (now (out .exit)) r ⌝ }
+    ensures { λ r. ⌜ Resumed (now (text .entry)) from p t (now (out .entry)) (now (out .exit)) r ⌝ }
+{
+    let room = out.len();
+    answer_lines(text, from, p, t, out, room)
+}
+
+// The tally's line at a position, as far as it fits; the position behind it.
+pub fn put_tally(out: &mut [u8], at: usize, t: Tally) -> usize
+    requires { ⌜ at + 23 < 2 ^ 64 ⌝ }
+    ensures { λ r. ⌜ now (out .exit) ≡ sets (now (out .entry)) at (lineOf (tallyBytes t)) ⌝ }
+    ensures { λ r. ⌜ r ≡ at + length (lineOf (tallyBytes t)) ⌝ }
+{
+    let bytes = tally::tally_bytes(t);
+    let first = bytes[0];
+    let second = bytes[1];
+    let all = &bytes[..11];
+    hex::put_line(out, at, first, second, &all[2..])
+}
+
+// A text's outcome, and the tally after it.
+pub struct Counted {
+    pub outcome: Outcome,
+    pub tally: Tally,
+}
+
+// The length of a text's whole output, from an unopened panel and a tally on, and as many of its first bytes as fit the buffer.
+pub fn run_counted(text: &[u8], out: &mut [u8], t: Tally) -> Counted
+    ensures { λ r. ⌜ Told (now (text .entry)) t (r .tally) (now (out .entry)) (now (out .exit)) (r .outcome) ⌝ }
+{
+    if 65535 < text.len() {
+        let outcome = Outcome::TextTooLong;
+        return Counted {
+            outcome: outcome,
+            tally: t,
+        };
+    }
+    // room for a longest reply to each of 65,535 lines
+    let r = answer_lines(text, 0, opening::unopened(), t, out, 25493115);
+    let u = r.tally;
+    let n = put_tally(out, r.written, u);
+    let outcome = Outcome::Length(n);
+    Counted {
+        outcome: outcome,
+        tally: u,
+    }
+}
+
+// The same, from a panel that is not opened and the tally that the caller lends.
+pub fn run_text(text: &[u8], out: &mut [u8], t: &mut Tally) -> Outcome
+    ensures { λ r. ⌜ Told (now (text .entry)) (now (t .entry)) (now (t .exit)) (now (out .entry)) (now (out .exit)) r ⌝ }
+{
+    let before = *t;
+    let a = run_counted(text, out, before);
+    *t = a.tally;
+    a.outcome
+}
