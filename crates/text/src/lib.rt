@@ -24,7 +24,14 @@ pub struct Progress {
 }
 
 // Answers whole lines while the room has place for a longest reply; what does not fit the buffer is counted, not stored.
-fn answer_lines(text: &[u8], from: usize, p: Panel, t: Tally, out: &mut [u8], room: usize) -> Progress
+fn answer_lines(
+    text: &[u8],
+    from: usize,
+    p: Panel,
+    t: Tally,
+    out: &mut [u8],
+    room: usize,
+) -> Progress
     requires { ⌜ (from ≤ length (now text)) × Legal p × (room < 2 ^ 63) ⌝ }
     ensures { λ r. ⌜ Ran (now (text .entry)) (linesOf (drop from (now (text .entry)))) (fitting room p (linesOf (drop from (now (text .entry))))) p t (now (out .entry)) (now (out .exit)) r ⌝ }
     ensures { λ r. ⌜ Paced (now (text .entry)) from room (fitting room p (linesOf (drop from (now (text .entry))))) r ⌝ }
