@@ -1,0 +1,43 @@
+-- `panel_c::panel_run_text` meets its contract.
+use borrow.Author.Needs.{needs}
+use Rattle.panel_c.proofs.Told.{told-length, told-too-long}
+use Rattle.panel_c.proofs.panel_run_text.Statement.{statement}
+use Rattle.panel_c.proofs.panel_run_text.Tie as tie
+use Rattle.text.proofs.run_counted.Reads as run-counted-reads
+
+run-counted-requires : tie.Need-run-counted-requires
+run-counted-requires c κs = search needs
+
+enum-known-outcome : tie.Need-enum-known-outcome
+enum-known-outcome c = search needs
+
+enum-told : tie.Need-enum-told
+enum-told c = search needs
+
+same-length : tie.Need-same-length
+same-length c = search needs
+
+returns : tie.Need-returns
+returns c =
+    let a = c .before .before .before .before .before .run-counted .ensures in
+    (told-length _ _ _ (a .outcome) _ (c .before .outcome .given .1), a .buffer)
+
+same-length-2 : tie.Need-same-length-2
+same-length-2 c = search needs
+
+returns-2 : tie.Need-returns-2
+returns-2 c =
+    let a = c .before .before .before .before .run-counted .ensures in
+    (told-too-long _ _ _ (a .outcome) (c .enum-told .given .1), a .buffer)
+
+pub panel-run-text-spec : {M : Type 1} → statement M
+panel-run-text-spec =
+    tie.close
+    (tie.spec
+    run-counted-requires
+    enum-known-outcome
+    enum-told
+    same-length
+    returns
+    same-length-2
+    returns-2)
