@@ -2,9 +2,11 @@
 
 mod damage;
 mod frames;
+mod long;
 mod rng;
 
 pub use frames::{frames, Mix, MIXES};
+pub use long::long_text;
 pub use rng::Rng;
 
 use crate::plain::{hex, TEXT_LIMIT};
@@ -40,9 +42,14 @@ pub fn lines(rng: &mut Rng, mix: &Mix) -> Vec<Vec<u8>> {
         frames[..early].rotate_left(1);
     }
     let damaged_percent = *rng.pick(&[0, 0, mix.damaged_percent]);
+    damaged(rng, frames, damaged_percent)
+}
+
+/// Frames as lines, some of them damaged.
+fn damaged(rng: &mut Rng, frames: Vec<Vec<u8>>, percent: usize) -> Vec<Vec<u8>> {
     let mut lines = Vec::new();
     for frame in frames {
-        lines.push(match rng.percent(damaged_percent) {
+        lines.push(match rng.percent(percent) {
             true => damage::line(rng, frame),
             false => hex(&frame).into_bytes(),
         });

@@ -5,13 +5,8 @@ use harness::plain::{
     hex, lines, run_text, run_text_with, Panel, Refusal, Run, Standing, Tally, COUNT_CAP,
     TEXT_LIMIT,
 };
-
-/// The output lines of a text, the tally last.
-fn output(text: &str) -> Vec<String> {
-    let output = String::from_utf8(run_text(text.as_bytes())).expect("digits");
-    assert!(output.ends_with('\n'));
-    output.lines().map(String::from).collect()
-}
+use harness::worked::panels::{chain as chain_lines, chain_plan};
+use harness::worked::{self, Worked};
 
 /// The reply to the last of the lines, on an unopened panel.
 fn last_reply(lines: &[&str]) -> String {
@@ -24,14 +19,6 @@ fn check(cases: &[(&[&str], &str)]) {
     for (lines, reply) in cases {
         assert_eq!(last_reply(lines), *reply, "{lines:?}");
     }
-}
-
-// Reading 1.
-#[test]
-fn every_output_line_ends_in_lf() {
-    assert_eq!(run_text(b"0101"), b"0000\nEE00000100000100000000\n");
-    assert_eq!(run_text(&[b'0'; TEXT_LIMIT + 1]), b"FF0C\n");
-    assert_eq!(run_text(b""), b"EE00000000000000000000\n");
 }
 
 // Reading 2.
@@ -64,21 +51,10 @@ fn other_characters_are_bad_hex() {
 }
 
 #[test]
-fn lf_alone_is_one_empty_line() {
-    assert_eq!(output("\n"), ["FF01", "EE00000100000000000101"]);
-    assert_eq!(output("\n\n"), ["FF01", "FF01", "EE00000200000000000201"]);
-    assert_eq!(
-        output("0101\n\n"),
-        ["0000", "FF01", "EE00000200000100000101"]
-    );
+fn lines_of_a_text() {
     assert_eq!(lines(b""), Vec::<&[u8]>::new());
+    assert_eq!(lines(b"\n"), [b""]);
     assert_eq!(lines(b"A\nB"), lines(b"A\nB\n"));
-}
-
-#[test]
-fn crlf_text_is_refused_line_by_line() {
-    let replies = output("0101\r\n05\r\n");
-    assert_eq!(replies, ["FF01", "FF01", "EE00000200000000000201"]);
 }
 
 // Reading 3.
@@ -277,29 +253,6 @@ fn lent_panel_and_tally_go_on() {
     assert_eq!(run, before);
 }
 
-// Reading 7.
-#[test]
-fn long_lines() {
-    assert_eq!(
-        output(&"0".repeat(65_535)),
-        ["FF01", "EE00000100000000000101"]
-    );
-    assert_eq!(
-        output(&"05".repeat(32_767)),
-        ["FF02", "EE00000100000000000102"]
-    );
-    assert_eq!(
-        output(&"A".repeat(65_534)),
-        ["FF02", "EE00000100000000000102"]
-    );
-    assert_eq!(
-        output(&"G".repeat(65_534)),
-        ["FF01", "EE00000100000000000101"]
-    );
-    let bad_end = "02".repeat(32_766) + "0x";
-    assert_eq!(output(&bad_end), ["FF01", "EE00000100000000000101"]);
-}
-
 // Reading 8.
 #[test]
 fn adds_that_no_frame_can_hold() {
@@ -319,61 +272,37 @@ fn adds_that_no_frame_can_hold() {
     assert_eq!(panel.add(0, 0, &nine[..8]), Ok(1));
 }
 
-#[test]
-fn text_limit() {
-    let at_limit = "\n".repeat(65_535);
-    let expected = "FF01\n".repeat(65_535) + "EE00FFFF00000000FFFF01\n";
-    assert_eq!(run_text(at_limit.as_bytes()), expected.as_bytes());
-    assert_eq!(run_text((at_limit + "\n").as_bytes()), b"FF0C\n");
-}
-
-#[test]
-fn text_limit_counts_bytes_of_good_lines() {
-    let mut text = "0101\n".to_string() + &"05\n".repeat(21_843);
-    text += "\n";
-    assert_eq!(text.len(), 65_535);
-    let replies = output(&text);
-    assert_eq!(replies.len(), 21_846);
-    assert_eq!(replies[1..21_844], vec!["0001008010"; 21_843]);
-    assert_eq!(replies[21_844..], ["FF01", "EE00555500555400000101"]);
-    assert_eq!(output(&(text + "\n")), ["FF0C"]);
-}
-
-#[test]
-fn last_line_may_miss_its_lf() {
-    for text in ["0102\n02000081\n05", "0102\n0200008081\n06", "0102\n010"] {
-        let with_lf = text.to_string() + "\n";
-        assert_eq!(run_text(text.as_bytes()), run_text(with_lf.as_bytes()));
+/// Compares whole outputs.
+fn check_worked(texts: Vec<Worked>) {
+    for text in texts {
+        // Not assert_eq, which would print outputs of megabytes.
+        assert!(run_text(&text.text) == text.output, "{}", text.name);
     }
 }
 
-/// 57 required links over eight neighbouring fields each, all of them outputs.
-/// Link i sets field i + 7, the weakest at that time, and reads the seven
-/// below it, so strength is followed along very many ways.
+// Readings 1, 2 and 7.
+#[test]
+fn ends_of_lines_and_limit() {
+    check_worked(worked::edges::all());
+}
+
+#[test]
+fn full_panels() {
+    check_worked(worked::panels::all());
+}
+
+/// The chain of links with eight outputs each.
 fn chain() -> Run {
     let mut run = Run::default();
-    assert_eq!(run.line(b"0140"), "0000");
-    for id in 0..57 {
-        let mut frame = vec![2, id, 0];
-        frame.extend((id..id + 8).map(|field| field | 0x80));
-        assert_eq!(run.line(hex(&frame).as_bytes()), "0001", "link {id}");
+    for (line, reply) in chain_lines() {
+        assert_eq!(run.line(line.as_bytes()), reply, "{line}");
     }
     run
 }
 
-/// Fields 0 to 6 keep their stays. The strength of field 7 is the largest of
-/// those, 22, and it passes on to all the others.
 #[test]
 fn chain_of_eight_outputs() {
-    let run = chain();
-    let mut expected = vec![0, 64];
-    for field in 0..7 {
-        expected.extend([field, 0x80, 16 + field]);
-    }
-    for field in 7..64 {
-        expected.extend([field, field - 7, 22]);
-    }
-    assert_eq!(run.clone().line(b"05"), hex(&expected));
+    assert_eq!(chain().line(b"05"), chain_plan());
 }
 
 /// A link that may only set field 7: the walk goes from 7 to 6, whose stay has

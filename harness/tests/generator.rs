@@ -6,6 +6,7 @@ use harness::plain::{
     lines, new_link, read_frame, read_hex, run_text, Command, Item, Panel, Run, Standing,
     TEXT_LIMIT,
 };
+use harness::worked::tally_line;
 use std::collections::BTreeMap;
 
 const SEEDS: std::ops::Range<u64> = 0..520;
@@ -239,15 +240,6 @@ fn texts_meet_every_case() {
         .filter(|case| !cases.contains_key(**case))
         .collect();
     assert!(missing.is_empty(), "missing {missing:?} in {cases:#?}");
-}
-
-/// The tally line that belongs to the replies.
-fn tally_line(replies: &[String]) -> String {
-    let refusals: Vec<&String> = replies.iter().filter(|r| r.starts_with("FF")).collect();
-    let (lines, refused) = (replies.len(), refusals.len());
-    let accepted = lines - refused;
-    let last = refusals.last().map_or("00", |refusal| &refusal[2..]);
-    format!("EE{lines:06X}{accepted:06X}{refused:06X}{last}")
 }
 
 /// One reply a line, the same as line by line, then the tally of these replies.

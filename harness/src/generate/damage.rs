@@ -11,6 +11,18 @@ pub fn line(rng: &mut Rng, frame: Vec<u8>) -> Vec<u8> {
     }
 }
 
+/// Damages a text at some places, ends of lines included.
+pub fn text(rng: &mut Rng, text: &mut Vec<u8>, places: usize) {
+    for _ in 0..places {
+        let place = rng.below(text.len());
+        match rng.below(3) {
+            0 => text[place] = rng.byte(),
+            1 => drop(text.remove(place)),
+            _ => text.insert(place, *rng.pick(b"\n\r0F")),
+        }
+    }
+}
+
 /// A frame with something wrong, as a rule.
 fn bad_frame(rng: &mut Rng, mut frame: Vec<u8>) -> Vec<u8> {
     match rng.below(9) {

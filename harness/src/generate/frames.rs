@@ -150,9 +150,31 @@ pub const MIXES: &[Mix] = &[
 /// open again.
 pub fn frames(rng: &mut Rng, mix: &Mix) -> Vec<Vec<u8>> {
     let fields = rng.between(mix.fields.0, mix.fields.1);
+    let commands = rng.between(mix.frames.0, mix.frames.1);
+    frames_while(rng, mix, fields, |frames| frames.len() <= commands)
+}
+
+/// The same, but as many as make lines of so many bytes in all.
+pub(super) fn frames_of_length(rng: &mut Rng, mix: &Mix, length: usize) -> Vec<Vec<u8>> {
+    let fields = rng.between(mix.fields.0, mix.fields.1);
+    let mut written = 0;
+    frames_while(rng, mix, fields, |frames| {
+        let last = frames.last().expect("the opening at least");
+        written += 2 * last.len() + 1;
+        written < length
+    })
+}
+
+/// An opening, then commands as long as more are wanted.
+fn frames_while(
+    rng: &mut Rng,
+    mix: &Mix,
+    fields: usize,
+    mut more: impl FnMut(&[Vec<u8>]) -> bool,
+) -> Vec<Vec<u8>> {
     let mut used = Vec::new();
     let mut frames = vec![vec![1, fields as u8]];
-    for _ in 0..rng.between(mix.frames.0, mix.frames.1) {
+    while more(&frames) {
         frames.push(frame(rng, mix, fields, &mut used));
     }
     frames

@@ -1,0 +1,79 @@
+//! A program beside the plain solver.
+
+use crate::plain::run_text;
+use crate::shrink::shorten;
+
+/// How much of a text or an output a report shows.
+const SHOWN: usize = 6_000;
+
+/// How many bytes of output the search for a shorter text may cost: texts of
+/// one length can be quick to answer or slow.
+const SEARCHED: usize = 100_000_000;
+
+/// The output that a program and the plain solver both give a text, or a report
+/// of their difference on the shortest text that the search finds.
+pub fn compared(text: &[u8], program: impl Fn(&[u8]) -> Vec<u8>) -> Result<Vec<u8>, String> {
+    let output = run_text(text);
+    if program(text) == output {
+        return Ok(output);
+    }
+    let short = shortest(text, &program);
+    let (given, expected) = (program(&short), run_text(&short));
+    let difference = first_difference(&given, &expected);
+    Err(format!(
+        "the outputs differ; the shortest text found has {} of {} bytes:\n{}\n\
+         program:\n{}\nplain solver:\n{}\n{}",
+        short.len(),
+        text.len(),
+        shown(&short),
+        shown(&given),
+        shown(&expected),
+        difference.unwrap_or("no difference the second time".to_string()),
+    ))
+}
+
+/// The shortest text found on which a program and the plain solver differ.
+fn shortest(text: &[u8], program: impl Fn(&[u8]) -> Vec<u8>) -> Vec<u8> {
+    let mut left = SEARCHED;
+    shorten(text, |text| {
+        if left == 0 {
+            return false;
+        }
+        let expected = run_text(text);
+        left = left.saturating_sub(expected.len());
+        program(text) != expected
+    })
+}
+
+/// The first line in which two outputs differ, if there is one. A line is
+/// compared with its LF.
+pub fn first_difference(given: &[u8], expected: &[u8]) -> Option<String> {
+    let split = |output: &[u8]| -> Vec<Vec<u8>> {
+        let lines = output.split_inclusive(|&byte| byte == b'\n');
+        lines.map(<[u8]>::to_vec).collect()
+    };
+    let (given, expected) = (split(given), split(expected));
+    let longer = given.len().max(expected.len());
+    let line = (0..longer).find(|&line| given.get(line) != expected.get(line))?;
+    let show = |lines: &[Vec<u8>]| match lines.get(line) {
+        Some(line) => shown(line),
+        None => "no line".to_string(),
+    };
+    Some(format!(
+        "output line {line} (from 0): {} in place of {}",
+        show(&given),
+        show(&expected)
+    ))
+}
+
+/// Bytes for reading: one line a line, LFs and other characters escaped, cut
+/// where they are too many.
+fn shown(bytes: &[u8]) -> String {
+    let cut = &bytes[..bytes.len().min(SHOWN)];
+    let lines = cut.split_inclusive(|&byte| byte == b'\n');
+    let lines: Vec<String> = lines.map(|line| line.escape_ascii().to_string()).collect();
+    match bytes.len() - cut.len() {
+        0 => lines.join("\n"),
+        more => format!("{}\n... and {more} more bytes", lines.join("\n")),
+    }
+}

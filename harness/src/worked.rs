@@ -1,0 +1,43 @@
+//! Texts with their whole outputs, worked out by hand from document 01. The
+//! plain solver and the run program are both held to them.
+
+pub mod edges;
+pub mod items;
+pub mod panels;
+
+/// A text and the whole output that document 01 gives it.
+pub struct Worked {
+    pub name: String,
+    pub text: Vec<u8>,
+    pub output: Vec<u8>,
+}
+
+impl Worked {
+    /// Lines with their replies, and the tally after the last one.
+    pub fn new<S: AsRef<str>>(name: &str, lines: &[(S, S)], tally: &str) -> Worked {
+        let (mut text, mut output) = (String::new(), String::new());
+        for (line, reply) in lines {
+            text += line.as_ref();
+            text.push('\n');
+            output += reply.as_ref();
+            output.push('\n');
+        }
+        output += tally;
+        output.push('\n');
+        Worked {
+            name: name.to_string(),
+            text: text.into_bytes(),
+            output: output.into_bytes(),
+        }
+    }
+}
+
+/// The tally line that belongs to the replies to all lines of a text.
+pub fn tally_line<S: AsRef<str>>(replies: &[S]) -> String {
+    let replies = replies.iter().map(AsRef::as_ref);
+    let refusals: Vec<&str> = replies.clone().filter(|r| r.starts_with("FF")).collect();
+    let (lines, refused) = (replies.len(), refusals.len());
+    let accepted = lines - refused;
+    let last = refusals.last().map_or("00", |refusal| &refusal[2..]);
+    format!("EE{lines:06X}{accepted:06X}{refused:06X}{last}")
+}

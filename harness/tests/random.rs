@@ -1,0 +1,206 @@
+//! The run program and the plain solver on random and damaged texts: the same
+//! output for every one of more than 1,000,000 lines.
+//!
+//! The texts go up to the limit, since each costs the start of a process. About
+//! half of them are damaged.
+
+use harness::compare::compared;
+use harness::generate::{long_text, text, Mix, MIXES};
+use harness::plain::{lines, TEXT_LIMIT};
+use harness::program;
+use std::collections::BTreeMap;
+
+/// Number of fields and number of links; a third of the texts for each. That
+/// makes about 454,000 lines in texts for 1 to 8 fields, 442,000 for 9 to 31, and
+/// 418,000 for 32 to 64.
+const SIZES: [((usize, usize), usize); 3] = [((1, 8), 16), ((9, 31), 60), ((32, 64), 128)];
+
+/// As many adds as removes, so that the number of links keeps changing.
+const EVEN: Mix = Mix {
+    weights: [40, 40, 16, 4],
+    damaged_percent: 4,
+    ..MIXES[0]
+};
+
+/// What the texts are drawn from, each in every size.
+const SHAPES: [Mix; 8] = [
+    EVEN,
+    // Many required links: conflicts.
+    Mix {
+        levels: &[0, 0, 0, 1, 2],
+        covered: (1, 3),
+        ..EVEN
+    },
+    // Many read fields: loops.
+    Mix {
+        covered: (2, 4),
+        output_percent: 40,
+        ..EVEN
+    },
+    // Few levels, nearly all outputs: ties of outputs, walks and blocked links.
+    Mix {
+        levels: &[3, 4, 5, 5, 5, 5],
+        output_percent: 95,
+        ..EVEN
+    },
+    // Two or three outputs, often touched: long walks, blocked stays.
+    Mix {
+        levels: &[0, 0, 2, 7],
+        covered: (2, 3),
+        output_percent: 90,
+        weights: [30, 30, 38, 2],
+        ..EVEN
+    },
+    // All levels, up to eight fields a link.
+    Mix {
+        levels: &[0, 1, 2, 3, 4, 5, 6, 7, 8, 9, 10, 11, 12, 13, 14, 15],
+        covered: (1, 8),
+        ..EVEN
+    },
+    // More adds than removes: nearly all link numbers in use.
+    Mix {
+        levels: &[0, 1, 4, 4, 9, 15],
+        covered: (1, 3),
+        output_percent: 80,
+        weights: [60, 24, 12, 4],
+        ..EVEN
+    },
+    // Mostly damaged lines.
+    Mix {
+        damaged_percent: 60,
+        ..EVEN
+    },
+];
+
+/// The number of texts in each half: 4 of each shape in each size.
+const HALF: u64 = 4 * (SHAPES.len() * SIZES.len()) as u64;
+
+/// The place in `SIZES` of a seed's text, and what the text is drawn from.
+fn size_and_mix(seed: u64) -> (usize, Mix) {
+    let size = seed as usize % SIZES.len();
+    let shape = seed as usize / SIZES.len() % SHAPES.len();
+    let (fields, ids) = SIZES[size];
+    let mix = Mix {
+        fields,
+        ids,
+        ..SHAPES[shape]
+    };
+    (size, mix)
+}
+
+/// What was met.
+#[derive(Debug, Default)]
+struct Counts {
+    /// Lines by the place of their text's size in `SIZES`.
+    by_size: [usize; SIZES.len()],
+    /// Lines by their reply.
+    by_reply: BTreeMap<String, usize>,
+}
+
+impl Counts {
+    fn note(&mut self, size: usize, text: &[u8], output: &[u8]) {
+        let lines = lines(text);
+        self.by_size[size] += lines.len();
+        for (line, reply) in lines.into_iter().zip(output.split(|&byte| byte == b'\n')) {
+            *self.by_reply.entry(kind(line, reply)).or_default() += 1;
+        }
+    }
+}
+
+/// The kind of a reply: the refusal, or the command with its moved count. Loop
+/// is told apart by the command.
+fn kind(line: &[u8], reply: &[u8]) -> String {
+    let command = match &line.get(..2) {
+        Some(b"01") => "open",
+        Some(b"02") => "add",
+        Some(b"03") => "remove",
+        Some(b"04") => "touch",
+        Some(b"05") => "plan",
+        _ => "other",
+    };
+    let reply = String::from_utf8_lossy(reply);
+    match &*reply {
+        "FF0B" => format!("FF0B {command}"),
+        refusal if refusal.starts_with("FF") => refusal.to_string(),
+        "0000" => format!("{command}, moved 0"),
+        "0001" => format!("{command}, moved 1"),
+        _ if command == "plan" => "plan".to_string(),
+        _ => format!("{command}, moved more"),
+    }
+}
+
+/// How often each kind of reply is met at least, in each half. A touch that
+/// turns a walk moves two fields or more.
+const LEAST: [(&str, usize); 23] = [
+    ("FF01", 8_000),
+    ("FF02", 2_500),
+    ("FF03", 5_000),
+    ("FF04", 6_000),
+    ("FF05", 800),
+    ("FF06", 1_200),
+    ("FF07", 5_000),
+    ("FF08", 20_000),
+    ("FF09", 40_000),
+    ("FF0A", 6_000),
+    ("FF0B add", 25_000),
+    ("FF0B remove", 7_500),
+    ("FF0B touch", 2_500),
+    ("open, moved 0", 90),
+    ("add, moved 0", 50_000),
+    ("add, moved 1", 50_000),
+    ("add, moved more", 12_000),
+    ("remove, moved 0", 40_000),
+    ("remove, moved 1", 50_000),
+    ("remove, moved more", 14_000),
+    ("touch, moved 0", 70_000),
+    ("touch, moved more", 9_000),
+    ("plan", 16_000),
+];
+
+/// The output that the program and the plain solver both give a text.
+fn output(seed: u64, text: &[u8]) -> Vec<u8> {
+    compared(text, program::run).unwrap_or_else(|report| panic!("seed {seed}: {report}"))
+}
+
+/// Compares the texts of the seeds and checks what was met.
+fn compare_texts(seeds: std::ops::Range<u64>) {
+    let mut counts = Counts::default();
+    for seed in seeds {
+        let (size, mix) = size_and_mix(seed);
+        let text = long_text(seed, &mix);
+        counts.note(size, &text, &output(seed, &text));
+    }
+    // Shown with `cargo test -- --nocapture`.
+    println!("{counts:#?}");
+    assert!(counts.by_size.iter().sum::<usize>() >= 500_000);
+    assert!(counts.by_size.iter().all(|&lines| lines >= 160_000));
+    for (reply, least) in LEAST {
+        let met = counts.by_reply.get(reply).copied().unwrap_or(0);
+        assert!(met >= least, "{reply}: {met} of {least}");
+    }
+}
+
+/// The two halves run at the same time.
+#[test]
+fn long_texts_first_half() {
+    compare_texts(0..HALF);
+}
+
+#[test]
+fn long_texts_second_half() {
+    compare_texts(HALF..2 * HALF);
+}
+
+/// Short texts of all mixes, among them empty ones, some of exactly the limit
+/// and some over it.
+#[test]
+fn short_texts() {
+    let mut too_long = 0;
+    for seed in 0..520 {
+        let text = text(seed);
+        let output = output(seed, &text);
+        too_long += (output == b"FF0C\n") as usize;
+        assert_eq!(output == b"FF0C\n", text.len() > TEXT_LIMIT);
+    }
+    assert!(too_long >= 5, "{too_long}");
+}
