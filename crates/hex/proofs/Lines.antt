@@ -44,6 +44,9 @@ written-more bytes o q after p i was less e = record { within = omega arith; dig
       ∙ sets-append o p (hexOf (take i bytes)) (hexOf (getD bytes i 0 ∷ []))
       ∙ ap (sets o p) (sym (hex-append (take i bytes) (getD bytes i 0 ∷ [])) ∙ ap hexOf (sym (take-suc bytes i 0 less) ∙ ap (λ (k : ℕ). take k bytes) (sym (add-one i))))
 
+pub written-all : (bytes o after : List ℕ) (p i : ℕ) → Written bytes o after p i → length bytes ≤ i → after ≡ sets o p (hexOf bytes)
+written-all bytes o after p i was end = was .digits ∙ ap (λ (l : List ℕ). sets o p (hexOf l)) (take-all i bytes end)
+
 -- a whole line: two bytes, further ones, LF
 line-done : (o : List ℕ) (at a b : ℕ) (r : List ℕ)
     → set (sets (sets (sets o at (hexOf (a ∷ []))) (at + 2) (hexOf (b ∷ []))) (at + 4) (hexOf r)) (at + 4 + 2 * length r) 10
@@ -57,16 +60,15 @@ line-done o at a b r =
     ∙ ap (λ (t : List ℕ). sets t (at + 4) (hexOf r ++ (10 ∷ []))) (sets-append o at (hexOf (a ∷ [])) (hexOf (b ∷ [])))
     ∙ sets-append o at (hexOf (a ∷ b ∷ [])) (hexOf r ++ (10 ∷ []))
 
-pub line-put : (rest o o₁ o₂ o₃ o₄ : List ℕ) (at a b i : ℕ)
-    → o₁ ≡ sets o at (hexOf (a ∷ [])) → o₂ ≡ sets o₁ (at + 2) (hexOf (b ∷ [])) → Written rest o₂ o₃ (at + 4) i → length rest ≤ i
+pub line-put : (rest o o₁ o₂ o₃ o₄ : List ℕ) (at a b : ℕ)
+    → o₁ ≡ sets o at (hexOf (a ∷ [])) → o₂ ≡ sets o₁ (at + 2) (hexOf (b ∷ [])) → o₃ ≡ sets o₂ (at + 4) (hexOf rest)
     → o₄ ≡ set o₃ (at + 4 + 2 * length rest) 10
     → (o₄ ≡ sets o at (lineOf (a ∷ b ∷ rest))) × (at + 5 + 2 * length rest ≡ at + length (lineOf (a ∷ b ∷ rest)))
-line-put rest o o₁ o₂ o₃ o₄ at a b i e₁ e₂ was end e₄ =
-    let all : o₃ ≡ sets o₂ (at + 4) (hexOf rest) = was .digits ∙ ap (λ (l : List ℕ). sets o₂ (at + 4) (hexOf l)) (take-all i rest end) in (
-      e₄ ∙ ap (λ (l : List ℕ). set l (at + 4 + 2 * length rest) 10) (all ∙ ap (λ (l : List ℕ). sets l (at + 4) (hexOf rest)) (e₂ ∙ ap (λ (l : List ℕ). sets l (at + 2) (hexOf (b ∷ []))) e₁))
-          ∙ line-done o at a b rest,
-      omega (arith, length-line (a ∷ b ∷ rest)),
-    )
+line-put rest o o₁ o₂ o₃ o₄ at a b e₁ e₂ e₃ e₄ = (
+  e₄ ∙ ap (λ (l : List ℕ). set l (at + 4 + 2 * length rest) 10) (e₃ ∙ ap (λ (l : List ℕ). sets l (at + 4) (hexOf rest)) (e₂ ∙ ap (λ (l : List ℕ). sets l (at + 2) (hexOf (b ∷ []))) e₁))
+      ∙ line-done o at a b rest,
+  omega (arith, length-line (a ∷ b ∷ rest)),
+)
 
 and-false : (a : Bool) → a && false ≡ false
 and-false true = refl

@@ -49,7 +49,9 @@ fn fill(
     let mut rest = others[v];
     while rest != 0 {
         let u = first(rest);
-        k = fill(levels, others, k, table, u, depth - 1);
+        if !member(k, u) {
+            k = fill(levels, others, k, table, u, depth - 1);
+        }
         s = larger(s, table[u]);
         rest = without_lowest(rest);
     }

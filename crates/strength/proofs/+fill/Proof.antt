@@ -4,9 +4,12 @@ use Prim.Native.Nat.{ℕ, _<_}
 use borrow.Fn.Kinds.{In}
 use borrow.Fn.PlainCycle.{Measures, is, falls, and}
 use mathlib.Core.Path.{sym, _∙_}
+use mathlib.Core.Logic.{⊎-elim}
 use native.Mathlib.Omega.{arith}
+use borrow.Author.Tests.{not-false}
 use Rattle.fieldset.specs.Tables.{at}
 use Rattle.strength.specs.Strength.{strength}
+use Rattle.strength.specs.Filling.{Filled}
 use Rattle.strength.proofs.Ties.{first-falls}
 use Rattle.strength.proofs.Gather.{Gather, step, known-already, fill-start, fill-asks, fill-done}
 use Rattle.strength.proofs.fill.Reads as fill
@@ -60,13 +63,26 @@ fill-loop-holds t c = fill-start (c .before .before .before .before .pre .1)
 fill-first-requires : (t : ℕ) → fill-lts.Need-first-requires (claims t) (fill-at t) fill.Post fill-Inv-loop fill-μ-loop
 fill-first-requires t c κs = omega arith
 
+fill-member-requires-2 : (t : ℕ) → fill-lts.Need-member-requires-2 (claims t) (fill-at t) fill.Post fill-Inv-loop fill-μ-loop
+fill-member-requires-2 t c κs = omega (arith, c .first .ensures .field, c .before .before .before .before .before .before .before .pre .1 .field)
+
 fill-sub-fill : (t : ℕ) → fill-lts.Need-sub-fill (claims t) (fill-at t) fill.Post fill-Inv-loop fill-μ-loop
-fill-sub-fill t c = omega (arith, c .before .before .before .before .before .before .before .before .pre .1 .deep)
+fill-sub-fill t c = omega (arith, c .before .before .before .before .before .before .before .before .before .before .pre .1 .deep)
 
 fill-fill-requires : (t : ℕ) → fill-lts.Need-fill-requires (claims t) (fill-at t) fill.Post fill-Inv-loop fill-μ-loop
 fill-fill-requires t c κs =
-    let R = c .before .before .before .before .before .before .before .before .pre in
-    (omega (arith, R .0, R .1 .deep), fill-asks (R .1) (c .before .before .before .loop .inv) (c .before .first .ensures))
+    let R = c .before .before .before .before .before .before .before .before .before .before .pre in
+    (omega (arith, R .0, R .1 .deep), fill-asks (R .1) (c .before .before .before .before .before .loop .inv) (c .before .before .before .first .ensures))
+
+-- the strength of u is in the table: it was known, or it is worked out
+filled : (t : ℕ) (c : fill-lts.Joined2 (claims t) (fill-at t) fill.Post fill-Inv-loop fill-μ-loop)
+    → Filled (c .before .before .before .before .before .before .before .before .before .args .levels .now) (c .before .before .before .before .before .before .before .before .before .args .others .now) (c .before .before .before .before .loop .k) (c .before .before .first .result) (c .if2 .k) (c .before .before .before .before .loop .table) (c .if2 .table)
+filled t c =
+    ⊎-elim (λ w. rw (w .3, w .4) (w .2 .ensures))
+    (λ w.
+    let R = c .before .before .before .before .before .before .before .before .before .pre in
+    rw (w .1, w .2) (known-already (fill-asks (R .1) (c .before .before .before .before .loop .inv) (c .before .before .first .ensures)) (sym (c .before .member2 .ensures) ∙ not-false (c .before .member2 .result) (w .0 .left))))
+    (c .if2 .came)
 
 fill-element-copy-out-larger : (t : ℕ) → fill-lts.Need-element-copy-out-larger (claims t) (fill-at t) fill.Post fill-Inv-loop fill-μ-loop
 fill-element-copy-out-larger t c = omega (arith, c .before .before .first .ensures .field, c .before .before .before .before .before .before .before .before .before .pre .1 .field)
@@ -83,7 +99,7 @@ fill-loop-less t c = first-falls (c .before .before .before .before .before .fir
 fill-loop-again : (t : ℕ) → fill-lts.Need-loop-again (claims t) (fill-at t) fill.Post fill-Inv-loop fill-μ-loop
 fill-loop-again t c =
     let U = c .before .before .before .before .before .first .ensures in
-    rw (c .without-lowest .ensures, ← U .is-lowest) (step (c .before .before .before .before .before .before .before .loop .inv) U (c .before .before .before .fill .ensures) (c .before .larger .ensures))
+    rw (c .without-lowest .ensures, ← U .is-lowest) (step (c .before .before .before .before .before .before .before .loop .inv) U (filled t (c .before .before .before)) (c .before .larger .ensures))
 
 fill-element-write-table : (t : ℕ) → fill-lts.Need-element-write-table (claims t) (fill-at t) fill.Post fill-Inv-loop fill-μ-loop
 fill-element-write-table t c = c .before .before .before .before .before .before .pre .1 .field
@@ -108,6 +124,7 @@ pub +fill-spec : {M : Type 1} → statement M
     (fill-element-copy-out-rest t)
     (fill-loop-holds t)
     (fill-first-requires t)
+    (fill-member-requires-2 t)
     (fill-sub-fill t)
     (fill-fill-requires t)
     (fill-element-copy-out-larger t)

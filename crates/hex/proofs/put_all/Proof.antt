@@ -1,0 +1,102 @@
+-- `hex::put_all` meets its contract: the digits of the first `i` bytes are written. Assumes nothing.
+use mathlib.Core.Path.{_≡_, refl, ap, _∙_}
+use Prim.Native.Nat.{_+_, _-_, _*_}
+use native.Mathlib.Omega.{arith}
+use borrow.Author.Needs.{needs}
+use lib.ListN.{length, length-set}
+use lib.Seq.{length-sets}
+use Rattle.hex.proofs.Lines.{Written, written-none, written-more, written-all, byte-put}
+use Rattle.hex.proofs.put_all.Statement.{statement}
+use Rattle.hex.proofs.put_all.Tie as tie
+use Rattle.hex.proofs.high_char.Reads as high-char-reads
+use Rattle.hex.proofs.low_char.Reads as low-char-reads
+
+abbrev Inv-loop : tie.InvT-loop
+Inv-loop out₀ at bytes i₀ out i = Written bytes out₀ out at i
+
+abbrev μ-loop : tie.MeasureT-loop
+μ-loop out₀ at bytes i₀ out i = length bytes - i
+
+-- the buffer keeps its length
+same : (c : tie.At-loop Inv-loop μ-loop) → length (c .loop .out) ≡ length (c .before .before .before .args .out .now)
+same c = ap length (c .loop .inv .digits) ∙ simp length-sets
+
+loop-holds : tie.Need-loop-holds Inv-loop μ-loop
+loop-holds c = written-none _ _ _
+
+shared-slice-read-high-char : tie.Need-shared-slice-read-high-char Inv-loop μ-loop
+shared-slice-read-high-char c = search needs
+
+high-char-requires : tie.Need-high-char-requires Inv-loop μ-loop
+high-char-requires c κs = search needs
+
+mul-out : tie.Need-mul-out Inv-loop μ-loop
+mul-out c = search needs
+
+add-out : tie.Need-add-out Inv-loop μ-loop
+add-out c = search needs
+
+slice-write-out : tie.Need-slice-write-out Inv-loop μ-loop
+slice-write-out c = omega (arith, same (c .before .before .before))
+
+shared-slice-read-low-char : tie.Need-shared-slice-read-low-char Inv-loop μ-loop
+shared-slice-read-low-char c = search needs
+
+low-char-requires : tie.Need-low-char-requires Inv-loop μ-loop
+low-char-requires c κs = search needs
+
+mul-out-2 : tie.Need-mul-out-2 Inv-loop μ-loop
+mul-out-2 c = search needs
+
+add-out-2 : tie.Need-add-out-2 Inv-loop μ-loop
+add-out-2 c = search needs
+
+add-out-3 : tie.Need-add-out-3 Inv-loop μ-loop
+add-out-3 c = search needs
+
+slice-write-out-2 : tie.Need-slice-write-out-2 Inv-loop μ-loop
+slice-write-out-2 c =
+    let l = c .before .before .before .before .before in
+    omega (arith, same l, length-set (l .loop .out) (l .before .before .before .args .at + 2 * l .loop .i) (c .before .before .high-char .result))
+
+add-i : tie.Need-add-i Inv-loop μ-loop
+add-i c = search needs
+
+loop-less : tie.Need-loop-less Inv-loop μ-loop
+loop-less c = search needs
+
+loop-again : tie.Need-loop-again Inv-loop μ-loop
+loop-again c =
+    let l = c .before .before .before .before .before .loop in
+    written-more _ _ _ _ _ (l .i) (l .inv) (c .before .before .before .before .loop-test .taken)
+    (byte-put _ _ _ _ _ _ _ (c .before .before .high-char .ensures) refl (c .low-char .ensures) refl)
+
+same-length : tie.Need-same-length Inv-loop μ-loop
+same-length c = ap length (c .before .loop .inv .digits) ∙ simp length-sets
+
+returns : tie.Need-returns Inv-loop μ-loop
+returns c = written-all _ _ _ _ _ (c .before .loop .inv) (omega arith)
+
+pub put-all-spec : {M : Type 1} → statement M
+put-all-spec =
+    tie.close
+    (tie.spec
+    Inv-loop
+    μ-loop
+    loop-holds
+    shared-slice-read-high-char
+    high-char-requires
+    mul-out
+    add-out
+    slice-write-out
+    shared-slice-read-low-char
+    low-char-requires
+    mul-out-2
+    add-out-2
+    add-out-3
+    slice-write-out-2
+    add-i
+    loop-less
+    loop-again
+    same-length
+    returns)

@@ -1,0 +1,87 @@
+-- `hex::put_bytes` meets its contract: all digits at once where they fit, else the digits of the first `i` bytes. Assumes nothing.
+use mathlib.Core.Path.{_≡_, refl, ap, _∙_}
+use Prim.Native.Nat.{_-_}
+use native.Mathlib.Omega.{arith}
+use borrow.Author.Needs.{needs}
+use lib.ListN.{length}
+use lib.Seq.{length-sets}
+use Rattle.hex.proofs.Lines.{Written, written-none, written-more, written-all}
+use Rattle.hex.proofs.put_bytes.Statement.{statement}
+use Rattle.hex.proofs.put_bytes.Tie as tie
+use Rattle.hex.proofs.put.Reads as put-reads
+use Rattle.hex.proofs.put_all.Reads as put-all-reads
+
+abbrev Inv-loop : tie.InvT-loop
+Inv-loop out₀ at bytes n i₀ out i = (n ≡ length bytes) × Written bytes out₀ out at i
+
+abbrev μ-loop : tie.MeasureT-loop
+μ-loop out₀ at bytes n i₀ out i = n - i
+
+mul-if1 : tie.Need-mul-if1 Inv-loop μ-loop
+mul-if1 c = search needs
+
+add-if1 : tie.Need-add-if1 Inv-loop μ-loop
+add-if1 c = search needs
+
+put-all-requires : tie.Need-put-all-requires Inv-loop μ-loop
+put-all-requires c κs = c .before .if1 .taken
+
+loop-holds : tie.Need-loop-holds Inv-loop μ-loop
+loop-holds c = (refl, written-none _ _ _)
+
+mul-put : tie.Need-mul-put Inv-loop μ-loop
+mul-put c = search needs
+
+add-put : tie.Need-add-put Inv-loop μ-loop
+add-put c = search needs
+
+shared-slice-read-put : tie.Need-shared-slice-read-put Inv-loop μ-loop
+shared-slice-read-put c = search needs
+
+put-requires : tie.Need-put-requires Inv-loop μ-loop
+put-requires c κs = search needs
+
+add-i : tie.Need-add-i Inv-loop μ-loop
+add-i c = search needs
+
+loop-less : tie.Need-loop-less Inv-loop μ-loop
+loop-less c = search needs
+
+loop-again : tie.Need-loop-again Inv-loop μ-loop
+loop-again c =
+    let l = c .before .before .before .before .before .before .loop in
+    (l .inv .0, written-more _ _ _ _ _ (l .i) (l .inv .1) (omega (arith, l .inv .0)) (c .before .before .put .ensures))
+
+same-length : tie.Need-same-length Inv-loop μ-loop
+same-length c = ap length (c .before .before .put-all .ensures) ∙ simp length-sets
+
+returns : tie.Need-returns Inv-loop μ-loop
+returns c = c .before .before .put-all .ensures
+
+same-length-2 : tie.Need-same-length-2 Inv-loop μ-loop
+same-length-2 c = ap length (c .before .loop .inv .1 .digits) ∙ simp length-sets
+
+returns-2 : tie.Need-returns-2 Inv-loop μ-loop
+returns-2 c = written-all _ _ _ _ _ (c .before .loop .inv .1) (omega (arith, c .before .loop .inv .0))
+
+pub put-bytes-spec : {M : Type 1} → statement M
+put-bytes-spec =
+    tie.close
+    (tie.spec
+    Inv-loop
+    μ-loop
+    mul-if1
+    add-if1
+    put-all-requires
+    loop-holds
+    mul-put
+    add-put
+    shared-slice-read-put
+    put-requires
+    add-i
+    loop-less
+    loop-again
+    same-length
+    returns
+    same-length-2
+    returns-2)
