@@ -11,7 +11,7 @@ use Rattle.panel.specs.declared.Refusal.{Refusal}
 use Rattle.panel.specs.declared.Reply.{Reply}
 use Rattle.panel.specs.declared.Reply.the-variants.{Refused as Refusing}
 use Rattle.panel.specs.declared.Done.{Done}
-use Rattle.panel.specs.Answers.{Answer, answerOf, replyBytes}
+use Rattle.panel.specs.Answers.{Answer, replyBytes}
 use Rattle.panel.specs.Commands as panel
 use Rattle.panel.specs.Commands.{opening, adding, removing, touching, planning, performed}
 use Rattle.panel.specs.Legal.{Legal}
@@ -22,10 +22,10 @@ use Rattle.frames.specs.declared.Command.the-variants.{Open, Add, Remove, Touch
 use Rattle.frames.specs.Frames.{frameOf, commandBytes, commandOf, answered, lineAnswer}
 use Rattle.frames.specs.Reading.{Reaches}
 
--- the answer to the line: the bytes behind the reply's first two are the first of a buffer
-pub record Did (q : Panel) (line : List ℕ) (d : Done) (rows : List ℕ) (count : ℕ) : Type 0 where
-  pub answer : record { panel = d .panel; reply = replyBytes (d .reply) ++ take count rows } ≡ lineAnswer q line
-  pub legal : Legal (d .panel)
+-- the answer to the line: the panel, the reply, and behind its first two bytes the first of a buffer
+pub record Did (q : Panel) (line : List ℕ) (p : Panel) (reply : Reply) (rows : List ℕ) (count : ℕ) : Type 0 where
+  pub answer : record { panel = p; reply = replyBytes reply ++ take count rows } ≡ lineAnswer q line
+  pub legal : Legal p
   pub full : length rows ≡ 192
   pub short : count ≤ 192
 
@@ -67,45 +67,46 @@ module _ (q : Panel) (line : List ℕ) (k : Command) (fields : List ℕ) (read :
       ap (answered q (commandBytes k′ fields)) (sym c) ∙ ap (λ (x : List ℕ). answered q x (commandOf x)) b
 
   -- an answer without rows
-  plain : (d r : Done) (a : Answer) (rows : List ℕ) (count : ℕ) → answerOf r ≡ a → a ≡ lineAnswer q line → Legal (r .panel)
-      → rows ≡ before → count ≡ 0 → d ≡ r → Did q line d rows count
-  plain d r a rows count e f h same zero is = record {
+  plain : (p : Panel) (reply : Reply) (rows : List ℕ) (count : ℕ) (a : Answer) → record { panel = p; reply = replyBytes reply } ≡ a → a ≡ lineAnswer q line
+      → Legal p → rows ≡ before → count ≡ 0 → Did q line p reply rows count
+  plain p reply rows count a e f h same zero = record {
     answer =
-        ap (λ (x : Done). record { panel = x .panel; reply = replyBytes (x .reply) ++ take count rows }) is
-        ∙ ap (λ (n : ℕ). record { panel = r .panel; reply = replyBytes (r .reply) ++ take n rows }) zero
-        ∙ ap (λ (x : List ℕ). record { panel = r .panel; reply = x }) (append-nil (replyBytes (r .reply))) ∙ e ∙ f;
-    legal = subst (λ (x : Done). Legal (x .panel)) (sym is) h;
+        ap (λ (n : ℕ). record { panel = p; reply = replyBytes reply ++ take n rows }) zero
+        ∙ ap (λ (x : List ℕ). record { panel = p; reply = x }) (append-nil (replyBytes reply)) ∙ e ∙ f;
+    legal = h;
     full = ap length same ∙ size;
     short = omega arith;
   }
 
-  pub did : (k′ : Command) → k ≡ k′ → (c : panel.Command) → commandOf (commandBytes k′ fields) ≡ some c
-      → (d r : Done) (rows : List ℕ) (count : ℕ) → Gives r (performed q c) → rows ≡ before → count ≡ 0 → d ≡ r → Did q line d rows count
-  did k′ e c f d r rows count g = plain d r (performed q c) rows count (g .answer) (line-answer k′ e (some c) f) (g .legal)
+  -- an operation's answer d
+  pub did : (k′ : Command) → k ≡ k′ → (c : panel.Command) → commandOf (commandBytes k′ fields) ≡ some c → (d : Done) → Gives d (performed q c)
+      → (p : Panel) (reply : Reply) (rows : List ℕ) (count : ℕ) → p ≡ d .panel → rows ≡ before → count ≡ 0 → reply ≡ d .reply → Did q line p reply rows count
+  did k′ e c f d g p reply rows count ep er ec ey =
+      plain p reply rows count (performed q c) (ap₂ (λ (x : Panel) (y : Reply). record { panel = x; reply = replyBytes y }) ep ey ∙ g .answer)
+      (line-answer k′ e (some c) f) (subst (λ (x : Panel). Legal x) (sym ep) (g .legal)) er ec
 
   pub did-refuse : (x : Refusal) → k ≡ Refused x → Legal q
-      → (d : Done) (rows : List ℕ) (count : ℕ) → rows ≡ before → count ≡ 0 → d ≡ record { panel = q; reply = Refusing x } → Did q line d rows count
-  did-refuse x e h d rows count =
-      plain d (record { panel = q; reply = Refusing x }) (answered q (commandBytes (Refused x) fields) none) rows count refl
-      (line-answer (Refused x) e none (refused-command x fields)) h
+      → (p : Panel) (reply : Reply) (rows : List ℕ) (count : ℕ) → p ≡ q → rows ≡ before → count ≡ 0 → reply ≡ Refusing x → Did q line p reply rows count
+  did-refuse x e h p reply rows count ep er ec ey =
+      plain p reply rows count (answered q (commandBytes (Refused x) fields) none) (ap₂ (λ (z : Panel) (y : Reply). record { panel = z; reply = replyBytes y }) ep ey)
+      (line-answer (Refused x) e none (refused-command x fields)) (subst (λ (z : Panel). Legal z) (sym ep) h) er ec
 
-  pub did-plan : k ≡ Plan → Legal q → (d : Done) (r : Reply) (rows after : List ℕ) (count : ℕ) → Plans q r before after
-      → rows ≡ after → count ≡ 3 * q .size → d ≡ record { panel = q; reply = r } → Did q line d rows count
-  did-plan e h d r rows after count g same counted is =
+  pub did-plan : k ≡ Plan → Legal q → (r : Reply) (after : List ℕ) → Plans q r before after
+      → (p : Panel) (reply : Reply) (rows : List ℕ) (count : ℕ) → p ≡ q → rows ≡ after → count ≡ 3 * q .size → reply ≡ r → Did q line p reply rows count
+  did-plan e h r after g p reply rows count ep er counted ey =
       let full : List ℕ = performed q planning .reply in
       let long : length (drop 2 full) ≡ count = plan-length q h ∙ sym counted in
       let fits : 0 + length (drop 2 full) ≤ length before = omega (arith, h .few) in
       let rest : take count rows ≡ drop 2 full =
-      ap (take count) (same ∙ g .rows ∙ sets-eq (drop 2 full) before 0 fits) ∙ take-at (drop 2 full) (drop (0 + length (drop 2 full)) before) count long
+      ap (take count) (er ∙ g .rows ∙ sets-eq (drop 2 full) before 0 fits) ∙ take-at (drop 2 full) (drop (0 + length (drop 2 full)) before) count long
       in
       record {
         answer =
-            ap (λ (x : Done). record { panel = x .panel; reply = replyBytes (x .reply) ++ take count rows }) is
-            ∙ ap₂ (λ (p : Panel) (x : List ℕ). record { panel = p; reply = x }) (sym (plan-keeps q))
-            (ap₂ (λ (a : List ℕ) (b : List ℕ). a ++ b) (g .reply) rest ∙ take-append-drop 2 full)
+            ap₂ (λ (x : Panel) (b : List ℕ). record { panel = x; reply = b }) (ep ∙ sym (plan-keeps q))
+            (ap₂ (λ (a : List ℕ) (b : List ℕ). a ++ b) (ap replyBytes ey ∙ g .reply) rest ∙ take-append-drop 2 full)
             ∙ line-answer Plan e (some planning) (plan-command fields);
-        legal = subst (λ (x : Done). Legal (x .panel)) (sym is) h;
-        full = ap length (same ∙ g .rows) ∙ simp length-sets size;
+        legal = subst (λ (x : Panel). Legal x) (sym ep) h;
+        full = ap length (er ∙ g .rows) ∙ simp length-sets size;
         short = omega (arith, h .few);
       }
 

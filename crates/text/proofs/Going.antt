@@ -8,7 +8,7 @@ use borrow.Author.Tests.{le-leb, lt-leb}
 use lib.ListN.{length, take, drop, length-append, length-take}
 use lib.Seq.{sets, take-at, drop-at}
 use Rattle.panel.specs.declared.Panel.{Panel}
-use Rattle.panel.specs.declared.Done.{Done}
+use Rattle.panel.specs.declared.Reply.{Reply}
 use Rattle.panel.specs.Answers.{Answer, replyBytes}
 use Rattle.panel.specs.Legal.{Legal}
 use Rattle.hex.specs.Hex.{lineOf}
@@ -85,17 +85,17 @@ module _ (text : List ℕ) (from room : ℕ) (p : Panel) (t : Tally) (before out
   -- one line more
   pub turn : at < length text → longest ≤ room - n → (end : ℕ) → end ≡ at + upTo (drop at text)
       → (line : List ℕ) → line ≡ take (end - at) (drop at text)
-      → (d : Done) (rows : List ℕ) (count : ℕ) → Did q line d rows count → (a b : ℕ) → replyBytes (d .reply) ≡ a ∷ b ∷ []
+      → (q′ : Panel) (reply : Reply) (rows : List ℕ) (count : ℕ) → Did q line q′ reply rows count → (a b : ℕ) → replyBytes reply ≡ a ∷ b ∷ []
       → (out′ : List ℕ) → out′ ≡ sets out n (lineOf (a ∷ b ∷ take count rows))
       → (n′ : ℕ) → n′ ≡ n + length (lineOf (a ∷ b ∷ take count rows))
       → (u′ : Tally) → u′ ≡ tallied u (refusalOf (a ∷ b ∷ []))
       → (at′ : ℕ) → at′ ≡ behindOf end (length text)
-      → Going text from room p t before out′ at′ (d .panel) u′ n′
-  turn h k end ee line el d rows count did a b eb out′ eo n′ en u′ eu at′ ea =
+      → Going text from room p t before out′ at′ q′ u′ n′
+  turn h k end ee line el q′ reply rows count did a b eb out′ eo n′ en u′ eu at′ ea =
       let r : List ℕ = a ∷ b ∷ take count rows in
       let rest : List (List ℕ) = linesOf (drop at′ text) in
-      let answer : _≡_ {A = Answer} (record { panel = d .panel; reply = r }) (lineAnswer q line) =
-      ap (λ (x : List ℕ). record { panel = d .panel; reply = x ++ take count rows }) (sym eb) ∙ did .answer
+      let answer : _≡_ {A = Answer} (record { panel = q′; reply = r }) (lineAnswer q line) =
+      ap (λ (x : List ℕ). record { panel = q′; reply = x ++ take count rows }) (sym eb) ∙ did .answer
       in
       let here : lineAnswer q line ≡ lineAnswer (panelAfter p (g .done)) line = ap (λ (x : Panel). lineAnswer x line) (g .panel) in
       let next : linesOf (drop at text) ≡ line ∷ rest =
@@ -120,7 +120,7 @@ module _ (text : List ℕ) (from room : ℕ) (p : Panel) (t : Tally) (before out
             g .due
             ∙ ap (λ (ls : List (List ℕ)). length (g .done) + fitting (room - n) q ls) next
             ∙ ap (λ (i : ℕ). length (g .done) + i) (fitting-line (room - n) q line rest _ answer k)
-            ∙ ap (λ (i : ℕ). length (g .done) + suc (fitting i (d .panel) rest)) left
+            ∙ ap (λ (i : ℕ). length (g .done) + suc (fitting i q′ rest)) left
             ∙ omega (arith, one);
         panel = ap (λ (x : Answer). x .panel) (answer ∙ here) ∙ sym (panel-more (g .done) line p);
         legal = did .legal;

@@ -1,7 +1,6 @@
 // The two operations on a text of lines.
 use frames::Command;
 use frames::Outcome;
-use panel::Done;
 use panel::Panel;
 use panel::Reply;
 use tally::Tally;
@@ -48,32 +47,37 @@ fn answer_lines(
         let frame = line.frame;
         let len = line.len;
         let mut count: usize = 0;
-        let d = match command {
-            Command::Open(n) => opening::open(q, n),
+        let mut reply = Reply::Accepted(0);
+        match command {
+            Command::Open(size) => {
+                let d = opening::open(q, size);
+                q = d.panel;
+                reply = d.reply;
+            }
             Command::Add(id, level) => {
                 let bytes = &frame[..len];
-                adding::add(q, id, level, &bytes[3..])
+                let d = adding::add(q, id, level, &bytes[3..]);
+                q = d.panel;
+                reply = d.reply;
             }
-            Command::Remove(id) => removing::remove(q, id),
-            Command::Touch(f) => touching::touch(q, f),
+            Command::Remove(id) => {
+                let d = removing::remove(q, id);
+                q = d.panel;
+                reply = d.reply;
+            }
+            Command::Touch(f) => {
+                let d = touching::touch(q, f);
+                q = d.panel;
+                reply = d.reply;
+            }
             Command::Plan => {
                 count = 3 * q.size;
-                let reply = planning::plan(q, &mut rows);
-                Done {
-                    panel: q,
-                    reply: reply,
-                }
+                reply = planning::plan(q, &mut rows);
             }
             Command::Refused(r) => {
-                let reply = Reply::Refused(r);
-                Done {
-                    panel: q,
-                    reply: reply,
-                }
+                reply = Reply::Refused(r);
             }
-        };
-        q = d.panel;
-        let reply = d.reply;
+        }
         let b = frames::reply_bytes(reply);
         n = hex::put_line(out, n, b[0], b[1], &rows[..count]);
         u = tally::counted_line(u, frames::refusal_of(b[0], b[1]));

@@ -129,7 +129,7 @@ line-of c =
     let l = loop-of (c .before) in
     take (c .before .before .before .before .line-end .result - l .loop .at) (drop (l .loop .at) (text-of l))
 
-answered : (c : tie.At-match-came Inv-loop μ-loop) → Did (loop-of (c .before) .loop .q) (line-of c) (c .match .d) (c .match .rows) (c .match .count)
+answered : (c : tie.At-match-came Inv-loop μ-loop) → Did (loop-of (c .before) .loop .q) (line-of c) (c .match .q) (c .match .reply) (c .match .rows) (c .match .count)
 answered c =
     let l = loop-of (c .before) .loop in
     let r = c .before .before .read-line in
@@ -137,22 +137,22 @@ answered c =
     let fields = drop 3 (take (r .result .len) (r .result .frame)) in
     ⊎-elim
     (λ w. did (l .q) (line-of c) (r .result .command) fields (r .ensures .bytes) (l .rows) (l .inv .0) (Open _) (w .1 .given .1)
-    (opening _) (open-command _ fields) (m .d) _ (m .rows) (m .count) (w .3 .ensures) (w .4) (w .5) (w .6))
+    (opening _) (open-command _ fields) _ (w .3 .ensures) (m .q) (m .reply) (m .rows) (m .count) (w .5) (w .6) (w .7) (w .8))
     (⊎-elim
     (λ w. let g = subst (λ (x : List ℕ). Gives (w .5 .result) (performed (l .q) (adding (w .1 .given .0 .0) (w .1 .given .0 .1 .0) x))) (tail 3 (take (r .result .len) (r .result .frame))) (w .5 .ensures) in
     did (l .q) (line-of c) (r .result .command) fields (r .ensures .bytes) (l .rows) (l .inv .0) (Add _ _) (w .1 .given .1)
-    (adding _ _ fields) (add-command _ _ fields) (m .d) _ (m .rows) (m .count) g (w .6) (w .7) (w .8))
+    (adding _ _ fields) (add-command _ _ fields) _ (g) (m .q) (m .reply) (m .rows) (m .count) (w .7) (w .8) (w .9) (w .10))
     (⊎-elim
     (λ w. did (l .q) (line-of c) (r .result .command) fields (r .ensures .bytes) (l .rows) (l .inv .0) (Remove _) (w .1 .given .1)
-    (removing _) (remove-command _ fields) (m .d) _ (m .rows) (m .count) (w .3 .ensures) (w .4) (w .5) (w .6))
+    (removing _) (remove-command _ fields) _ (w .3 .ensures) (m .q) (m .reply) (m .rows) (m .count) (w .5) (w .6) (w .7) (w .8))
     (⊎-elim
     (λ w. did (l .q) (line-of c) (r .result .command) fields (r .ensures .bytes) (l .rows) (l .inv .0) (Touch _) (w .1 .given .1)
-    (touching _) (touch-command _ fields) (m .d) _ (m .rows) (m .count) (w .3 .ensures) (w .4) (w .5) (w .6))
+    (touching _) (touch-command _ fields) _ (w .3 .ensures) (m .q) (m .reply) (m .rows) (m .count) (w .5) (w .6) (w .7) (w .8))
     (⊎-elim
     (λ w. did-plan (l .q) (line-of c) (r .result .command) fields (r .ensures .bytes) (l .rows) (l .inv .0) (w .1 .given .1) (l .inv .1 .legal)
-    (m .d) _ (m .rows) _ (m .count) (w .4 .ensures) (w .5) (w .6) (w .7))
+    _ _ (w .4 .ensures) (m .q) (m .reply) (m .rows) (m .count) (w .5) (w .6) (w .7) (w .8))
     (λ w. did-refuse (l .q) (line-of c) (r .result .command) fields (r .ensures .bytes) (l .rows) (l .inv .0) _ (w .1 .given .1) (l .inv .1 .legal)
-    (m .d) (m .rows) (m .count) (w .3) (w .4) (w .5))))))
+    (m .q) (m .reply) (m .rows) (m .count) (w .3) (w .4) (w .5) (w .6))))))
     (m .came)
 
 reply-bytes-requires : tie.Need-reply-bytes-requires Inv-loop μ-loop
@@ -165,14 +165,14 @@ array-read-put-line-2 : tie.Need-array-read-put-line-2 Inv-loop μ-loop
 array-read-put-line-2 c = search needs
 
 array-share-prefix-rows : tie.Need-array-share-prefix-rows Inv-loop μ-loop
-array-share-prefix-rows c = let d = answered (c .before .before .before) in omega (arith, d .full, d .short)
+array-share-prefix-rows c = let d = answered (c .before .before) in omega (arith, d .full, d .short)
 
 slice-aggregate-put-line : tie.Need-slice-aggregate-put-line Inv-loop μ-loop
-slice-aggregate-put-line c = let d = answered (c .before .before .before .before) in sym (length-take-le _ _ (omega (arith, d .full, d .short)))
+slice-aggregate-put-line c = let d = answered (c .before .before .before) in sym (length-take-le _ _ (omega (arith, d .full, d .short)))
 
 put-line-requires : tie.Need-put-line-requires Inv-loop μ-loop
 put-line-requires c κs =
-    let m = c .before .before .before .before in
+    let m = c .before .before .before in
     let l = loop-of (m .before) in
     omega (arith, answered m .short, length-take (m .match .count) (m .match .rows), l .loop .inv .1 .fits, l .before .before .before .pre .2)
 
@@ -193,21 +193,21 @@ behind-requires c κs = search needs
 
 loop-less : tie.Need-loop-less Inv-loop μ-loop
 loop-less c =
-    let m = c .before .before .before .before .before .before .before .before .before .before in
+    let m = c .before .before .before .before .before .before .before .before .before in
     let l = loop-of (m .before) in
     let e = m .before .before .before .before .line-end in
     omega (arith, c .behind .ensures, behind-on (text-of l) (l .loop .at) (e .result) (m .before .before .before .before .before .before .loop-test .taken) (e .ensures), end-within (text-of l) (l .loop .at) (e .result) (m .before .before .before .before .before .before .loop-test .taken) (e .ensures))
 
 loop-again : tie.Need-loop-again Inv-loop μ-loop
 loop-again c =
-    let m = c .before .before .before .before .before .before .before .before .before .before in
+    let m = c .before .before .before .before .before .before .before .before .before in
     let l = loop-of (m .before) in
     let e = m .before .before .before .before .line-end in
     let b = c .before .before .before .before .before .before .before .before .reply-bytes in
     let w = c .before .before .before .before .before .put-line .ensures in (
       answered m .full,
       turn _ _ _ _ _ _ _ _ _ _ _ (l .loop .inv .1) (m .before .before .before .before .before .before .loop-test .taken) (leb-true _ _ (m .before .before .before .before .before .if1 .taken)) (e .result) (e .ensures) (line-of m) refl
-          (m .match .d) (m .match .rows) (m .match .count) (answered m) _ _ (sym (b .ensures .0) ∙ both (b .result) (b .ensures .1))
+          (m .match .q) (m .match .reply) (m .match .rows) (m .match .count) (answered m) _ _ (sym (b .ensures .0) ∙ both (b .result) (b .ensures .1))
           _ (w .0) _ (w .1)
           _ (c .before .counted-line .ensures ∙ ap (tallied (l .loop .u)) (c .before .before .refusal-of .ensures))
           _ (c .behind .ensures),
