@@ -1,0 +1,29 @@
+//! Links the proved solver's static library, unless the feature `standin` puts
+//! the plain solver in its place.
+
+use std::env;
+use std::path::Path;
+
+/// The Rattle crate whose static library has the function `panel_run_text`.
+const LIBRARY: &str = "panel_c";
+
+fn main() {
+    println!("cargo::rerun-if-changed=build.rs");
+    if env::var_os("CARGO_FEATURE_STANDIN").is_some() {
+        return;
+    }
+    let package = env::var("CARGO_MANIFEST_DIR").expect("cargo sets it");
+    let folder = Path::new(&package).join("../target/staticlib");
+    let archive = folder.join(format!("lib{LIBRARY}.a"));
+    println!("cargo::rerun-if-changed={}", archive.display());
+    if !archive.exists() {
+        println!(
+            "cargo::error=there is no {}: write it with `rt staticlib {LIBRARY}` at the top of \
+             the repository, or build with `--features standin`",
+            archive.display()
+        );
+        return;
+    }
+    println!("cargo::rustc-link-search=native={}", folder.display());
+    println!("cargo::rustc-link-lib=static={LIBRARY}");
+}

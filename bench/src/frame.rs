@@ -1,0 +1,94 @@
+//! From a line of hexadecimal to a command.
+
+use crate::text::Refusal;
+
+/// A command with its numbers, not yet checked against a panel.
+#[derive(Clone, Copy, Debug, PartialEq, Eq)]
+pub enum Command<'a> {
+    Open(u8),
+    /// Number, level, field bytes.
+    Add(u8, u8, &'a [u8]),
+    Remove(u8),
+    Touch(u8),
+    Plan,
+}
+
+/// The bytes of a line, as far as a frame can need them: one more than the
+/// longest frame has, so that a longer line is seen to be too long.
+pub(super) struct Frame {
+    bytes: [u8; 12],
+    len: usize,
+}
+
+impl Frame {
+    pub fn bytes(&self) -> &[u8] {
+        &self.bytes[..self.len]
+    }
+}
+
+/// The value of each digit, `NO_DIGIT` for other characters.
+static DIGITS: [u8; 256] = digits();
+const NO_DIGIT: u8 = 0xFF;
+
+const fn digits() -> [u8; 256] {
+    let mut table = [NO_DIGIT; 256];
+    let mut value = 0;
+    while value < 16 {
+        table[b"0123456789ABCDEF"[value as usize] as usize] = value;
+        value += 1;
+    }
+    table
+}
+
+/// Reads the first line of a text that is not empty; the second answer is the
+/// text behind its LF.
+pub(super) fn read_line(text: &[u8]) -> (Result<Frame, Refusal>, &[u8]) {
+    let mut frame = Frame {
+        bytes: [0; 12],
+        len: 0,
+    };
+    let mut rest = text;
+    while let [high, low, behind @ ..] = rest {
+        let (high, low) = (DIGITS[*high as usize], DIGITS[*low as usize]);
+        if high | low > 15 {
+            break;
+        }
+        if frame.len < 12 {
+            frame.bytes[frame.len] = high << 4 | low;
+            frame.len += 1;
+        }
+        rest = behind;
+    }
+    match rest {
+        [] => (Ok(frame), rest),
+        [b'\n', behind @ ..] if frame.len > 0 => (Ok(frame), behind),
+        _ => (Err(Refusal::BadHex), behind_line(rest)),
+    }
+}
+
+/// The text behind its first LF.
+fn behind_line(text: &[u8]) -> &[u8] {
+    match text.iter().position(|&character| character == b'\n') {
+        Some(end) => &text[end + 1..],
+        None => &[],
+    }
+}
+
+/// The command of a frame.
+pub fn read_frame(frame: &[u8]) -> Result<Command<'_>, Refusal> {
+    match *frame {
+        [1, size] => Ok(Command::Open(size)),
+        [2, id, level, ref field_bytes @ ..] if are_field_bytes(field_bytes) => {
+            Ok(Command::Add(id, level, field_bytes))
+        }
+        [3, id] => Ok(Command::Remove(id)),
+        [4, field] => Ok(Command::Touch(field)),
+        [5] => Ok(Command::Plan),
+        _ => Err(Refusal::BadFrame),
+    }
+}
+
+/// One to eight bytes, bit 6 zero in each.
+fn are_field_bytes(bytes: &[u8]) -> bool {
+    (1..=8).contains(&bytes.len()) && bytes.iter().all(|byte| byte & 0x40 == 0)
+}

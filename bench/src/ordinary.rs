@@ -1,0 +1,353 @@
+//! An ordinary optimised solver: sets of fields as masks, arrays, the panel changed in place, tables of the setters
+//! and strengths worked out once a command. Between commands it keeps what document 01 names and nothing more.
+
+use crate::fields::{below, each, has, lowest, only, without};
+use crate::text::{Refusal, Solver, LONGEST_REPLY};
+
+/// In the place of a link number: the field is set by its stay.
+const STAY: u8 = 128;
+
+/// A link; one without outputs is not in use.
+#[derive(Clone, Copy)]
+struct Link {
+    covered: u64,
+    outputs: u64,
+    level: u8,
+    holds: Option<u8>,
+}
+
+const NO_LINK: Link = Link {
+    covered: 0,
+    outputs: 0,
+    level: 0,
+    holds: None,
+};
+
+/// A panel: its links, and for each field its stay's place and its setter.
+pub struct Panel {
+    size: usize,
+    links: [Link; 128],
+    place: [u8; 64],
+    setter: [u8; 64],
+}
+
+/// For each field the level, the other outputs and the read fields of its setter, and the strengths known so far.
+struct Tables {
+    levels: [u8; 64],
+    others: [u64; 64],
+    reads: [u64; 64],
+    strength: [u8; 64],
+    known: u64,
+}
+
+impl Tables {
+    fn of(p: &Panel) -> Tables {
+        let mut t = Tables {
+            levels: [0; 64],
+            others: [0; 64],
+            reads: [0; 64],
+            strength: [0; 64],
+            known: 0,
+        };
+        for f in 0..p.size {
+            match p.setter[f] {
+                STAY => t.levels[f] = 16 + p.place[f],
+                id => {
+                    let link = p.links[id as usize & 127];
+                    t.levels[f] = link.level;
+                    t.others[f] = without(link.outputs, f);
+                    t.reads[f] = without(link.covered, f);
+                }
+            }
+        }
+        t
+    }
+
+    /// The strength of a field, each worked out once.
+    fn strength(&mut self, f: usize) -> u8 {
+        if !has(self.known, f) {
+            let mut most = self.levels[f];
+            for u in each(self.others[f]) {
+                most = most.max(self.strength(u));
+            }
+            self.strength[f] = most;
+            self.known |= only(f);
+        }
+        self.strength[f]
+    }
+
+    /// The greatest strength of a set.
+    fn greatest(&mut self, set: u64) -> u8 {
+        each(set).map(|u| self.strength(u)).max().unwrap_or(0)
+    }
+
+    /// The lowest-numbered field of a set that has this strength, which all of its fields know.
+    fn first_at(&self, set: u64, strength: u8) -> usize {
+        each(set)
+            .find(|&u| self.strength[u] == strength)
+            .unwrap_or(63)
+    }
+
+    /// The fields of the walk from v, and how many there are.
+    fn walk(&self, v: usize) -> ([u8; 64], usize) {
+        let strength = self.strength[v];
+        let mut path = [0; 64];
+        let mut len = 0;
+        let mut at = v;
+        loop {
+            path[len & 63] = at as u8;
+            len += 1;
+            if self.levels[at] == strength {
+                return (path, len);
+            }
+            at = self.first_at(self.others[at], strength);
+        }
+    }
+
+    /// Whether the reads after a walk is turned for an item with these covered fields have a loop.
+    fn turn_has_loop(&mut self, path: &[u8], covered: u64, size: usize) -> bool {
+        let mut cover = covered;
+        for &f in path {
+            let f = f as usize & 63;
+            let old = self.reads[f] | only(f);
+            self.reads[f] = without(cover, f);
+            cover = old;
+        }
+        let mut left = below(size);
+        while left != 0 {
+            let before = left;
+            for f in each(before) {
+                if self.reads[f] & left == 0 {
+                    left = without(left, f);
+                }
+            }
+            if left == before {
+                return true;
+            }
+        }
+        false
+    }
+}
+
+impl Panel {
+    fn hold(&mut self, id: u8, field: Option<u8>) {
+        if id != STAY {
+            self.links[id as usize & 127].holds = field;
+        }
+    }
+
+    /// Turns for a link or stay with these outputs and covered fields, whose outputs' strengths are known; the answer
+    /// is the number of fields that moved.
+    fn turn(&mut self, t: &mut Tables, id: u8, outputs: u64, covered: u64) -> Result<u8, Refusal> {
+        let most = t.greatest(outputs);
+        let (path, len) = t.walk(t.first_at(outputs, most));
+        let path = &path[..len & 127];
+        if t.turn_has_loop(path, covered, self.size) {
+            return Err(Refusal::Loop);
+        }
+        let mut incoming = id;
+        for &f in path {
+            let old = self.setter[f as usize & 63];
+            self.hold(incoming, Some(f));
+            self.setter[f as usize & 63] = incoming;
+            incoming = old;
+        }
+        self.hold(incoming, None);
+        Ok(len as u8)
+    }
+
+    fn new_link(&self, id: u8, level: u8, field_bytes: &[u8]) -> Result<Link, Refusal> {
+        if self.size == 0 {
+            return Err(Refusal::NotOpen);
+        }
+        if id > 127 || level > 15 {
+            return Err(Refusal::BadLink);
+        }
+        let (mut covered, mut outputs) = (0u64, 0u64);
+        for &byte in field_bytes {
+            let field = byte as usize & 63;
+            if covered >> field != 0 {
+                return Err(Refusal::BadLink);
+            }
+            covered |= only(field);
+            outputs |= u64::from(byte >> 7) << field;
+        }
+        if outputs == 0 {
+            return Err(Refusal::BadLink);
+        }
+        if covered & !below(self.size) != 0 {
+            return Err(Refusal::NoSuchField);
+        }
+        if self.links[id as usize].outputs != 0 {
+            return Err(Refusal::LinkTaken);
+        }
+        Ok(Link {
+            covered,
+            outputs,
+            level,
+            holds: None,
+        })
+    }
+
+    /// The blocked link or stay of least level: its number or `STAY`, its outputs and covered fields.
+    fn first_blocked(&self, t: &mut Tables) -> Option<(u8, u64, u64)> {
+        for f in 0..self.size {
+            t.strength(f);
+        }
+        let mut least = u8::MAX;
+        let mut found = None;
+        for (id, link) in self.links.iter().enumerate() {
+            let waits = link.outputs != 0 && link.holds.is_none();
+            if waits && link.level < least && each(link.outputs).any(|u| t.strength[u] > link.level)
+            {
+                least = link.level;
+                found = Some((id as u8, link.outputs, link.covered));
+            }
+        }
+        if found.is_some() {
+            return found;
+        }
+        for f in 0..self.size {
+            let level = 16 + self.place[f];
+            if self.setter[f] != STAY && t.strength[f] > level && level < least {
+                least = level;
+                found = Some((STAY, only(f), only(f)));
+            }
+        }
+        found
+    }
+}
+
+impl Solver for Panel {
+    fn unopened() -> Panel {
+        Panel {
+            size: 0,
+            links: [NO_LINK; 128],
+            place: std::array::from_fn(|field| field as u8),
+            setter: [STAY; 64],
+        }
+    }
+
+    fn open(&mut self, size: u8) -> Result<u8, Refusal> {
+        if self.size != 0 {
+            return Err(Refusal::AlreadyOpen);
+        }
+        if !(1..=64).contains(&size) {
+            return Err(Refusal::BadSize);
+        }
+        self.size = size as usize;
+        Ok(0)
+    }
+
+    fn add(&mut self, id: u8, level: u8, field_bytes: &[u8]) -> Result<u8, Refusal> {
+        let link = self.new_link(id, level, field_bytes)?;
+        let mut t = Tables::of(self);
+        let mut moved = 0;
+        if t.greatest(link.outputs) > level {
+            self.links[id as usize] = link;
+            match self.turn(&mut t, id, link.outputs, link.covered) {
+                Ok(n) => moved = n,
+                Err(refusal) => {
+                    self.links[id as usize] = NO_LINK;
+                    return Err(refusal);
+                }
+            }
+        } else if level == 0 {
+            return Err(Refusal::Conflict);
+        } else {
+            self.links[id as usize] = link;
+        }
+        Ok(moved)
+    }
+
+    fn remove(&mut self, id: u8) -> Result<u8, Refusal> {
+        if self.size == 0 {
+            return Err(Refusal::NotOpen);
+        }
+        if id > 127 {
+            return Err(Refusal::BadLink);
+        }
+        let old = self.links[id as usize];
+        if old.outputs == 0 {
+            return Err(Refusal::NoSuchLink);
+        }
+        self.links[id as usize] = NO_LINK;
+        let Some(v) = old.holds else { return Ok(0) };
+        let before = self.setter;
+        self.setter[v as usize & 63] = STAY;
+        let mut t = Tables::of(self);
+        if let Some((item, outputs, covered)) = self.first_blocked(&mut t) {
+            if let Err(refusal) = self.turn(&mut t, item, outputs, covered) {
+                self.links[id as usize] = old;
+                self.setter[v as usize & 63] = id;
+                return Err(refusal);
+            }
+        }
+        Ok((0..self.size)
+            .filter(|&f| before[f] != self.setter[f])
+            .count() as u8)
+    }
+
+    fn touch(&mut self, field: u8) -> Result<u8, Refusal> {
+        if self.size == 0 {
+            return Err(Refusal::NotOpen);
+        }
+        let v = field as usize;
+        if v >= self.size {
+            return Err(Refusal::NoSuchField);
+        }
+        let before = self.place;
+        let at = before[v];
+        for place in self.place.iter_mut() {
+            *place += u8::from(*place < at);
+        }
+        self.place[v] = 0;
+        if self.setter[v] == STAY {
+            return Ok(0);
+        }
+        let mut t = Tables::of(self);
+        if t.strength(v) <= 16 {
+            return Ok(0);
+        }
+        let moved = self.turn(&mut t, STAY, only(v), only(v));
+        if moved.is_err() {
+            self.place = before;
+        }
+        moved
+    }
+
+    fn plan(&self, reply: &mut [u8; LONGEST_REPLY]) -> Result<usize, Refusal> {
+        if self.size == 0 {
+            return Err(Refusal::NotOpen);
+        }
+        let mut t = Tables::of(self);
+        let mut readers = [0u64; 64];
+        for f in 0..self.size {
+            t.strength(f);
+            for g in each(t.reads[f]) {
+                readers[g] |= only(f);
+            }
+        }
+        reply[0] = 0;
+        reply[1] = self.size as u8;
+        let mut rows = reply[2..].chunks_exact_mut(3);
+        let mut left = below(self.size);
+        let mut ready = each(left)
+            .filter(|&f| t.reads[f] == 0)
+            .fold(0, |s, f| s | only(f));
+        while ready != 0 {
+            let f = lowest(ready);
+            if let Some(row) = rows.next() {
+                row.copy_from_slice(&[f as u8, self.setter[f], t.strength[f]]);
+            }
+            left = without(left, f);
+            ready = without(ready, f);
+            for g in each(readers[f]) {
+                if t.reads[g] & left == 0 {
+                    ready |= only(g);
+                }
+            }
+        }
+        Ok(2 + 3 * self.size)
+    }
+}

@@ -1,0 +1,67 @@
+//! The solvers behind functions of one form. Each writes the output of a text to
+//! the front of the buffer and answers its length.
+//!
+//! None is inlined and all keep their names, so that instructions can be counted
+//! between entry and exit (`instructions`).
+
+use crate::text::run_text;
+use crate::{ordinary, tuned};
+
+/// A solver and its name.
+pub struct Side {
+    pub name: &'static str,
+    pub run: fn(&[u8], &mut [u8]) -> usize,
+}
+
+/// The ordinary solver first, the proved one last.
+pub const SIDES: [Side; 3] = [
+    Side {
+        name: "ordinary",
+        run: side_ordinary,
+    },
+    Side {
+        name: "tuned",
+        run: side_tuned,
+    },
+    Side {
+        name: "proved",
+        run: side_proved,
+    },
+];
+
+/// The ordinary optimised solver.
+#[no_mangle]
+#[inline(never)]
+pub fn side_ordinary(text: &[u8], out: &mut [u8]) -> usize {
+    run_text::<ordinary::Panel>(text, out)
+}
+
+/// The tuned solver.
+#[no_mangle]
+#[inline(never)]
+pub fn side_tuned(text: &[u8], out: &mut [u8]) -> usize {
+    run_text::<tuned::Panel>(text, out)
+}
+
+/// The proved solver.
+#[no_mangle]
+#[inline(never)]
+pub fn side_proved(text: &[u8], out: &mut [u8]) -> usize {
+    // SAFETY: each pair is the pointer and the length of a live slice, and `out`
+    // is borrowed by this function alone; the function called asks no more.
+    let answer = unsafe { panel_run_text(text.as_ptr(), text.len(), out.as_mut_ptr(), out.len()) };
+    assert!(
+        answer <= out.len(),
+        "panel_run_text answers {answer} for a buffer of {}",
+        out.len()
+    );
+    answer
+}
+
+// In Rattle: `#[no_mangle] pub extern "C" fn panel_run_text(text: &[u8], out:
+// &mut [u8]) -> usize` (crates/panel_c). A slice is passed as its pointer and then
+// its length. The answer is the length of the whole output, 0 for a text that is
+// too long.
+extern "C" {
+    fn panel_run_text(text: *const u8, text_len: usize, out: *mut u8, out_len: usize) -> usize;
+}

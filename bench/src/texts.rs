@@ -1,0 +1,268 @@
+//! The texts that the solvers are measured on, the same ones in every run.
+//!
+//! A text opens a panel, adds links until the wanted number is in use, and is
+//! filled up to the limit with commands of one mix. While a text is made its
+//! commands run on a panel, so that removes name links in use and adds name
+//! numbers not in use. In the opening part an add that the panel refuses is
+//! left out and another one is drawn. In the part behind it refused commands
+//! stay in the text.
+
+use crate::text::TEXT_LIMIT;
+use crate::tuned::Panel;
+use harness::generate::Rng;
+use std::ops::RangeInclusive;
+
+/// What the commands behind the opening part are drawn from, in percent.
+#[derive(Clone, Copy, Debug, PartialEq, Eq)]
+pub struct Shares {
+    pub touch: usize,
+    pub remove: usize,
+    pub add: usize,
+    pub plan: usize,
+}
+
+const fn shares(touch: usize, remove: usize, add: usize, plan: usize) -> Shares {
+    Shares {
+        touch,
+        remove,
+        add,
+        plan,
+    }
+}
+
+/// The mixes, by their numbers. A mix without shares is of short texts that end
+/// after the opening part, since then all link numbers are in use.
+pub const MIXES: [Option<Shares>; 5] = [
+    Some(shares(40, 25, 25, 10)),
+    Some(shares(45, 28, 27, 0)),
+    None,
+    Some(shares(20, 15, 15, 50)),
+    Some(shares(90, 4, 4, 2)),
+];
+
+/// The mix of the texts for growth.
+pub const GROWTH_MIX: Shares = shares(40, 25, 25, 10);
+/// The numbers of fields and of links of the texts for growth.
+pub const GROWTH_FIELDS: [usize; 4] = [8, 16, 32, 64];
+pub const GROWTH_LINKS: [usize; 7] = [0, 8, 16, 32, 64, 96, 128];
+
+/// The least number of commands of all texts of a mix together.
+pub const MIX_COMMANDS: usize = 100_000;
+/// The same for one number of fields and of links of the texts for growth.
+pub const GROWTH_COMMANDS: usize = 20_000;
+
+/// The texts of a mix, with 64 fields and 120 to 128 links in use.
+pub fn of_mix(mix: usize) -> Vec<Vec<u8>> {
+    let first_seed = 1_000_000 * (mix as u64 + 1);
+    until(MIX_COMMANDS, first_seed, |seed| {
+        let mut writer = Writer::opened(seed, 64, 120..=128);
+        if let Some(shares) = MIXES[mix] {
+            writer.fill(shares);
+        }
+        writer.text
+    })
+}
+
+/// The texts for growth: at most `links` links in use and at most two fewer. For
+/// 0 links it is at most one, so that there are adds and removes.
+pub fn of_growth(fields: usize, links: usize) -> Vec<Vec<u8>> {
+    let first_seed = 1_000_000_000 + 1_000_000 * fields as u64 + 1_000 * links as u64;
+    let in_use = links.saturating_sub(2)..=links.max(1);
+    until(GROWTH_COMMANDS, first_seed, |seed| {
+        let mut writer = Writer::opened(seed, fields, in_use.clone());
+        writer.fill(GROWTH_MIX);
+        writer.text
+    })
+}
+
+/// The number of commands of texts whose lines all end in LF.
+pub fn count(texts: &[Vec<u8>]) -> usize {
+    let lines = |text: &Vec<u8>| text.iter().filter(|&&byte| byte == b'\n').count();
+    texts.iter().map(lines).sum()
+}
+
+/// How many commands there are of each kind.
+#[derive(Clone, Copy, Debug, Default, PartialEq, Eq)]
+pub struct Kinds {
+    pub open: usize,
+    pub add: usize,
+    pub remove: usize,
+    pub touch: usize,
+    pub plan: usize,
+}
+
+impl Kinds {
+    pub fn all(&self) -> usize {
+        self.open + self.add + self.remove + self.touch + self.plan
+    }
+}
+
+/// The kinds of the commands of texts.
+pub fn kinds(texts: &[Vec<u8>]) -> Kinds {
+    let mut kinds = Kinds::default();
+    let lines = texts.iter().flat_map(|text| text.split(|&b| b == b'\n'));
+    for line in lines.filter(|line| !line.is_empty()) {
+        match line[1] {
+            b'1' => kinds.open += 1,
+            b'2' => kinds.add += 1,
+            b'3' => kinds.remove += 1,
+            b'4' => kinds.touch += 1,
+            _ => kinds.plan += 1,
+        }
+    }
+    kinds
+}
+
+/// Texts of rising seeds until they have so many commands.
+fn until(commands: usize, first_seed: u64, text: impl Fn(u64) -> Vec<u8>) -> Vec<Vec<u8>> {
+    let mut texts = Vec::new();
+    let mut so_far = 0;
+    for seed in first_seed.. {
+        if so_far >= commands {
+            break;
+        }
+        texts.push(text(seed));
+        so_far += count(&texts[texts.len() - 1..]);
+    }
+    texts
+}
+
+/// The characters of the longest line, an add over eight fields with its LF.
+const LONGEST_LINE: usize = 2 * 11 + 1;
+
+/// A text that is being made, and the panel as its commands leave it.
+struct Writer {
+    rng: Rng,
+    text: Vec<u8>,
+    panel: Panel,
+    fields: usize,
+    /// How many links are to be in use.
+    in_use: RangeInclusive<usize>,
+    used: Vec<u8>,
+    unused: Vec<u8>,
+}
+
+impl Writer {
+    /// The opening part: an opening, and adds until as many links are in use as
+    /// may be.
+    fn opened(seed: u64, fields: usize, in_use: RangeInclusive<usize>) -> Writer {
+        let mut writer = Writer {
+            rng: Rng::new(seed),
+            text: Vec::new(),
+            panel: Panel::unopened(),
+            fields,
+            in_use,
+            used: Vec::new(),
+            unused: (0..128).collect(),
+        };
+        writer.line(&[1, fields as u8]);
+        writer.panel.open(fields as u8).expect("1 to 64 fields");
+        while writer.used.len() < *writer.in_use.end() {
+            let before = writer.text.len();
+            if !writer.add() {
+                writer.text.truncate(before);
+            }
+        }
+        writer
+    }
+
+    /// Commands of a mix until the limit leaves no room for another one.
+    fn fill(&mut self, shares: Shares) {
+        while self.text.len() + LONGEST_LINE <= TEXT_LIMIT {
+            let drawn = self.rng.below(100);
+            if drawn < shares.touch {
+                self.touch();
+            } else if drawn < shares.touch + shares.remove {
+                self.exchange(true);
+            } else if drawn < shares.touch + shares.remove + shares.add {
+                self.exchange(false);
+            } else {
+                self.line(&[5]);
+            }
+        }
+    }
+
+    /// A remove or an add, as drawn, while the number of links in use stays in
+    /// its range; at the ends of the range the one that leads back.
+    fn exchange(&mut self, remove: bool) {
+        let used = self.used.len();
+        let full = used >= *self.in_use.end();
+        if full || (remove && used > *self.in_use.start()) {
+            self.remove();
+        } else {
+            self.add();
+        }
+    }
+
+    fn touch(&mut self) {
+        let field = self.rng.below(self.fields) as u8;
+        self.line(&[4, field]);
+        // A refused touch changes nothing.
+        let _ = self.panel.touch(field);
+    }
+
+    /// Removes a link in use.
+    fn remove(&mut self) {
+        let place = self.rng.below(self.used.len());
+        let id = self.used[place];
+        self.line(&[3, id]);
+        if self.panel.remove(id).is_ok() {
+            self.used.swap_remove(place);
+            self.unused.push(id);
+        }
+    }
+
+    /// Adds a link under a number not in use; the answer is whether the panel
+    /// accepts it.
+    fn add(&mut self) -> bool {
+        let place = self.rng.below(self.unused.len());
+        let id = self.unused[place];
+        let level = self.level();
+        let field_bytes = self.field_bytes();
+        self.line(&[&[2, id, level][..], &field_bytes].concat());
+        let accepted = self.panel.add(id, level, &field_bytes).is_ok();
+        if accepted {
+            self.unused.swap_remove(place);
+            self.used.push(id);
+        }
+        accepted
+    }
+
+    /// One link in twenty is required, the others are spread over the levels.
+    fn level(&mut self) -> u8 {
+        match self.rng.percent(5) {
+            true => 0,
+            false => self.rng.between(1, 15) as u8,
+        }
+    }
+
+    /// Four links of five lie on the first quarter of the fields, where many of
+    /// them wait. The others lie on the other fields: these links are fewer
+    /// than their fields, so some stays hold there, and touches turn paths.
+    /// With all links spread evenly nearly every field is held by a link, and
+    /// of a hundred touches one moves a field.
+    fn field_bytes(&mut self) -> Vec<u8> {
+        let quarter = self.fields / 4;
+        let (range, counts, output_percent) = match self.rng.percent(80) {
+            true => (0..quarter, &[1, 1, 2, 3][..], 60),
+            false => (quarter..self.fields, &[2, 2, 3, 4, 8][..], 80),
+        };
+        let count = range.len().min(*self.rng.pick(counts));
+        let mut covered = 0u64;
+        while (covered.count_ones() as usize) < count {
+            covered |= 1 << (range.start + self.rng.below(range.len()));
+        }
+        let sure_output = self.rng.below(count);
+        let fields = (0..64).filter(|field| covered >> field & 1 == 1);
+        let is_output = |place| place == sure_output || self.rng.percent(output_percent);
+        let outputs: Vec<bool> = (0..count).map(is_output).collect();
+        let byte = |(field, output): (u8, bool)| field | (output as u8) << 7;
+        fields.zip(outputs).map(byte).collect()
+    }
+
+    fn line(&mut self, frame: &[u8]) {
+        self.text
+            .extend_from_slice(harness::plain::hex(frame).as_bytes());
+        self.text.push(b'\n');
+    }
+}

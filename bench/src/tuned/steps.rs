@@ -1,0 +1,151 @@
+//! Opening, add, remove and touch. Each answers the moved count.
+
+use super::panel::{Link, Panel, Setter, A_STAY, FIRST_STAY_LEVEL, NO_LINK};
+use super::strength::Strengths;
+use crate::fields::{below, has, only};
+use crate::text::Refusal;
+
+impl Panel {
+    /// The places are right already: those of an unopened panel.
+    pub fn open(&mut self, size: u8) -> Result<u8, Refusal> {
+        if self.size != 0 {
+            return Err(Refusal::AlreadyOpen);
+        }
+        if !(1..=64).contains(&size) {
+            return Err(Refusal::BadSize);
+        }
+        self.size = size as usize;
+        Ok(0)
+    }
+
+    /// "The new link waits. If it is not blocked: at level 0 refuse with
+    /// Conflict, else accept." If it is blocked, turn.
+    pub fn add(&mut self, id: u8, level: u8, field_bytes: &[u8]) -> Result<u8, Refusal> {
+        let link = self.new_link(id, level, field_bytes)?;
+        let mut strengths = Strengths::new(self);
+        let (start, greatest) = self.strongest(link.outputs, &mut strengths);
+        if greatest > level {
+            *self.link_mut(id) = link;
+            let covered = link.covered;
+            let moved = self.turn(start, &strengths, Setter { id, covered });
+            if moved.is_err() {
+                *self.link_mut(id) = NO_LINK;
+            }
+            return moved.map(count);
+        }
+        if level == 0 {
+            return Err(Refusal::Conflict);
+        }
+        *self.link_mut(id) = link;
+        self.set_waiting(id, true);
+        Ok(0)
+    }
+
+    /// The new link of an add, after the checks 4 and 6 to 8.
+    fn new_link(&self, id: u8, level: u8, field_bytes: &[u8]) -> Result<Link, Refusal> {
+        self.must_be_open()?;
+        if id > 127 || level > 15 {
+            return Err(Refusal::BadLink);
+        }
+        let (mut covered, mut outputs) = (0, 0);
+        for &byte in field_bytes {
+            let field = byte as usize & 63;
+            if covered >> field != 0 {
+                return Err(Refusal::BadLink);
+            }
+            covered |= only(field);
+            outputs |= u64::from(byte >> 7) << field;
+        }
+        if outputs == 0 {
+            return Err(Refusal::BadLink);
+        }
+        if covered & !below(self.size) != 0 {
+            return Err(Refusal::NoSuchField);
+        }
+        if self.link(id).outputs != 0 {
+            return Err(Refusal::LinkTaken);
+        }
+        Ok(Link {
+            covered,
+            outputs,
+            level,
+            holds: None,
+        })
+    }
+
+    /// "If the link waits, drop it. If it sets v, drop it and let v's stay set
+    /// v." Then turn for what is blocked.
+    pub fn remove(&mut self, id: u8) -> Result<u8, Refusal> {
+        self.must_be_open()?;
+        if id > 127 {
+            return Err(Refusal::BadLink);
+        }
+        if self.link(id).outputs == 0 {
+            return Err(Refusal::NoSuchLink);
+        }
+        let link = std::mem::replace(self.link_mut(id), NO_LINK);
+        let Some(field) = link.holds else {
+            self.set_waiting(id, false);
+            return Ok(0);
+        };
+        let field = field as usize & 63;
+        let old = self.give(field, A_STAY);
+        let moved = self.settle(field);
+        if moved.is_err() {
+            *self.link_mut(id) = link;
+            self.give(field, old);
+        }
+        moved
+    }
+
+    /// After `freed` went to its stay: turns for the blocked link or stay of
+    /// least level, "once". The fields moved are those of the path and `freed`,
+    /// whose former setter is gone.
+    fn settle(&mut self, freed: usize) -> Result<u8, Refusal> {
+        let mut strengths = Strengths::all(self);
+        let Some((start, setter)) = self.first_blocked(&mut strengths) else {
+            return Ok(1);
+        };
+        let moved = self.turn(start, &strengths, setter)?;
+        Ok(count(moved | only(freed)))
+    }
+
+    /// "f's stay moves to place 0 ... If that stay waits and is now blocked, turn
+    /// as in Add. A loop refuses the touch, order included."
+    pub fn touch(&mut self, field: u8) -> Result<u8, Refusal> {
+        self.must_be_open()?;
+        let field = field as usize;
+        if field >= self.size {
+            return Err(Refusal::NoSuchField);
+        }
+        let places = self.place;
+        self.move_to_front(field);
+        if !has(self.held, field) {
+            return Ok(0);
+        }
+        let mut strengths = Strengths::new(self);
+        if self.strength(field, &mut strengths) <= FIRST_STAY_LEVEL {
+            return Ok(0);
+        }
+        let moved = self.turn(field, &strengths, A_STAY);
+        if moved.is_err() {
+            self.place = places;
+        }
+        moved.map(count)
+    }
+
+    /// "f's stay moves to place 0; those that stood before it move down one."
+    /// Without a branch, so that the compiler can use vector instructions.
+    fn move_to_front(&mut self, field: usize) {
+        let at = self.place[field & 63];
+        for place in &mut self.place {
+            *place += (*place < at) as u8;
+        }
+        self.place[field & 63] = 0;
+    }
+}
+
+/// The size of a set of fields.
+fn count(fields: u64) -> u8 {
+    fields.count_ones() as u8
+}

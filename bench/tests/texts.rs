@@ -1,0 +1,138 @@
+//! What the texts of the benchmark are promised to be.
+
+use panel_bench::sides::side_tuned;
+use panel_bench::text::{LONGEST_OUTPUT, TEXT_LIMIT};
+use panel_bench::texts::{self, Shares, GROWTH_COMMANDS, MIXES, MIX_COMMANDS};
+
+/// The commands of a text and their replies.
+fn replies(text: &[u8]) -> Vec<(String, String)> {
+    let mut out = vec![0; LONGEST_OUTPUT];
+    let len = side_tuned(text, &mut out);
+    let lines = |bytes: &[u8]| -> Vec<String> {
+        let text = std::str::from_utf8(bytes).expect("digits");
+        text.lines().map(String::from).collect()
+    };
+    lines(text).into_iter().zip(lines(&out[..len])).collect()
+}
+
+/// The links in use after each command. A remove must name one in use, and an
+/// add one not in use.
+fn links_in_use(text: &[u8]) -> Vec<usize> {
+    let mut used = std::collections::BTreeSet::new();
+    let mut counts = Vec::new();
+    for (command, reply) in replies(text) {
+        let accepted = !reply.starts_with("FF");
+        let id = command.get(2..4).map(String::from);
+        match &command[..2] {
+            "02" => {
+                assert!(!used.contains(&id), "{command}");
+                if accepted {
+                    used.insert(id);
+                }
+            }
+            "03" => {
+                assert!(used.contains(&id), "{command}");
+                if accepted {
+                    used.remove(&id);
+                }
+            }
+            _ => {}
+        }
+        counts.push(used.len());
+    }
+    counts
+}
+
+#[test]
+fn mixes_are_long_enough_and_within_the_limit() {
+    for mix in 0..MIXES.len() {
+        let texts = texts::of_mix(mix);
+        assert!(texts::count(&texts) >= MIX_COMMANDS);
+        assert!(texts.iter().all(|text| text.len() <= TEXT_LIMIT));
+        assert_eq!(texts::kinds(&texts).all(), texts::count(&texts));
+        assert_eq!(texts, texts::of_mix(mix), "equal in every run");
+    }
+}
+
+#[test]
+fn texts_open_64_fields_and_add_128_links() {
+    for (mix, shares) in MIXES.iter().enumerate() {
+        for text in texts::of_mix(mix) {
+            assert!(text.starts_with(b"0140\n"));
+            let counts = links_in_use(&text);
+            let opening: Vec<usize> = (0..=128).collect();
+            assert_eq!(counts[..129], opening);
+            assert!(counts[129..].iter().all(|&count| count >= 120));
+            let filled = text.len() > TEXT_LIMIT - 23;
+            assert_eq!(filled, shares.is_some());
+            assert_eq!(counts.len() > 129, shares.is_some());
+        }
+    }
+}
+
+/// Refused adds, and removes that are drawn while few links are in use, shift
+/// the shares of removes and adds a little.
+#[test]
+fn shares_are_near_those_drawn() {
+    for (mix, shares) in MIXES.iter().enumerate() {
+        let Some(Shares {
+            touch,
+            remove,
+            add,
+            plan,
+        }) = *shares
+        else {
+            continue;
+        };
+        let kinds = texts::kinds(&texts::of_mix(mix));
+        let counts = [kinds.touch, kinds.remove, kinds.add, kinds.plan];
+        for (count, percent) in counts.into_iter().zip([touch, remove, add, plan]) {
+            let found = 100.0 * count as f64 / kinds.all() as f64;
+            assert!((found - percent as f64).abs() < 2.5, "mix {mix}: {kinds:?}");
+        }
+    }
+}
+
+/// In each mix with touches some are refused and some move fields; the same of
+/// removes and adds.
+#[test]
+fn mixes_meet_all_cases() {
+    let cases = [
+        ("02", "FF0A"),
+        ("02", "FF0B"),
+        ("03", "FF0B"),
+        ("04", "FF0B"),
+    ];
+    let moved = ["02", "03", "04"].map(|kind| [(kind, "0000"), (kind, "0001"), (kind, "0002")]);
+    for (mix, _) in MIXES.iter().enumerate().filter(|(_, s)| s.is_some()) {
+        let texts = texts::of_mix(mix);
+        let replies: Vec<_> = texts.iter().flat_map(|text| replies(text)).collect();
+        for (kind, reply) in cases.iter().chain(moved.as_flattened()) {
+            // A touch moves no field or at least two: the stay takes one, and
+            // the setter that it turns takes another.
+            let possible = (*kind, *reply) != ("04", "0001");
+            let found = |(c, r): &&(String, String)| c.starts_with(kind) && r == reply;
+            let count = replies.iter().filter(found).count();
+            assert_eq!(count > 0, possible, "mix {mix}: {kind} {reply} {count}");
+        }
+    }
+}
+
+#[test]
+fn growth_texts_have_the_fields_and_links_wanted() {
+    for fields in texts::GROWTH_FIELDS {
+        for links in texts::GROWTH_LINKS {
+            let texts = texts::of_growth(fields, links);
+            assert!(texts::count(&texts) >= GROWTH_COMMANDS);
+            for text in &texts {
+                assert!(text.len() <= TEXT_LIMIT);
+                assert!(text.starts_with(format!("01{fields:02X}\n").as_bytes()));
+                let counts = links_in_use(text);
+                let most = links.max(1);
+                assert_eq!(counts[most], most, "in use after the opening part");
+                let in_use = links.saturating_sub(2)..=most;
+                assert!(counts[most..].iter().all(|count| in_use.contains(count)));
+            }
+        }
+    }
+}
