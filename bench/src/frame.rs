@@ -1,5 +1,6 @@
 //! From a line of hexadecimal to a command.
 
+use crate::fields::{below, only};
 use crate::text::Refusal;
 
 /// A command with its numbers, not yet checked against a panel.
@@ -91,4 +92,33 @@ pub fn read_frame(frame: &[u8]) -> Result<Command<'_>, Refusal> {
 /// One to eight bytes, bit 6 zero in each.
 fn are_field_bytes(bytes: &[u8]) -> bool {
     (1..=8).contains(&bytes.len()) && bytes.iter().all(|byte| byte & 0x40 == 0)
+}
+
+/// The covered fields and the outputs of an added link on an open panel of this
+/// size, after the checks 6 and 7.
+pub fn read_link(
+    id: u8,
+    level: u8,
+    field_bytes: &[u8],
+    size: usize,
+) -> Result<(u64, u64), Refusal> {
+    if id > 127 || level > 15 {
+        return Err(Refusal::BadLink);
+    }
+    let (mut covered, mut outputs) = (0, 0);
+    for &byte in field_bytes {
+        let field = byte as usize & 63;
+        if covered >> field != 0 {
+            return Err(Refusal::BadLink);
+        }
+        covered |= only(field);
+        outputs |= u64::from(byte >> 7) << field;
+    }
+    if outputs == 0 {
+        return Err(Refusal::BadLink);
+    }
+    if covered & !below(size) != 0 {
+        return Err(Refusal::NoSuchField);
+    }
+    Ok((covered, outputs))
 }

@@ -2,6 +2,7 @@
 //! and strengths worked out once a command. Between commands it keeps what document 01 names and nothing more.
 
 use crate::fields::{below, each, has, lowest, only, without};
+use crate::frame::read_link;
 use crate::text::{Refusal, Solver, LONGEST_REPLY};
 
 /// In the place of a link number: the field is set by its stay.
@@ -160,24 +161,7 @@ impl Panel {
         if self.size == 0 {
             return Err(Refusal::NotOpen);
         }
-        if id > 127 || level > 15 {
-            return Err(Refusal::BadLink);
-        }
-        let (mut covered, mut outputs) = (0u64, 0u64);
-        for &byte in field_bytes {
-            let field = byte as usize & 63;
-            if covered >> field != 0 {
-                return Err(Refusal::BadLink);
-            }
-            covered |= only(field);
-            outputs |= u64::from(byte >> 7) << field;
-        }
-        if outputs == 0 {
-            return Err(Refusal::BadLink);
-        }
-        if covered & !below(self.size) != 0 {
-            return Err(Refusal::NoSuchField);
-        }
+        let (covered, outputs) = read_link(id, level, field_bytes, self.size)?;
         if self.links[id as usize].outputs != 0 {
             return Err(Refusal::LinkTaken);
         }

@@ -3,6 +3,7 @@
 use super::panel::{Link, Panel, Setter, A_STAY, FIRST_STAY_LEVEL, NO_LINK};
 use super::strength::Strengths;
 use crate::fields::{below, has, only};
+use crate::frame::read_link;
 use crate::text::Refusal;
 
 impl Panel {
@@ -44,24 +45,7 @@ impl Panel {
     /// The new link of an add, after the checks 4 and 6 to 8.
     fn new_link(&self, id: u8, level: u8, field_bytes: &[u8]) -> Result<Link, Refusal> {
         self.must_be_open()?;
-        if id > 127 || level > 15 {
-            return Err(Refusal::BadLink);
-        }
-        let (mut covered, mut outputs) = (0, 0);
-        for &byte in field_bytes {
-            let field = byte as usize & 63;
-            if covered >> field != 0 {
-                return Err(Refusal::BadLink);
-            }
-            covered |= only(field);
-            outputs |= u64::from(byte >> 7) << field;
-        }
-        if outputs == 0 {
-            return Err(Refusal::BadLink);
-        }
-        if covered & !below(self.size) != 0 {
-            return Err(Refusal::NoSuchField);
-        }
+        let (covered, outputs) = read_link(id, level, field_bytes, self.size)?;
         if self.link(id).outputs != 0 {
             return Err(Refusal::LinkTaken);
         }
