@@ -2,7 +2,7 @@
 
 use super::panel::{Link, Panel, Setter, A_STAY, FIRST_STAY_LEVEL, NO_LINK};
 use super::strength::Strengths;
-use crate::fields::{below, has, only};
+use crate::fields::{has, only};
 use crate::frame::read_link;
 use crate::text::Refusal;
 

@@ -16,7 +16,7 @@ use Rattle.fieldset.specs.Tables.{at}
 use Rattle.fieldset.specs.Fields.{member, with, without, union, below, size, within}
 use Rattle.fieldset.proofs.Numbers.{clash, any-here, any-cong}
 use Rattle.fieldset.proofs.Fields.{ext-member, member-empty, member-with, member-with-same, member-with-other, member-without-same, member-without-other, member-union, member-below, with-lt, without-lt, union-lt, size-empty, size-without, within-true}
-use Rattle.ordering.proofs.Sets.{and-left, and-right}
+use Rattle.fieldset.proofs.Tests.{and-left, and-right}
 use Rattle.panel.specs.Commands.{fieldOf, isOutput, hasBit6, anyOf, fieldsIn, coveredIn, outputsIn, isRising, areFieldBytes}
 use Rattle.panel.proofs.Checks.{fields-lt}
 use Rattle.fieldbytes.specs.Bytes.{FieldsOf}

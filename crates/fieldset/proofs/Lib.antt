@@ -1,4 +1,5 @@
 -- The laws that the functions' proofs and other crates cite.
+pub mod Tests
 pub mod Numbers
 pub mod Fields
 pub mod Bits

@@ -1,12 +1,12 @@
--- Laws of tables.
-use Prim.Native.Nat.{ℕ, zero, suc, _<_}
-use mathlib.Core.Path.{_≡_, refl, _∙_}
-use mathlib.Core.List.{[], _∷_, _++_}
-use native.Mathlib.Nat.{not-suc-le-zero}
+-- Laws of tables, and of runs of stores.
+use Prim.Native.Nat.{ℕ, zero, suc, _+_, _<_}
+use mathlib.Core.Path.{_≡_, refl, sym, ap, _∙_}
+use mathlib.Core.List.{List, [], _∷_, _++_}
+use native.Mathlib.Nat.{not-suc-le-zero, add-zero, add-suc, suc-add}
 use native.Mathlib.Decide.{ℕ-discrete}
 use native.Mathlib.Omega.{arith}
-use lib.ListN.{length, getD, length-append, List·getD-append}
-use lib.Seq.{getD-at}
+use lib.ListN.{length, getD, set, length-append, List·getD-append}
+use lib.Seq.{getD-at, sets}
 use Rattle.fieldset.specs.Tables.{tabulate}
 
 module _ {ℓ} {A : Type ℓ} (f : ℕ → A) where
@@ -25,3 +25,9 @@ module _ {ℓ} {A : Type ℓ} (f : ℕ → A) where
       go (no e) ih =
           let h : i < length (tabulate f n) = rw (length-tabulate n) (omega arith) in
           List·getD-append (tabulate f n) (f n ∷ []) d i h ∙ ih (omega arith)
+
+-- a run of stores, and a further run behind it
+pub sets-append : (l : List ℕ) (i : ℕ) (a b : List ℕ) → sets (sets l i a) (i + length a) b ≡ sets l i (a ++ b)
+sets-append l i [] b = ap (λ (k : ℕ). sets l k b) (add-zero i)
+sets-append l i (x ∷ a) b =
+    ap (λ (k : ℕ). sets (sets (set l i x) (suc i) a) k b) (add-suc i (length a) ∙ sym (suc-add i (length a))) ∙ sets-append (set l i x) (suc i) a b

@@ -7,7 +7,8 @@ use native.Mathlib.Nat.{not-suc-le-zero}
 use native.Mathlib.Omega.{arith}
 use lib.ListN.{length, getD, length-append}
 use Rattle.hex.specs.Hex.{isDigit, digitOf, charOf, areDigits, bytesOf, hexOf, lineOf}
-use Rattle.hex.proofs.Digits.{and-true, digit-below, char-below}
+use Rattle.fieldset.proofs.Tests.{and-left, and-right}
+use Rattle.hex.proofs.Digits.{digit-below, char-below}
 
 pub length-hex : (a : List ℕ) → length (hexOf a) ≡ 2 * length a
 unfolding hexOf
@@ -38,13 +39,10 @@ unfolding areDigits bytesOf
 bytes-below [] e k = omega arith
 bytes-below (a ∷ []) e k = omega arith
 bytes-below (a ∷ b ∷ s) e zero =
-    let p = and-true (isDigit a) _ e in
-    let q = and-true (isDigit b) (areDigits s) (p .1) in
-    omega (arith, digit-below a (p .0), digit-below b (q .0))
+    let r = and-right (isDigit a) _ e in
+    omega (arith, digit-below a (and-left (isDigit a) _ e), digit-below b (and-left (isDigit b) (areDigits s) r))
 bytes-below (a ∷ b ∷ s) e (suc k) =
-    let p = and-true (isDigit a) _ e in
-    let q = and-true (isDigit b) (areDigits s) (p .1) in
-    bytes-below s (q .1) k
+    bytes-below s (and-right (isDigit b) (areDigits s) (and-right (isDigit a) _ e)) k
 
 pub hex-append : (a b : List ℕ) → hexOf (a ++ b) ≡ hexOf a ++ hexOf b
 unfolding hexOf

@@ -10,13 +10,9 @@ use lib.Dec.{leb, ltb}
 use lib.ListN.{length, getD, drop, drop-of-length-le}
 use lib.Seq.{drop-cons}
 use borrow.Author.Tests.{le-leb, lt-leb, leb-true}
+use Rattle.fieldset.proofs.Tests.{and-left, and-right}
 use Rattle.hex.specs.Hex.{isDigit, digitOf, charOf, areDigits}
 use Rattle.hex.specs.Answers.{digitRead}
-
-pub and-true : (a b : Bool) → a && b ≡ true → (a ≡ true) × (b ≡ true)
-and-true true true h = (refl, refl)
-and-true true false h = let z : _≡_ {A = Bool} false true = h in (refl, z)
-and-true false b h = let z : _≡_ {A = Bool} false true = h in (z, cc)
 
 -- what each character is
 pub below-0 : (c : ℕ) → c < 48 → [] ≡ digitRead c
@@ -113,5 +109,5 @@ read-end s i was h = ap areDigits (sym (drop-of-length-le s {i = i} h)) ∙ was 
 pub digits-at : (s : List ℕ) (i : ℕ) → areDigits s ≡ true → i < length s → isDigit (getD s i 0) ≡ true
 unfolding areDigits
 digits-at [] i e h = absurd (not-suc-le-zero h)
-digits-at (c ∷ s) zero e h = and-true (isDigit c) (areDigits s) e .0
-digits-at (c ∷ s) (suc i) e h = digits-at s i (and-true (isDigit c) (areDigits s) e .1) (le-of-suc-le-suc h)
+digits-at (c ∷ s) zero e h = and-left (isDigit c) (areDigits s) e
+digits-at (c ∷ s) (suc i) e h = digits-at s i (and-right (isDigit c) (areDigits s) e) (le-of-suc-le-suc h)

@@ -14,7 +14,8 @@ use Rattle.hex.specs.Answers.{decodedValues, decoded, frameAfter}
 use Rattle.hex.specs.declared.Decoded.{Decoded}
 use Rattle.hex.specs.declared.Decoded.the-variants.{BadHex, Frame}
 use Rattle.hex.proofs.Bytes.{length-hex, length-line, length-bytes, hex-append, byte-at}
-use Rattle.hex.proofs.Stores.{sets-append, sets-fit, sets-more}
+use Rattle.fieldset.proofs.Tables.{sets-append}
+use Rattle.hex.proofs.Stores.{sets-fit, sets-more}
 
 -- a byte's two digits
 pub byte-put : (o o₁ o₂ : List ℕ) (at b x y : ℕ) → x ≡ charOf (b / 16) → o₁ ≡ set o at x → y ≡ charOf (b % 16) → o₂ ≡ set o₁ (at + 1) y → o₂ ≡ sets o at (hexOf (b ∷ []))

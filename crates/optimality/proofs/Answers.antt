@@ -10,7 +10,7 @@ use borrow.Author.Tests.{eqb-true, not-true}
 use lib.Dec.{eqb}
 use lib.ListN.{getD, drop}
 use Rattle.fieldset.proofs.Numbers.{clash}
-use Rattle.ordering.proofs.Sets.{and-left, and-right}
+use Rattle.fieldset.proofs.Tests.{and-left, and-right}
 use Rattle.panel.specs.declared.Standing.{Standing}
 use Rattle.panel.specs.declared.Standing.the-variants.{Waiting, Holding}
 use Rattle.panel.specs.declared.Panel.{Panel}

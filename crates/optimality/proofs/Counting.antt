@@ -12,7 +12,7 @@ use Rattle.panel.specs.Items.{Item}
 use Rattle.fieldset.specs.Numbers.{count, lowest}
 use Rattle.fieldset.proofs.Numbers.{Lowest, lowest-is, clash}
 use Rattle.optimality.specs.Condition3.{All, Distinct, Pair, items, fields, upTo}
-use Rattle.ordering.proofs.Sets.{and-left, and-right}
+use Rattle.fieldset.proofs.Tests.{and-left, and-right}
 use Rattle.optimality.proofs.Tests.{same, same-true, same-false}
 use Rattle.optimality.proofs.Lists.{countIn-all, pigeonhole}
 use Rattle.optimality.proofs.Setters.{Graph, Waits, Unblocked}

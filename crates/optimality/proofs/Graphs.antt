@@ -14,7 +14,7 @@ use Rattle.fieldset.specs.Fields.{member}
 use Rattle.fieldset.proofs.Numbers.{any-false, any-none}
 use Rattle.fieldset.proofs.Fields.{member-without-other}
 use Rattle.strength.proofs.Depth.{strength-level, strength-bound-in, strength-other}
-use Rattle.ordering.proofs.Sets.{and-left}
+use Rattle.fieldset.proofs.Tests.{and-left}
 use Rattle.ordering.proofs.Plan.{rankOf}
 use Rattle.panel.specs.declared.Panel.{Panel}
 use Rattle.panel.specs.Items.{Item, link, stay, setterOf, outputsOf, inForce, waits}

@@ -17,7 +17,8 @@ use Rattle.fieldset.proofs.Numbers.{clash, but, count-cong, count-none, count-b
 use Rattle.ordering.specs.Order.{following, order, hasLoop}
 use Rattle.ordering.specs.Walks.{Read, Walk, one, more, ClosedWalk, Ranked, Among, Inside}
 use Rattle.ordering.specs.Steps.{Stuck}
-use Rattle.ordering.proofs.Sets.{and-left, and-right, and-both, within-not}
+use Rattle.fieldset.proofs.Tests.{and-left, and-right, and-both}
+use Rattle.ordering.proofs.Sets.{within-not}
 use Rattle.ordering.proofs.Plan.{able, Lists, Stops, step, unlisted?, unlisted-step, unlisted-all, length-no-loop, no-loop-ranked, rankOf}
 
 pub inside-of : {reads : List ℕ} {n : ℕ} → Among reads n → Inside (at reads) n

@@ -16,7 +16,8 @@ use Rattle.fieldset.proofs.Numbers.{clash, but, count-cong, count-but, count-po
 use Rattle.fieldset.proofs.Fields.{member-empty, member-with, member-with-same, member-with-other, within-member}
 use Rattle.ordering.specs.Order.{next, following, order, hasLoop}
 use Rattle.ordering.specs.Walks.{Ranked}
-use Rattle.ordering.proofs.Sets.{and-left, and-right, within-cong}
+use Rattle.fieldset.proofs.Tests.{and-left, and-right}
+use Rattle.ordering.proofs.Sets.{within-cong}
 
 -- ---- one step
 

@@ -19,7 +19,8 @@ use Rattle.fieldset.proofs.Fields.{ext-member, empty-of-none, setOf-lt, member-
 use Rattle.ordering.specs.Order.{next, following, order}
 use Rattle.ordering.specs.Walks.{Inside}
 use Rattle.ordering.specs.Steps.{Readers, Ready}
-use Rattle.ordering.proofs.Sets.{and-left, and-right, and-both, or-cases, test-ext, meets-none, meets-not, without-cases, without-of, rest-low}
+use Rattle.fieldset.proofs.Tests.{and-left, and-right, and-both}
+use Rattle.ordering.proofs.Sets.{or-cases, test-ext, meets-none, meets-not, without-cases, without-of, rest-low}
 use Rattle.ordering.proofs.Plan.{able, unlisted?, unlisted-step, following-next, following-none}
 
 -- ---- what is listed, from what is left

@@ -7,19 +7,9 @@ use native.Mathlib.Decide.{ℕ-discrete}
 use native.Mathlib.Omega.{arith}
 use borrow.Author.Tests.{not-true, not-false}
 use Rattle.fieldset.specs.Fields.{member, without, lowestOf, meets, within}
+use Rattle.fieldset.proofs.Tests.{and-left, and-right, and-both}
 use Rattle.fieldset.proofs.Fields.{member-without-same, member-without-other, lowestOf-lt, lowestOf-falls}
 use Rattle.fieldset.proofs.Numbers.{clash, any-here, any-none, any-found, any-false, any-cong}
-
-pub and-left : (a b : Bool) → (a && b) ≡ true → a ≡ true
-and-left true b e = refl
-and-left false b e = e
-
-pub and-right : (a b : Bool) → (a && b) ≡ true → b ≡ true
-and-right true b e = e
-and-right false b e = absurd (false≢true e)
-
-pub and-both : (a b : Bool) → a ≡ true → b ≡ true → (a && b) ≡ true
-and-both a b e f = rw (e, f)
 
 pub or-cases : (a b : Bool) → (a || b) ≡ true → (a ≡ true) ⊎ (b ≡ true)
 or-cases true b e = inl refl

@@ -10,7 +10,7 @@ use lib.ListN.{length}
 use Rattle.fieldset.specs.Fields.{member, with, without, size}
 use Rattle.fieldset.proofs.Numbers.{clash}
 use Rattle.fieldset.proofs.Fields.{member-with, member-with-same, member-without-same, member-without-other, member-empty, with-lt, size-without, size-mono, size-empty}
-use Rattle.ordering.proofs.Sets.{and-left, and-right}
+use Rattle.fieldset.proofs.Tests.{and-left, and-right}
 use Rattle.panel.specs.declared.Standing.the-variants.{Waiting}
 use Rattle.panel.specs.declared.Link.{Link}
 use Rattle.panel.specs.declared.Panel.{Panel}

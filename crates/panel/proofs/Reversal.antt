@@ -14,7 +14,7 @@ use Rattle.strength.specs.Strength.{strongest}
 use Rattle.strength.specs.Filling.{lastOf}
 use Rattle.strength.proofs.Maxima.{greatest-ge}
 use Rattle.strength.proofs.Paths.{All, Distinct, Chain, last, next, strongest-found, Reversible, path-reversible}
-use Rattle.ordering.proofs.Sets.{and-left, and-right}
+use Rattle.fieldset.proofs.Tests.{and-left, and-right}
 use Rattle.ordering.proofs.Plan.{rankOf}
 use Rattle.panel.specs.declared.Standing.the-variants.{Holding}
 use Rattle.panel.specs.declared.Panel.{Panel}

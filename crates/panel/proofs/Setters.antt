@@ -17,7 +17,7 @@ use Rattle.fieldset.proofs.Fields.{member-only, member-without, member-without-
 use Rattle.strength.proofs.Depth.{Falls}
 use Rattle.ordering.specs.Order.{hasLoop}
 use Rattle.ordering.specs.Walks.{Ranked, Inside}
-use Rattle.ordering.proofs.Sets.{and-left, and-right}
+use Rattle.fieldset.proofs.Tests.{and-left, and-right}
 use Rattle.ordering.proofs.Plan.{rankOf, no-loop-ranked}
 use Rattle.ordering.proofs.Loops.{ranked-no-loop}
 use Rattle.panel.specs.declared.Standing.{Standing}

@@ -12,6 +12,7 @@ use lib.Dec.{eqb}
 use lib.ListN.{length}
 use Rattle.fieldset.specs.Numbers.{lowest}
 use Rattle.fieldset.specs.Fields.{member, without}
+use Rattle.fieldset.proofs.Tests.{and-left, and-right}
 use Rattle.fieldset.proofs.Numbers.{lowest-cong, lowest-none, lowest-lt, lowest-true, lowest-unique}
 use Rattle.fieldset.proofs.Fields.{member-empty, member-without-other, lowestOf-before}
 use Rattle.strength.specs.Strength.{greatest, strength, lowestAt, strongest, path}
@@ -20,14 +21,6 @@ use Rattle.strength.proofs.Maxima.{greatest-cong, greatest-found, great
 use Rattle.strength.proofs.Depth.{Falls, strength-cong, strength-fixed}
 
 -- ---- the lowest-numbered field at a strength
-
-and-left : (a b : Bool) → (a && b) ≡ true → a ≡ true
-and-left true b e = refl
-and-left false b e = e
-
-and-right : (a b : Bool) → (a && b) ≡ true → b ≡ true
-and-right true b e = e
-and-right false b e = absurd (false≢true e)
 
 -- u is a field of the set m at the strength s
 pub record Tie (str : ℕ → ℕ) (s m u : ℕ) : Type 0 where

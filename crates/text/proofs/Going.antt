@@ -13,7 +13,7 @@ use Rattle.panel.specs.Answers.{Answer, replyBytes}
 use Rattle.panel.specs.Legal.{Legal}
 use Rattle.hex.specs.Hex.{lineOf}
 use Rattle.hex.proofs.Bytes.{length-line}
-use Rattle.hex.proofs.Stores.{sets-append}
+use Rattle.fieldset.proofs.Tables.{sets-append}
 use Rattle.tally.specs.declared.Tally.{Tally}
 use Rattle.tally.specs.Tallies.{tallied}
 use Rattle.frames.specs.Frames.{lineAnswer}

@@ -14,7 +14,7 @@ use Rattle.panel.specs.Answers.{refusalBytes}
 use Rattle.panel.specs.Panels.{opened}
 use Rattle.hex.specs.Hex.{lineOf}
 use Rattle.hex.proofs.Bytes.{length-line}
-use Rattle.hex.proofs.Stores.{sets-append}
+use Rattle.fieldset.proofs.Tables.{sets-append}
 use Rattle.tally.specs.declared.Tally.{Tally}
 use Rattle.tally.specs.Tallies.{threeBytes, tallyBytes}
 use Rattle.frames.specs.declared.Outcome.the-variants.{Length, TextTooLong}

@@ -23,7 +23,8 @@ use Rattle.strength.proofs.Maxima.{greatest-cong, greatest-ge, greatest-found}
 use Rattle.strength.proofs.Depth.{strength-fixed, strength-level}
 use Rattle.strength.proofs.Paths.{Tie, lowestAt-found, lowestAt-cong}
 use Rattle.ordering.specs.Walks.{Among}
-use Rattle.ordering.proofs.Sets.{test-ext, and-left, and-right, and-both}
+use Rattle.fieldset.proofs.Tests.{and-left, and-right, and-both}
+use Rattle.ordering.proofs.Sets.{test-ext}
 use Rattle.ordering.proofs.Plan.{rankOf}
 use Rattle.panel.specs.declared.Panel.{Panel}
 use Rattle.panel.specs.Items.{Item}
