@@ -7,7 +7,7 @@ use native.Mathlib.Decide.{ℕ-discrete, decLt}
 use native.Mathlib.Nat.{mod-lt}
 use native.Mathlib.Numerals.{add-one}
 use native.Mathlib.Omega.{arith}
-use borrow.Author.Tests.{lt-ltb, le-ltb, le-leb, lt-leb, eq-eqb, ne-eqb, eqb-true, eqb-false, ltb-true, not-true}
+use borrow.Author.Tests.{lt-ltb, le-ltb, le-leb, lt-leb, eq-eqb, ne-eqb, eqb-false, ltb-true}
 use lib.Dec.{eqb, leb, ltb, leb·zero}
 use lib.ListN.{length, drop, drop-of-length-le}
 use lib.Pow.{pow-pos}
@@ -48,9 +48,6 @@ fields-covered q (b ∷ bs) u l e = go (q b) (ℕ-discrete u (fieldOf b)) (field
 pub outputs-covered : (bytes : List ℕ) (u : ℕ) → u < 64 → member (outputsIn bytes) u ≡ true → member (coveredIn bytes) u ≡ true
 outputs-covered bytes u l e = fields-covered isOutput bytes u l e
 
-pub outputs-within : (bytes : List ℕ) → within (outputsIn bytes) (coveredIn bytes) ≡ true
-outputs-within bytes = within-true (outputsIn bytes) (coveredIn bytes) (outputs-covered bytes)
-
 -- the set is empty where no byte passes
 pub fields-none : (q : ℕ → Bool) (bytes : List ℕ) → eqb (fieldsIn q bytes) 0 ≡ not (anyOf q bytes)
 unfolding fieldsIn anyOf
@@ -66,12 +63,6 @@ fields-none q (b ∷ bs) = go (q b) (fields-none q bs)
 
 pub outputs-none : (bytes : List ℕ) → eqb (outputsIn bytes) 0 ≡ not (anyOf isOutput bytes)
 outputs-none bytes = fields-none isOutput bytes
-
-pub outputs-empty : (bytes : List ℕ) → outputsIn bytes ≡ 0 → anyOf isOutput bytes ≡ false
-outputs-empty bytes e = not-true (anyOf isOutput bytes) (sym (outputs-none bytes) ∙ eq-eqb (outputsIn bytes) 0 e)
-
-pub no-outputs : (bytes : List ℕ) → anyOf isOutput bytes ≡ false → outputsIn bytes ≡ 0
-no-outputs bytes e = eqb-true (outputsIn bytes) 0 (outputs-none bytes ∙ ap not e)
 
 pub some-output : (bytes : List ℕ) → anyOf isOutput bytes ≡ true → 0 < outputsIn bytes
 some-output bytes e = let h : outputsIn bytes ≡ 0 → ⊥ = eqb-false (outputsIn bytes) 0 (outputs-none bytes ∙ ap not e) in omega arith

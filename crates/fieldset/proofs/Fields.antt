@@ -12,7 +12,7 @@ use lib.Dec.{eqb, ltb}
 use lib.Pow.{pow-pos, pow-mono, mod-pow-add}
 use Rattle.fieldset.specs.Numbers.{lowest}
 use Rattle.fieldset.specs.Fields.{member, setOf, with, without, union, only, below, lowestOf, size, within}
-use Rattle.fieldset.proofs.Numbers.{clash, but, but-same, but-other, sum, sum-cong, sum-but, count-cong, count-none, count-but, count-mono, count-le, Lowest, lowest-is, lowest-none, lowest-before, lowest-bound, lowest-lt, lowest-true, lowest-le, any-here, any-none}
+use Rattle.fieldset.proofs.Numbers.{clash, but, but-same, but-other, sum, sum-cong, sum-but, count-cong, count-none, count-but, count-mono, Lowest, lowest-is, lowest-before, lowest-bound, lowest-lt, lowest-true, any-here, any-none}
 
 -- ---- sets by their members
 
@@ -157,10 +157,6 @@ member-without-other m i j l h = member-without m i j l ∙ but-other (member m)
 
 -- ---- the lowest field, and the size
 
-pub lowestOf-empty : lowestOf 0 ≡ 64
-unfolding lowestOf
-lowestOf-empty = lowest-none (member 0) 64 64 (λ i l. member-empty i)
-
 module _ (m : ℕ) where
   pub lowestOf-le : lowestOf m ≤ 64
   unfolding lowestOf
@@ -171,17 +167,9 @@ module _ (m : ℕ) where
   unfolding lowestOf
   lowestOf-before i l = lowest-before (member m) 64 64 i (lt-of-lt-of-le l lowestOf-le) l
 
-  pub size-le : size m ≤ 64
-  unfolding size
-  size-le = count-le (member m) 64
-
 pub size-empty : size 0 ≡ 0
 unfolding size
 size-empty = count-none (member 0) 64 (λ i l. member-empty i)
-
-pub pos-of-size : (m : ℕ) → 0 < size m → 0 < m
-pos-of-size zero h = absurd (omega (arith, size-empty))
-pos-of-size (suc m) h = omega arith
 
 -- a subset is no larger
 pub size-mono : (a b : ℕ) → ((i : ℕ) → i < 64 → member a i ≡ true → member b i ≡ true) → size a ≤ size b
@@ -218,10 +206,6 @@ module _ (m : ℕ) (hm : m < 2 ^ 64) where
         count-but (member m) 64 i (member-lt i e) e,
       )
 
-  pub lowestOf-least : (i : ℕ) → member m i ≡ true → lowestOf m ≤ i
-  unfolding lowestOf
-  lowestOf-least i e = lowest-le (member m) 64 64 i (member-lt i e) e
-
   -- it is not empty
   module _ (pos : 0 < m) where
     pub some-member : (i : ℕ) × (i < 64) × (member m i ≡ true)
@@ -242,9 +226,6 @@ module _ (m : ℕ) (hm : m < 2 ^ 64) where
     -- a step that takes the lowest field away falls
     pub lowestOf-falls : without m (lowestOf m) < m
     lowestOf-falls = without-falls (lowestOf m) lowestOf-member
-
-    pub size-pos : 0 < size m
-    size-pos = omega (arith, size-without (lowestOf m) lowestOf-member)
 
 -- ---- two sets
 

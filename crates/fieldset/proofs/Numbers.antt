@@ -93,14 +93,6 @@ count-sum p (suc n) = go (p n) (count-sum p n)
     go true ih = omega arith
     go false ih = omega arith
 
-pub count-true : (p : ℕ → Bool) (n : ℕ) → p n ≡ true → count p (suc n) ≡ suc (count p n)
-unfolding count
-count-true p n e = rw e
-
-pub count-false : (p : ℕ → Bool) (n : ℕ) → p n ≡ false → count p (suc n) ≡ count p n
-unfolding count
-count-false p n e = rw e
-
 pub count-cong : (p q : ℕ → Bool) (n : ℕ) → ((i : ℕ) → i < n → p i ≡ q i) → count p n ≡ count q n
 count-cong p q n h = count-sum p n ∙ sum-cong (λ i. 1) p q n h ∙ sym (count-sum q n)
 
@@ -217,9 +209,6 @@ module _ (p : ℕ → Bool) (n d : ℕ) where
 
     pub lowest-true : p (lowest p n d) ≡ true
     lowest-true = lowest-some .1
-
-    pub lowest-le : lowest p n d ≤ i
-    lowest-le = not-below p i (lowest p n d) e (lowest-before i l)
 
 -- ---- whether there is one
 

@@ -8,7 +8,7 @@ use native.Mathlib.Numerals.{add-one}
 use native.Mathlib.Omega.{arith}
 use lib.Dec.{ltb, eqb}
 use lib.ListN.{length, getD, take, drop, drop-of-length-le, length-drop}
-use lib.Seq.{drop-cons, drop-drop, take-add, drop-at, length-take-le}
+use lib.Seq.{drop-cons, drop-drop}
 use borrow.Author.Tests.{ltb-true, ltb-false, eq-eqb, ne-eqb}
 use Rattle.frames.specs.Texts.{linesOf, before}
 use Rattle.frames.specs.Reading.{upTo, behindOf}
@@ -77,8 +77,6 @@ lines-few (c ∷ s) = go (eqb c 10) (lines-few s) (linesOf s) refl where
 -- ---- the line from a position of a text, its end, and the position behind it
 
 module _ (text : List ℕ) (from end : ℕ) (h : from < length text) (e : end ≡ from + upTo (drop from text)) where
-  pub end-from : from ≤ end
-  end-from = omega arith
 
   pub end-within : end ≤ length text
   end-within = omega (arith, up-to-le (drop from text), length-drop from text)
@@ -112,14 +110,6 @@ module _ (text : List ℕ) (from end : ℕ) (h : from < length text) (e : end �
       let k : upTo (drop from text) ≡ end - from = omega arith in
       lines-first (drop from text) (omega (arith, length-drop from text))
       ∙ ap₂ (λ (n : ℕ) (r : List ℕ). take n (drop from text) ∷ linesOf r) k behind-rest
-
-  -- the same line as the code's slice
-  pub line-slice : drop from (take end text) ≡ take (end - from) (drop from text)
-  line-slice =
-      let k : end ≡ from + (end - from) = omega arith in
-      ap (λ (t : ℕ). drop from (take t text)) k
-      ∙ ap (drop from) (take-add from (end - from) text)
-      ∙ drop-at (take from text) (take (end - from) (drop from text)) from (length-take-le from text (omega arith))
 
 -- at the end of a text there is no further line
 pub lines-end : (text : List ℕ) (from : ℕ) → length text ≤ from → linesOf (drop from text) ≡ []

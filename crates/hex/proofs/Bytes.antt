@@ -1,14 +1,12 @@
 -- Lengths and bounds of digits, lines and frames. Assumes nothing.
 use mathlib.Core.Path.{_≡_, refl, sym, ap, ap₂, _∙_}
-use mathlib.Core.Bool.{true}
 use mathlib.Core.List.{List, [], _∷_, _++_}
 use Prim.Native.Nat.{ℕ, zero, suc, _+_, _*_, _/_, _%_, _<_}
 use native.Mathlib.Nat.{not-suc-le-zero}
 use native.Mathlib.Omega.{arith}
 use lib.ListN.{length, getD, length-append}
-use Rattle.hex.specs.Hex.{isDigit, digitOf, charOf, areDigits, bytesOf, hexOf, lineOf}
-use Rattle.fieldset.proofs.Tests.{and-left, and-right}
-use Rattle.hex.proofs.Digits.{digit-below, char-below}
+use Rattle.hex.specs.Hex.{digitOf, charOf, bytesOf, hexOf, lineOf}
+use Rattle.hex.proofs.Digits.{char-below}
 
 pub length-hex : (a : List ℕ) → length (hexOf a) ≡ 2 * length a
 unfolding hexOf
@@ -32,17 +30,6 @@ hex-below [] h k = omega arith
 hex-below (x ∷ a) h zero = char-below (x / 16) (omega (arith, h 0))
 hex-below (x ∷ a) h (suc zero) = char-below (x % 16) (omega arith)
 hex-below (x ∷ a) h (suc (suc k)) = hex-below a (λ j. h (suc j)) k
-
--- a line of digits has bytes
-pub bytes-below : (s : List ℕ) → areDigits s ≡ true → (k : ℕ) → getD (bytesOf s) k 0 < 256
-unfolding areDigits bytesOf
-bytes-below [] e k = omega arith
-bytes-below (a ∷ []) e k = omega arith
-bytes-below (a ∷ b ∷ s) e zero =
-    let r = and-right (isDigit a) _ e in
-    omega (arith, digit-below a (and-left (isDigit a) _ e), digit-below b (and-left (isDigit b) (areDigits s) r))
-bytes-below (a ∷ b ∷ s) e (suc k) =
-    bytes-below s (and-right (isDigit b) (areDigits s) (and-right (isDigit a) _ e)) k
 
 pub hex-append : (a b : List ℕ) → hexOf (a ++ b) ≡ hexOf a ++ hexOf b
 unfolding hexOf

@@ -263,14 +263,6 @@ module _ (reads : ℕ → ℕ) (n : ℕ) where
     unfolding order
     order-length = omega (arith, following-length reads n few n 0, unlisted-all n)
 
-    -- with a loop fewer than n fields are listed
-    pub loop-length : hasLoop reads n ≡ true → length (order reads n) < n
-    loop-length e = go (ℕ-discrete (length (order reads n)) n)
-      where
-        go : Dec (length (order reads n) ≡ n) → length (order reads n) < n
-        go (yes d) = absurd (clash e (length-no-loop d))
-        go (no d) = omega (arith, order-length)
-
     -- with no loop all n fields are listed
     pub order-all : hasLoop reads n ≡ false → (f : ℕ) → f < n → rankOf f < length (order reads n)
     unfolding order

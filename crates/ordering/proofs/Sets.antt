@@ -1,15 +1,15 @@
 -- Laws of tests and of two sets of fields.
 use Prim.Native.Nat.{ℕ, _^_, _<_}
 use mathlib.Core.Path.{_≡_, refl, sym, ap, _∙_}
-use mathlib.Core.Bool.{Bool, true, false, not, _&&_, _||_, false≢true}
+use mathlib.Core.Bool.{Bool, true, false, not, _&&_, _||_}
 use mathlib.Core.Logic.{_⊎_, inl, inr, _≢_}
 use native.Mathlib.Decide.{ℕ-discrete}
 use native.Mathlib.Omega.{arith}
 use borrow.Author.Tests.{not-true, not-false}
 use Rattle.fieldset.specs.Fields.{member, without, lowestOf, meets, within}
-use Rattle.fieldset.proofs.Tests.{and-left, and-right, and-both}
+use Rattle.fieldset.proofs.Tests.{and-left, and-right}
 use Rattle.fieldset.proofs.Fields.{member-without-same, member-without-other, lowestOf-lt, lowestOf-falls}
-use Rattle.fieldset.proofs.Numbers.{clash, any-here, any-none, any-found, any-false, any-cong}
+use Rattle.fieldset.proofs.Numbers.{clash, any-none, any-found, any-false, any-cong}
 
 pub or-cases : (a b : Bool) → (a || b) ≡ true → (a ≡ true) ⊎ (b ≡ true)
 or-cases true b e = inl refl
@@ -38,10 +38,6 @@ module _ (a b : ℕ) where
   meets-found e =
       let (i, l, h) = any-found (λ j. member a j && member b j) 64 e in
       (i, l, and-left (member a i) (member b i) h, and-right (member a i) (member b i) h)
-
-  pub meets-here : (i : ℕ) → i < 64 → member a i ≡ true → member b i ≡ true → meets a b ≡ true
-  unfolding meets
-  meets-here i l e f = any-here (λ j. member a j && member b j) 64 i l (and-both (member a i) (member b i) e f)
 
   pub meets-none : ((i : ℕ) → i < 64 → member a i ≡ true → member b i ≡ false) → meets a b ≡ false
   unfolding meets

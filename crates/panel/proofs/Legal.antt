@@ -12,7 +12,7 @@ use lib.Seq.{getD-set-same, getD-set-other}
 use Rattle.fieldset.specs.Tables.{at}
 use Rattle.fieldset.specs.Fields.{size, member}
 use Rattle.fieldset.proofs.Numbers.{clash}
-use Rattle.fieldset.proofs.Fields.{some-member, size-without, member-only}
+use Rattle.fieldset.proofs.Fields.{member-only}
 use Rattle.panel.specs.declared.Standing.{Standing}
 use Rattle.panel.specs.declared.Standing.the-variants.{Waiting, Holding}
 use Rattle.panel.specs.declared.Link.{Link}
@@ -278,12 +278,6 @@ formed-standing n l s h = record {
   some-output = h .some-output;
   few = h .few;
 }
-
--- "1 to 8 covered fields": at least one
-pub formed-some : (n : ℕ) (l : Link) → Formed n l → 0 < size (l .covered)
-formed-some n l h =
-    let (u, k, e) = some-member (l .outputs) (h .outputs-small) (h .some-output) in
-    omega (arith, size-without (l .covered) (h .small) u (h .subset u k e))
 
 -- a link in use at another standing
 pub good-standing : (n : ℕ) (links : List Link) (i : ℕ) (s : Standing) → Filled n links → linkAt links i .used ≡ true

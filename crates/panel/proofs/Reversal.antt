@@ -3,7 +3,6 @@ use Prim.Native.Nat.{ℕ, _≤_, _<_}
 use mathlib.Core.Path.{_≡_, sym, ap, _∙_, subst, fun-ext}
 use mathlib.Core.Bool.{Bool, true, false, _&&_}
 use mathlib.Core.List.{List, [], _∷_}
-use mathlib.Core.Logic.{_≢_}
 use native.Mathlib.Decide.{ℕ-discrete}
 use native.Mathlib.Omega.{arith}
 use borrow.Author.Tests.{ltb-true}
@@ -16,13 +15,12 @@ use Rattle.strength.proofs.Maxima.{greatest-ge}
 use Rattle.strength.proofs.Paths.{All, Distinct, Chain, last, next, strongest-found, Reversible, path-reversible}
 use Rattle.fieldset.proofs.Tests.{and-left, and-right}
 use Rattle.ordering.proofs.Plan.{rankOf}
-use Rattle.panel.specs.declared.Standing.the-variants.{Holding}
 use Rattle.panel.specs.declared.Panel.{Panel}
 use Rattle.panel.specs.Items.{Item, link, stay, linkAt, setterOf, outputsOf, inForce, waits}
 use Rattle.panel.specs.Panels.{holding}
 use Rattle.panel.specs.Solution.{level, setterLevel, setterOthers, strengthOf, isBlocked, pathFor, reversed, isLooped}
 use Rattle.panel.specs.Legal.{Legal}
-use Rattle.panel.proofs.Turn.{put, put-here, put-there, turn, left, left-last, Off, alike-outputs, alike-force, holding-size, holding-alike, holding-sets, reversed-alike, reversed-size, reversed-setters, reversed-other, Fit, Fits}
+use Rattle.panel.proofs.Turn.{put, put-here, put-there, turn, left, left-last, Off, alike-outputs, alike-force, holding-size, holding-alike, holding-sets, reversed-alike, reversed-setters, Fit, Fits}
 use Rattle.panel.proofs.Legal.{Carrying, Rests, Weak, LegalBut, legal, carrying, held-force, force-fit, carrying-step, carrying-waiting, waiting-rests}
 use Rattle.panel.proofs.Setters.{whole, outputs-inside, others-out, others-inside, setter-ranked, setter-falls, rests-waiting, waits-idle, waits-force}
 
@@ -100,14 +98,6 @@ module _ (p : Panel) (c : Item) (vs : List ℕ) (h : Carrying c p) (route : Rout
   -- the setters afterwards
   pub turned-setters : setterOf (reversed p c vs .setter) ≡ turn (setterOf (p .setter)) c vs
   turned-setters = reversed-setters p c vs (h .held .full) turned-fits
-
-  -- what sets a field then holds it: c the first, each setter of the path the next (`turn-first`, `turn-next`)
-  pub turned-standing : (f i : ℕ) → f < p .size → turn (setterOf (p .setter)) c vs f ≡ link i → linkAt (reversed p c vs .links) i .standing ≡ Holding f
-  turned-standing f i l e = turned-carrying .held .sets f i (rw (reversed-size p c vs) l) (rw turned-setters e) .holds
-
-  -- the links that are neither c nor a setter of the path are as before
-  pub turned-other : (i : ℕ) → c ≢ link i → All (λ v. setterOf (p .setter) v ≢ link i) vs → linkAt (reversed p c vs .links) i ≡ linkAt (p .links) i
-  turned-other i ne off = reversed-other p c vs i (h .held .full) turned-fits ne off
 
   pub legal-route : isLooped (reversed p c vs) ≡ false → Legal (reversed p c vs)
   legal-route loopless =

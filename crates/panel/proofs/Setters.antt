@@ -4,10 +4,9 @@ use mathlib.Core.Path.{_≡_, refl, sym, ap, _∙_}
 use mathlib.Core.Bool.{Bool, true, false, not, _&&_}
 use mathlib.Core.List.{List}
 use mathlib.Core.Logic.{_≢_, _⊎_, inl, inr}
-use native.Mathlib.Nat.{le-refl}
 use native.Mathlib.Decide.{ℕ-discrete, decLt}
 use native.Mathlib.Omega.{arith}
-use borrow.Author.Tests.{lt-ltb, le-ltb, ltb-true, eqb-true}
+use borrow.Author.Tests.{lt-ltb, ltb-true, eqb-true}
 use lib.Dec.{eqb, ltb}
 use lib.ListN.{length, set}
 use Rattle.fieldset.specs.Tables.{at}
@@ -171,24 +170,3 @@ module _ (c : Item) (n : ℕ) (links : List Link) (setter : List ℕ) (h : Held 
 pub waits-force : (n : ℕ) (links : List Link) (setter : List ℕ) (c : Item) → waits n links setter c ≡ true → inForce n links c ≡ true
 waits-force n links setter (link i) w = and-left (linkAt links i .used) _ w
 waits-force n links setter (stay g) w = and-left (ltb g n) _ w
-
--- in a legal panel an item in force waits exactly where it sets nothing
-module _ (p : Panel) (h : Legal p) where
-  pub waits-sets-nothing : (d : Item) → waits (p .size) (p .links) (p .setter) d ≡ true → (f : ℕ) → f < p .size → setterOf (p .setter) f ≢ d
-  waits-sets-nothing = waits-idle (stay (p .size)) (p .size) (p .links) (p .setter) (whole p h .held)
-
-  pub waits-or-sets-one : (d : Item) → inForce (p .size) (p .links) d ≡ true
-      → (waits (p .size) (p .links) (p .setter) d ≡ true) ⊎ ((f : ℕ) × (f < p .size) × (setterOf (p .setter) f ≡ d))
-  waits-or-sets-one d u = waits-or-sets (stay (p .size)) (p .size) (p .links) (p .setter) (whole p h .held) d not-past (h .links-length) u
-    where
-      not-past : d ≢ stay (p .size)
-      not-past e = clash (rw e at u) (le-ltb (p .size) (p .size) (le-refl (p .size)))
-
-  pub sets-nothing-waits : (d : Item) → inForce (p .size) (p .links) d ≡ true → ((f : ℕ) → f < p .size → setterOf (p .setter) f ≢ d)
-      → waits (p .size) (p .links) (p .setter) d ≡ true
-  sets-nothing-waits d u none = go (waits-or-sets-one d u)
-    where
-      go : (waits (p .size) (p .links) (p .setter) d ≡ true) ⊎ ((f : ℕ) × (f < p .size) × (setterOf (p .setter) f ≡ d))
-          → waits (p .size) (p .links) (p .setter) d ≡ true
-      go (inl w) = w
-      go (inr (f, l, e)) = absurd (none f l e)

@@ -43,11 +43,6 @@ module _ (level others : ℕ → ℕ) where
             (λ u l e. le-trans (strength-bound-in P s closed hl ho k u (closed f u h l e)) (ho f u h l e)),
       )
 
-  -- s is a potential: it bounds the strengths
-  pub strength-bound : (s : ℕ → ℕ) → ((f : ℕ) → f < 64 → level f ≤ s f)
-      → ((f u : ℕ) → f < 64 → u < 64 → member (others f) u ≡ true → s u ≤ s f) → (k f : ℕ) → f < 64 → strength level others k f ≤ s f
-  strength-bound s hl ho = strength-bound-in (λ f. f < 64) s (λ f u h l e. l) hl ho
-
   module _ (rank : ℕ → ℕ) (falls : Falls others rank) where
     -- above the rank the depth does not matter
     pub strength-stable : (a b v : ℕ) → v < 64 → rank v < a → rank v < b → strength level others a v ≡ strength level others b v

@@ -281,19 +281,3 @@ module _ {levels others : List ℕ} {n : ℕ} (A : Acyclic others n) {before : L
           none : (x : Bool) → member k i ≡ x → x ≡ false
           none true e = absurd (h (below-lt n i l (L .inside i l e)))
           none false e = refl
-
--- the table that `strengths` leaves has the strengths of all fields below n
-pub listed-known : {levels others : List ℕ} {n : ℕ} {table : List ℕ} (before : List ℕ) → Acyclic others n → length before ≡ 64
-    → table ≡ tabulate (strength (at levels) (at others) n) n ++ drop n before → Strengths levels others n (below n) table
-listed-known {levels} {others} {n} {table} before A size e = record {
-  full = ap length e ∙ simp (length-append, length-tabulate, length-drop) (omega (arith, A .few));
-  right = λ u l h. right u (below-lt n u l h);
-  closed = below-closed A;
-}
-  where
-    f : ℕ → ℕ
-    f = strength (at levels) (at others) n
-
-    right : (u : ℕ) → u < n → at table u ≡ f u
-    right u l =
-        ap (λ (t : List ℕ). at t u) e ∙ List·getD-append (tabulate f n) (drop n before) 0 u (rw (length-tabulate f n) l) ∙ getD-tabulate f n u 0 l

@@ -2,7 +2,7 @@
 use Prim.Native.Nat.{ℕ, zero, suc, _≤_, _<_, max}
 use mathlib.Core.Path.{_≡_, refl, sym, ap, ap₂, _∙_}
 use mathlib.Core.Logic.{_≢_}
-use mathlib.Core.Bool.{Bool, true, false, _&&_, and-false, false≢true}
+use mathlib.Core.Bool.{Bool, true, false, _&&_, and-false}
 use mathlib.Core.List.{List, [], _∷_}
 use native.Mathlib.Nat.{not-suc-le-zero}
 use native.Mathlib.Decide.{ℕ-discrete}
@@ -17,7 +17,7 @@ use Rattle.fieldset.proofs.Numbers.{lowest-cong, lowest-none, lowest-lt, lowest
 use Rattle.fieldset.proofs.Fields.{member-empty, member-without-other, lowestOf-before}
 use Rattle.strength.specs.Strength.{greatest, strength, lowestAt, strongest, path}
 use Rattle.strength.specs.Filling.{First, lastOf}
-use Rattle.strength.proofs.Maxima.{greatest-cong, greatest-found, greatest-some}
+use Rattle.strength.proofs.Maxima.{greatest-found, greatest-some}
 use Rattle.strength.proofs.Depth.{Falls, strength-cong, strength-fixed}
 
 -- ---- the lowest-numbered field at a strength
@@ -82,12 +82,6 @@ unfolding strongest
 strongest-found str m u l e =
     let (w, h, f, g) = greatest-some (member m) str 64 u l e in
     lowestAt-found str (greatest (member m) str 64) m w (record { field = h; is-in = f; strong = g })
-
-pub strongest-cong : (str str′ : ℕ → ℕ) (m : ℕ) → ((u : ℕ) → u < 64 → member m u ≡ true → str u ≡ str′ u) → strongest str m ≡ strongest str′ m
-unfolding strongest
-strongest-cong str str′ m h =
-    lowestAt-cong str str′ (greatest (member m) str 64) m h
-    ∙ ap (λ (s : ℕ). lowestAt str′ s m) (greatest-cong (member m) (member m) str str′ 64 (λ u l. refl) h)
 
 -- ---- the path
 

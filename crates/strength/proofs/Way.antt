@@ -1,18 +1,18 @@
 -- What `path_from` keeps from turn to turn.
 use Prim.Native.Nat.{ℕ, zero, suc, _+_, _-_, _<_}
-use mathlib.Core.Path.{_≡_, refl, sym, ap, ap₂, _∙_, subst}
+use mathlib.Core.Path.{_≡_, refl, sym, ap, ap₂, _∙_}
 use mathlib.Core.Logic.{_≢_}
 use mathlib.Core.Bool.{true}
 use mathlib.Core.List.{List, [], _∷_, _++_}
 use native.Mathlib.Numerals.{add-one}
 use native.Mathlib.Omega.{arith}
-use lib.ListN.{length, set, take, drop, length-set, length-append, length-drop, take-append-drop}
+use lib.ListN.{length, set, take, drop, length-set, take-append-drop}
 use lib.Seq.{take-suc-set, drop-set-lt, drop-drop, append-snoc, length-take-le}
 use Rattle.fieldset.specs.Tables.{at}
 use Rattle.fieldset.specs.Fields.{member, without}
-use Rattle.strength.specs.Strength.{strength, lowestAt, strongest, path}
-use Rattle.strength.specs.Filling.{Acyclic, Strengths, First, lastOf, Topped, Walked}
-use Rattle.strength.proofs.Paths.{Tie, lowestAt-cong, lowestAt-empty, lowestAt-hit, lowestAt-pass, path-stop, path-go, path-onto, Reversible, path-reversible}
+use Rattle.strength.specs.Strength.{strength, lowestAt, path}
+use Rattle.strength.specs.Filling.{Acyclic, Strengths, First, lastOf, Walked}
+use Rattle.strength.proofs.Paths.{Tie, lowestAt-cong, lowestAt-empty, lowestAt-hit, lowestAt-pass, path-stop, path-go, path-onto}
 
 last-snoc : (d : ℕ) (xs : List ℕ) (x : ℕ) → lastOf d (xs ++ (x ∷ [])) ≡ x
 last-snoc d [] x = refl
@@ -139,24 +139,3 @@ module _ {levels others table : List ℕ} {n known v s : ℕ} {before buffer : L
         ended = sym (last-snoc v (take count buffer) here) ∙ ap (lastOf v) (sym taken-after ∙ whole);
         stops = h ∙ es;
       }
-
--- the fields that `path_from` stores are a reversible path
-pub walked-reversible : {levels others : List ℕ} {n v : ℕ} {before after : List ℕ} {end count : ℕ} → Acyclic others n → v < n
-    → (W : Walked levels others n v before after end count) → Reversible (at levels) (at others) n v (W .fields)
-walked-reversible {levels} {others} {n} {v} A l W =
-    subst (Reversible (at levels) (at others) n v) (sym (W .is-path))
-    (path-reversible (at levels) (at others) (A .rank) (A .ranked .falls) n (A .few) (A .inside) v l (A .ranked .small v l))
-
--- the buffer keeps its length
-pub walked-full : {levels others : List ℕ} {n v : ℕ} {before after : List ℕ} {end count : ℕ} → Acyclic others n → v < n → length before ≡ 64
-    → Walked levels others n v before after end count → length after ≡ 64
-walked-full {before = before} A l size W =
-    ap length (W .stored) ∙ simp (length-append, length-drop) (omega (arith, walked-reversible A l W .short, A .few))
-
--- with the table that `greatest` leaves, `lowest_at` finds the strongest field of the set
-pub topped-strongest : {levels others : List ℕ} {n set top known : ℕ} {table : List ℕ} → Topped levels others n set top known table
-    → lowestAt (at table) top set ≡ strongest (strength (at levels) (at others) n) set
-unfolding strongest
-topped-strongest {levels} {others} {n} {set} {top} {table = table} T =
-    lowestAt-cong (at table) (strength (at levels) (at others) n) top set (λ u l e. T .strengths .right u l (T .has u l e))
-    ∙ ap (λ (s : ℕ). lowestAt (strength (at levels) (at others) n) s set) (T .is-greatest)

@@ -1,6 +1,5 @@
 -- A run, and the whole output. Assumes nothing.
-use mathlib.Core.Path.{_≡_, refl, sym, ap, ap₂, _∙_, subst}
-use mathlib.Core.Bool.{Bool, cond}
+use mathlib.Core.Path.{_≡_, refl, sym, ap, ap₂, _∙_}
 use mathlib.Core.List.{List, [], _∷_, _++_}
 use native.Mathlib.Decide.{decLt}
 use Prim.Native.Nat.{ℕ, _+_, _-_, _*_, _≤_, _<_}
@@ -9,21 +8,17 @@ use borrow.Author.Tests.{lt-ltb, le-ltb}
 use lib.ListN.{length, getD, take, drop, length-append, length-drop, take-append-drop}
 use lib.Seq.{sets, sets-eq, take-at, drop-at, take-all}
 use Rattle.panel.specs.declared.Panel.{Panel}
-use Rattle.panel.specs.declared.Refusal.the-variants.{TextTooLong as TooLong}
-use Rattle.panel.specs.Answers.{refusalBytes}
 use Rattle.panel.specs.Panels.{opened}
 use Rattle.hex.specs.Hex.{lineOf}
-use Rattle.hex.proofs.Bytes.{length-line}
 use Rattle.fieldset.proofs.Tables.{sets-append}
 use Rattle.tally.specs.declared.Tally.{Tally}
 use Rattle.tally.specs.Tallies.{threeBytes, tallyBytes}
 use Rattle.frames.specs.declared.Outcome.the-variants.{Length, TextTooLong}
-use Rattle.frames.specs.Texts.{linesOf, panelAfter, replies, tallyAfter, written, output, isTooLong}
-use Rattle.frames.specs.Reading.{upTo, behindOf}
+use Rattle.frames.specs.Texts.{linesOf, panelAfter, replies, tallyAfter, written, output}
 use Rattle.frames.proofs.Lines.{lines-on, lines-end}
 use Rattle.frames.proofs.Outputs.{output-append}
 use Rattle.text.specs.declared.Progress.{Progress}
-use Rattle.text.specs.Runs.{longest, fitting, Ran, Paced, Resumed, wholeOutput, outcomeOf, bufferAfter, tallyAtEnd, Told}
+use Rattle.text.specs.Runs.{longest, Ran, Paced, Resumed, wholeOutput, outcomeOf, bufferAfter, tallyAtEnd, Told}
 
 -- ---- a run that goes on
 

@@ -12,7 +12,7 @@ ghost use Rattle.panel.specs.Legal.{Legal};
 ghost use Rattle.hex.specs.Hex.{lineOf};
 ghost use Rattle.tally.specs.Tallies.{tallyBytes};
 ghost use Rattle.frames.specs.Texts.{linesOf};
-ghost use Rattle.text.specs.Runs.{longest, fitting, Ran, Resumed, Told, Paced};
+ghost use Rattle.text.specs.Runs.{fitting, Ran, Resumed, Told, Paced};
 
 // Where a run over a text stands: the position of the next line, the panel, the tally, and how many bytes were written.
 pub struct Progress {

@@ -8,8 +8,6 @@ use Rattle.turning.proofs.Tables.{table-none}
 use Rattle.opening.proofs.Made.{made-unopened}
 use Rattle.opening.proofs.unopened.Statement.{statement}
 use Rattle.opening.proofs.unopened.Tie as tie
-use Rattle.opening.proofs.unopened.Reads as reads
-use Rattle.opening.proofs.unopened.Lts as lts
 use Rattle.opening.proofs.no_link.Reads as no-link-reads
 
 abbrev Inv-loop : tie.InvT-loop

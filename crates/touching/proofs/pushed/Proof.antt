@@ -2,8 +2,6 @@ use borrow.Author.Tests.{lt-ltb, le-ltb}
 use borrow.Author.Needs.{needs}
 use Rattle.touching.proofs.pushed.Statement.{statement}
 use Rattle.touching.proofs.pushed.Tie as tie
-use Rattle.touching.proofs.pushed.Reads as reads
-use Rattle.touching.proofs.pushed.Lts as lts
 
 -- src/lib.rt:213:17
 add-result : tie.Need-add-result

@@ -8,8 +8,6 @@ use Rattle.turning.proofs.Tables.{table-none}
 use Rattle.touching.proofs.Places.{pushedAt, push-step, front-set}
 use Rattle.touching.proofs.to_front.Statement.{statement}
 use Rattle.touching.proofs.to_front.Tie as tie
-use Rattle.touching.proofs.to_front.Reads as reads
-use Rattle.touching.proofs.to_front.Lts as lts
 use Rattle.touching.proofs.pushed.Reads as pushed-reads
 
 abbrev Inv-loop : tie.InvT-loop
