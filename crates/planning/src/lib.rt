@@ -3,7 +3,9 @@ use panel::Panel;
 use panel::Refusal;
 use panel::Reply;
 use strength::strengths;
-use tables::fill_tables;
+use tables::STAY;
+use tables::link_entry;
+use tables::stay_entry;
 use tables::wide;
 ghost use mathlib.Core.Path.{_≡_};
 ghost use Prim.Native.Nat.{_<_, _*_};
@@ -37,7 +39,19 @@ pub fn plan(p: Panel, rows: &mut [u8; 192]) -> Reply
     let mut levels = [0u8; 64];
     let mut others = [0u64; 64];
     let mut reads = [0u64; 64];
-    fill_tables(p, &mut levels, &mut others, &mut reads);
+    // filled here, as `tables::fill_tables` does it: a call would copy the panel
+    let mut g: usize = 0;
+    while g < n {
+        let c = p.setter[g];
+        let mut e = stay_entry(p.place[g]);
+        if c < STAY {
+            e = link_entry(p.links[wide(c)], g);
+        }
+        levels[g] = e.level;
+        others[g] = e.others;
+        reads[g] = e.reads;
+        g += 1;
+    }
     let mut table = [0u8; 64];
     strengths(&levels, &others, n, &mut table);
     let mut listed = [0u8; 64];

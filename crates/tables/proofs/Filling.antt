@@ -17,6 +17,7 @@ use Rattle.panel.specs.declared.Panel.{Panel}
 use Rattle.panel.specs.Items.{linkAt}
 use Rattle.panel.specs.Solution.{setterLevel, setterOthers, setterReads}
 use Rattle.panel.proofs.Turn.{setter-link, setter-stay}
+use Rattle.tables.specs.declared.Entry.{Entry}
 use Rattle.tables.specs.Leaves.{tableOf, TablesOf}
 
 -- one more entry
@@ -49,6 +50,16 @@ module _ (p : Panel) (f : ℕ) where
   set-by-stay h ex ey ez =
       let s = setter-stay (p .setter) f h in
       record { level = rw s ex; others = rw s (ey ∙ sym (stay-others f)); reads = rw s ez }
+
+  -- by a link's entry, and by a stay's
+  pub entered-link : (k : ℕ) (a e : Entry) → at (p .setter) f < 128 → k ≡ at (p .setter) f
+      → (a .level ≡ linkAt (p .links) k .level) × (a .others ≡ without (linkAt (p .links) k .outputs) f) × (a .reads ≡ without (linkAt (p .links) k .covered) f)
+      → e ≡ a → Setting p f (e .level) (e .others) (e .reads)
+  entered-link k a e h same is eq = rw eq (set-by-link k h same (is .0) (is .1) (is .2))
+
+  pub entered-stay : (a e : Entry) → 128 ≤ at (p .setter) f → (a .level ≡ 16 + at (p .place) f) × (a .others ≡ 0) × (a .reads ≡ 0) → e ≡ a
+      → Setting p f (e .level) (e .others) (e .reads)
+  entered-stay a e h is eq = rw eq (set-by-stay h (is .0) (is .1) (is .2))
 
   -- the tables of one more field
   pub fill-more : {x y z : ℕ} {l₀ o₀ r₀ l o r : List ℕ} → f < 64 → length l₀ ≡ 64 → length o₀ ≡ 64 → length r₀ ≡ 64 → Setting p f x y z

@@ -6,10 +6,11 @@ use panel::Panel;
 use panel::Standing;
 ghost use mathlib.Core.Path.{_≡_};
 ghost use mathlib.Core.Bool.{not, cond};
-ghost use Prim.Native.Nat.{_≤_, _<_};
+ghost use Prim.Native.Nat.{_+_, _≤_, _<_};
 ghost use lib.Dec.{eqb};
 ghost use lib.ListN.{length, take};
 ghost use Rattle.fieldset.specs.Numbers.{count};
+ghost use Rattle.fieldset.specs.Fields.{without};
 ghost use Rattle.fieldset.specs.Tables.{at};
 ghost use Rattle.panel.specs.Panels.{standing};
 ghost use Rattle.panel.specs.Solution.{reversed};
@@ -36,6 +37,37 @@ pub fn with_standing(l: Link, s: Standing) -> Link
         level: l.level,
         used: l.used,
         standing: s,
+    }
+}
+
+// What a field's setter gives its tables: level, other outputs, read fields.
+pub struct Entry {
+    pub level: u8,
+    pub others: u64,
+    pub reads: u64,
+}
+
+// Of a stay at this place.
+pub fn stay_entry(place: u8) -> Entry
+    requires { ⌜ place < 64 ⌝ }
+    ensures { λ r. ⌜ (r .level ≡ 16 + place) × (r .others ≡ 0) × (r .reads ≡ 0) ⌝ }
+{
+    Entry {
+        level: 16 + place,
+        others: 0,
+        reads: 0,
+    }
+}
+
+// Of a link that sets f.
+pub fn link_entry(l: Link, f: usize) -> Entry
+    requires { ⌜ f < 64 ⌝ }
+    ensures { λ r. ⌜ (r .level ≡ l .level) × (r .others ≡ without (l .outputs) f) × (r .reads ≡ without (l .covered) f) ⌝ }
+{
+    Entry {
+        level: l.level,
+        others: without(l.outputs, f),
+        reads: without(l.covered, f),
     }
 }
 

@@ -2,7 +2,6 @@
 use mathlib.Core.Path.{_≡_, refl, sym, ap, _∙_}
 use mathlib.Core.Bool.{true, false, not, and-false}
 use mathlib.Core.List.{List}
-use mathlib.Core.Logic.{_≢_}
 use Prim.Native.Nat.{ℕ, zero, suc, _≤_, _<_}
 use native.Mathlib.Omega.{arith}
 use borrow.Author.Tests.{lt-ltb, le-ltb, le-leb, lt-leb, eq-eqb, eqb-true}
@@ -69,19 +68,16 @@ module _ (p : Panel) (h : Legal p) (f : ℕ) (l : f < p .size) (place : List ℕ
       let first : at place f ≡ 0 = ap (λ (x : List ℕ). at x f) front ∙ getD-tabulate (placeAfter (p .place) f) 64 f 0 small ∙ rw (eq-eqb f f refl) refl in
       omega arith
 
-  pub stay-waits : 128 ≢ at (p .setter) f → waits (p .size) (p .links) (p .setter) (stay f) ≡ true
-  stay-waits ne =
-      let low : at (p .setter) f < 128 = omega (arith, h .setter-small f (omega (arith, h .few))) in
-      rw (lt-ltb f (p .size) l, lt-ltb (at (p .setter) f) 128 low) refl
+  pub stay-waits : at (p .setter) f < 128 → waits (p .size) (p .links) (p .setter) (stay f) ≡ true
+  stay-waits low = rw (lt-ltb f (p .size) l, lt-ltb (at (p .setter) f) 128 low) refl
 
   pub touch-still : isBlocked (placed p place) (stay f) ≡ false → answer (placed p place) 0 ≡ touchStep p f
   touch-still e =
       ap (answer (placed p place)) (sym (moved-none p (placed p place) refl)) ∙ rw (e, touched) refl
       ∙ ap (λ (q : Panel). touched p q f) is-front ∙ sym (touch-is p f)
 
-  pub touch-idle : at (p .setter) f ≡ 128 → answer (placed p place) 0 ≡ touchStep p f
-  touch-idle e =
-      touch-still (not-blocked (placed p place) (stay f) (rw (le-ltb (at (p .setter) f) 128 (omega arith)) (and-false (ltb f (p .size)))))
+  pub touch-idle : 128 ≤ at (p .setter) f → answer (placed p place) 0 ≡ touchStep p f
+  touch-idle k = touch-still (not-blocked (placed p place) (stay f) (rw (le-ltb (at (p .setter) f) 128 k) (and-false (ltb f (p .size)))))
 
   pub touch-turns : (a : Answer) → isBlocked (placed p place) (stay f) ≡ true → a ≡ turned p (placed p place) (stay f) → a ≡ touchStep p f
   touch-turns a e t = t ∙ rw (e, touched) refl ∙ ap (λ (q : Panel). touched p q f) is-front ∙ sym (touch-is p f)

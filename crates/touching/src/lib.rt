@@ -6,9 +6,10 @@ use panel::Refusal;
 use panel::Reply;
 use strength::greatest;
 use tables::STAY;
-use tables::fill_tables;
+use tables::link_entry;
 use tables::moved;
 use tables::reverse;
+use tables::stay_entry;
 use tables::wide;
 use turning::decide;
 ghost use mathlib.Core.Path.{_≡_};
@@ -46,68 +47,67 @@ fn to_front(place: &mut [u8; 64], f: usize)
 // Touches a field: its stay becomes the strongest of the stays.
 // The contract rules out, for instance, an order that stays as it was and an invented moved count (must-fail: order_kept,
 // moved_count_invented).
-pub fn touch(p: Panel, f: u8) -> Done
+pub fn touch(mut p: Panel, f: u8) -> Done
     requires { ⌜ Legal p ⌝ }
     ensures { λ r. ⌜ Gives r (performed p (touching f)) ⌝ }
 {
     let n = p.size;
-    if n == 0 {
-        return Done {
-            panel: p,
-            reply: Reply::Refused(Refusal::NotOpen),
-        };
-    }
     let v = wide(f);
-    if n <= v {
-        return Done {
-            panel: p,
-            reply: Reply::Refused(Refusal::NoSuchField),
-        };
+    let mut reply = Reply::Refused(Refusal::NotOpen);
+    if 0 < n {
+        reply = Reply::Refused(Refusal::NoSuchField);
     }
-    let mut q = p;
-    to_front(&mut q.place, v);
-    if q.setter[v] == STAY {
-        return Done {
-            panel: q,
-            reply: Reply::Accepted(0),
-        };
+    if v < n {
+        let place = p.place;
+        to_front(&mut p.place, v);
+        reply = Reply::Accepted(0);
+        if p.setter[v] < STAY {
+            let mut levels = [0u8; 64];
+            let mut others = [0u64; 64];
+            let mut reads = [0u64; 64];
+            let mut g: usize = 0;
+            while g < n {
+                let c = p.setter[g];
+                let mut e = stay_entry(p.place[g]);
+                if c < STAY {
+                    e = link_entry(p.links[wide(c)], g);
+                }
+                levels[g] = e.level;
+                others[g] = e.others;
+                reads[g] = e.reads;
+                g += 1;
+            }
+            let mut table = [0u8; 64];
+            let set = only(v);
+            let top = greatest(&levels, &others, n, set, &mut table);
+            if 16 < top.strength {
+                let mut path = [0u8; 64];
+                let t = decide(
+                    &levels,
+                    &others,
+                    &table,
+                    n,
+                    top.known,
+                    top.strength,
+                    set,
+                    set,
+                    &mut reads,
+                    &mut path,
+                );
+                if t.looped {
+                    p.place = place;
+                    reply = Reply::Refused(Refusal::Loop);
+                } else {
+                    let before = p.setter;
+                    p = reverse(p, STAY, &path, t.count);
+                    let m = moved(&before, &p.setter, n);
+                    reply = Reply::Accepted(m);
+                }
+            }
+        }
     }
-    let mut levels = [0u8; 64];
-    let mut others = [0u64; 64];
-    let mut reads = [0u64; 64];
-    fill_tables(q, &mut levels, &mut others, &mut reads);
-    let mut table = [0u8; 64];
-    let set = only(v);
-    let top = greatest(&levels, &others, n, set, &mut table);
-    if top.strength <= 16 {
-        return Done {
-            panel: q,
-            reply: Reply::Accepted(0),
-        };
-    }
-    let mut path = [0u8; 64];
-    let t = decide(
-        &levels,
-        &others,
-        &table,
-        n,
-        top.known,
-        top.strength,
-        set,
-        set,
-        &mut reads,
-        &mut path,
-    );
-    if t.looped {
-        return Done {
-            panel: p,
-            reply: Reply::Refused(Refusal::Loop),
-        };
-    }
-    let r = reverse(q, STAY, &path, t.count);
-    let m = moved(&p.setter, &r.setter, n);
     Done {
-        panel: r,
-        reply: Reply::Accepted(m),
+        panel: p,
+        reply: reply,
     }
 }
