@@ -1,13 +1,13 @@
 -- Laws of an add.
-use mathlib.Core.Path.{_≡_, refl, sym, ap, _∙_}
-use mathlib.Core.Bool.{Bool, true, false, not, _&&_, _||_, true≢false}
+use mathlib.Core.Path.{_≡_, refl, sym, ap, subst, _∙_}
+use mathlib.Core.Bool.{Bool, true, false, not, cond, _&&_, _||_, true≢false}
 use mathlib.Core.Logic.{_≢_}
 use mathlib.Core.List.{List, _++_}
-use Prim.Native.Nat.{ℕ, zero, suc, _<_}
-use native.Mathlib.Nat.{le-refl}
+use Prim.Native.Nat.{ℕ, zero, suc, _%_, _<_}
+use native.Mathlib.Nat.{le-refl, mod-eq-of-lt}
 use native.Mathlib.Omega.{arith}
-use borrow.Author.Tests.{lt-ltb, le-ltb, ltb-false, eq-eqb, ne-eqb}
-use lib.Dec.{ltb, leb}
+use borrow.Author.Tests.{lt-ltb, le-ltb, ltb-false, eq-eqb, ne-eqb, eqb-true, eqb-false, not-true, not-false}
+use lib.Dec.{eqb, ltb, leb}
 use lib.ListN.{set, drop}
 use Rattle.fieldset.specs.Tables.{tabulate}
 use Rattle.fieldset.specs.Fields.{without, below, within}
@@ -15,9 +15,13 @@ use Rattle.fieldset.proofs.Fields.{member-below}
 use Rattle.strength.specs.Filling.{Within}
 use Rattle.panel.specs.declared.Link.{Link}
 use Rattle.panel.specs.declared.Panel.{Panel}
+use Rattle.panel.specs.declared.Done.{Done}
+use Rattle.panel.specs.declared.Refusal.{Refusal}
 use Rattle.panel.specs.declared.Refusal.the-variants.{NotOpen, BadLink, NoSuchField, LinkTaken, Conflict}
+use Rattle.panel.specs.declared.Reply.{Reply}
+use Rattle.panel.specs.declared.Reply.the-variants.{Accepted, Refused}
 use Rattle.panel.specs.Items.{Item, link, stay, linkAt, setterOf, levelOf, outputsOf, isWaiting, waits}
-use Rattle.panel.specs.Answers.{Answer, refused}
+use Rattle.panel.specs.Answers.{Answer, answerOf, refused}
 use Rattle.panel.specs.Panels.{withLink}
 use Rattle.panel.specs.Solution.{level, setterLevel, setterOthers, setterReads, isBlocked, reversed}
 use Rattle.panel.specs.Steps.{turned, addStep}
@@ -33,8 +37,9 @@ use Rattle.fieldbytes.specs.Bytes.{FieldsOf}
 use Rattle.fieldbytes.proofs.FieldBytes.{add-check, covered-within}
 use Rattle.turning.proofs.Steps.{moved-none}
 use Rattle.turning.proofs.Decision.{answer}
-use Rattle.turning.proofs.Gives.{applies, passes, none-left}
-use Rattle.adding.specs.Addable.{Addable, waitingLink, isBadLink}
+use Rattle.turning.specs.Outcomes.{Gives}
+use Rattle.turning.proofs.Gives.{gives, applies, passes, none-left}
+use Rattle.adding.specs.Addable.{Addable, waitingLink, isBadLink, checkAdd}
 
 -- ---- the step, for the panel with the new link waiting
 
@@ -106,12 +111,13 @@ tables-there p i l l₀ o₀ r₀ l₁ o₁ r₁ idle t = record {
     same : (g h : ℕ → ℕ) (before : List ℕ) → ((f : ℕ) → f < p .size → g f ≡ h f) → tableOf g (p .size) before ≡ tableOf h (p .size) before
     same g h before e = ap (λ (x : List ℕ). x ++ drop (p .size) before) (tabulate-same g h (p .size) e)
 
--- the same path for the same number
-pub renumber : (q : Panel) (f : ℕ) (vs : List ℕ) {a b : ℕ} → a ≡ b → reversed q (itemOf a f) vs ≡ reversed q (itemOf b f) vs
-renumber q f vs e = ap (λ (x : ℕ). reversed q (itemOf x f) vs) e
+-- the same reversal for the same link and number
+pub same-reversal : (p : Panel) (k : ℕ) {x y : Link} {i j : ℕ} (f : ℕ) (vs : List ℕ) {q : Panel} → x ≡ y → i ≡ j
+    → q ≡ reversed (withLink p k x) (itemOf i f) vs → q ≡ reversed (withLink p k y) (itemOf j f) vs
+same-reversal p k f vs ex ei e = e ∙ rw (ex, ei) refl
 
 -- the number of a link
-pub number-small : (id level₁ c o : ℕ) (r : Bool) → isBadLink id level₁ c o r ≡ false → id < 128
+number-small : (id level₁ c o : ℕ) (r : Bool) → isBadLink id level₁ c o r ≡ false → id < 128
 number-small id level₁ c o r e = go (ltb 127 id) refl
   where
     go : (b : Bool) → ltb 127 id ≡ b → id < 128
@@ -120,7 +126,7 @@ number-small id level₁ c o r e = go (ltb 127 id) refl
 
 -- ---- the checks
 
-pub flip : (b c : Bool) → not b ≡ not c → b ≡ c
+flip : (b c : Bool) → not b ≡ not c → b ≡ c
 flip true true e = refl
 flip true false e = sym e
 flip false true e = sym e
@@ -133,7 +139,7 @@ module _ (p : Panel) (id level₁ : ℕ) (bytes : List ℕ) where
   out : Bool
   out = anyOf (λ b. leb (p .size) (fieldOf b)) bytes
 
-  pub add-closed : p .size ≡ 0 → refused p NotOpen ≡ performed p (adding id level₁ bytes)
+  add-closed : p .size ≡ 0 → refused p NotOpen ≡ performed p (adding id level₁ bytes)
   add-closed z = applies p (not (isOpen p)) NotOpen _ _ (ap not (le-ltb 0 (p .size) (omega arith)))
 
   module _ (open′ : 0 < p .size) where
@@ -145,7 +151,7 @@ module _ (p : Panel) (id level₁ : ℕ) (bytes : List ℕ) where
       unfolding bad
       bad-is = add-check id level₁ bytes ∙ rw (f .covered, f .outputs, f .rising) refl
 
-      pub add-bad : isBadLink id level₁ c o r ≡ true → refused p BadLink ≡ performed p (adding id level₁ bytes)
+      add-bad : isBadLink id level₁ c o r ≡ true → refused p BadLink ≡ performed p (adding id level₁ bytes)
       unfolding bad
       add-bad e = passes p (not (isOpen p)) NotOpen _ _ _ is-open (applies p bad BadLink _ _ (bad-is ∙ e))
 
@@ -157,7 +163,7 @@ module _ (p : Panel) (id level₁ : ℕ) (bytes : List ℕ) where
         unfolding out
         within-is = ap (λ (x : ℕ). within x (below (p .size))) (f .covered) ∙ covered-within (p .size) bytes
 
-        pub add-outside : within c (below (p .size)) ≡ false → refused p NoSuchField ≡ performed p (adding id level₁ bytes)
+        add-outside : within c (below (p .size)) ≡ false → refused p NoSuchField ≡ performed p (adding id level₁ bytes)
         unfolding bad out
         add-outside e =
             passes p (not (isOpen p)) NotOpen _ _ _ is-open (passes p bad BadLink _ _ _ fine-is (applies p out NoSuchField _ _ (flip out true (sym within-is ∙ e))))
@@ -166,20 +172,20 @@ module _ (p : Panel) (id level₁ : ℕ) (bytes : List ℕ) where
           none-out : out ≡ false
           none-out = flip out false (sym within-is ∙ all-in)
 
-          pub add-taken : linkAt (p .links) id .used ≡ true → refused p LinkTaken ≡ performed p (adding id level₁ bytes)
+          add-taken : linkAt (p .links) id .used ≡ true → refused p LinkTaken ≡ performed p (adding id level₁ bytes)
           unfolding bad out
           add-taken e =
               passes p (not (isOpen p)) NotOpen _ _ _ is-open
               (passes p bad BadLink _ _ _ fine-is (passes p out NoSuchField _ _ _ none-out (applies p (linkAt (p .links) id .used) LinkTaken _ _ e)))
 
           module _ (free : linkAt (p .links) id .used ≡ false) where
-            pub can-add : Legal p → Addable p id level₁ c o
+            can-add : Legal p → Addable p id level₁ c o
             unfolding bad out
             can-add h =
                 let a = Checks.addable p id level₁ bytes (is-open, (fine-is, (none-out, (free, tt)))) in
                 record { legal = h; number = a .number; free = free; formed = rw (f .covered, f .outputs) (a .formed) }
 
-            pub add-done : (a : Answer) → a ≡ addStep p id level₁ c o → a ≡ performed p (adding id level₁ bytes)
+            add-done : (a : Answer) → a ≡ addStep p id level₁ c o → a ≡ performed p (adding id level₁ bytes)
             unfolding bad out
             add-done a e =
                 passes p (not (isOpen p)) NotOpen _ _ a is-open
@@ -188,3 +194,57 @@ module _ (p : Panel) (id level₁ : ℕ) (bytes : List ℕ) where
                 (passes p (linkAt (p .links) id .used) LinkTaken _ _ a free
                 (none-left p (addStep p id level₁ (coveredIn bytes) (outputsIn bytes)) a
                 (e ∙ rw (f .covered, f .outputs) refl)))))
+
+-- ---- the checks' reply
+
+-- an add that none of the checks refuses, with the code's number k and count m
+pub record Passed (p : Panel) (id level₁ c o : ℕ) (r : Bool) (k m : ℕ) : Type 0 where
+  pub open′ : 0 < p .size
+  pub fine : isBadLink id level₁ c o r ≡ false
+  pub all-in : within c (below (p .size)) ≡ true
+  pub number : k ≡ id
+  pub free : linkAt (p .links) id .used ≡ false
+  pub none : m ≡ 0
+
+module _ (p : Panel) (id level₁ : ℕ) (bytes : List ℕ) (c o : ℕ) (r : Bool) (f : FieldsOf bytes c o r) (k : ℕ) (ek : k ≡ id % 128) where
+  -- a refusal is the command's; what is accepted has passed
+  abbrev Outcome : Reply → Type 0
+  Outcome (Refused x) = refused p x ≡ performed p (adding id level₁ bytes)
+  Outcome (Accepted m) = Passed p id level₁ c o r k m
+
+  choose : (b : Bool) (x : Refusal) (y : Reply) → (b ≡ true → Outcome (Refused x)) → (b ≡ false → Outcome y) → Outcome (cond b (Refused x) y)
+  choose true x y t e = t refl
+  choose false x y t e = e refl
+
+  outcome : Outcome (checkAdd (p .size) id level₁ c o r (linkAt (p .links) k .used))
+  outcome =
+      choose (eqb (p .size) 0) NotOpen _ (λ z. add-closed p id level₁ bytes (eqb-true (p .size) 0 z)) (λ z.
+      let l : 0 < p .size = omega (arith, eqb-false (p .size) 0 z) in
+      choose (isBadLink id level₁ c o r) BadLink _ (λ e. add-bad p id level₁ bytes l c o r f e) (λ e.
+      let n : k ≡ id = ek ∙ mod-eq-of-lt (number-small id level₁ c o r e) in
+      choose (not (within c (below (p .size)))) NoSuchField _ (λ w. add-outside p id level₁ bytes l c o r f e (not-true _ w)) (λ w.
+      choose (linkAt (p .links) k .used) LinkTaken _ (λ u. add-taken p id level₁ bytes l c o r f e (not-false _ w) (rw n at u)) (λ u.
+      record { open′ = l; fine = e; all-in = not-false _ w; number = n; free = rw n at u; none = refl }))))
+
+  module _ (y : Reply) (is : y ≡ checkAdd (p .size) id level₁ c o r (linkAt (p .links) k .used)) where
+    pub checks-refuse : (x : Refusal) → y ≡ Refused x → answerOf (record { panel = p; reply = y }) ≡ performed p (adding id level₁ bytes)
+    checks-refuse x e = rw e (subst Outcome (sym is ∙ e) outcome)
+
+    pub checks-accept : (m : ℕ) → y ≡ Accepted m → Passed p id level₁ c o r k m
+    checks-accept m e = subst Outcome (sym is ∙ e) outcome
+
+-- ---- behind the checks
+
+module _ (p : Panel) (id level₁ : ℕ) (bytes : List ℕ) (c o : ℕ) (r : Bool) (f : FieldsOf bytes c o r) (k m : ℕ) (h : Passed p id level₁ c o r k m) (l : Legal p) where
+  pub passed-adds : Addable p k level₁ c o
+  passed-adds = rw (h .number) (can-add p id level₁ bytes (h .open′) c o r f (h .fine) (h .all-in) (h .free) l)
+
+  pub passed-gives : (d : Done) → answerOf d ≡ addStep p k level₁ c o → Gives d (performed p (adding id level₁ bytes))
+  passed-gives d t =
+      gives p (adding id level₁ bytes) d l
+      (add-done p id level₁ bytes (h .open′) c o r f (h .fine) (h .all-in) (h .free) (answerOf d) (t ∙ ap (λ (x : ℕ). addStep p x level₁ c o) (h .number)))
+
+  -- the answer where the new link waits, by the checks' reply
+  pub waits-answer : (x : Link) (y : Reply) → x ≡ waitingLink level₁ c o → y ≡ Accepted m
+      → answerOf (record { panel = withLink p k x; reply = y }) ≡ answer (withLink p k (waitingLink level₁ c o)) 0
+  waits-answer x y ex ey = rw (ex, ey, h .none) refl

@@ -1,12 +1,15 @@
 -- What adding a link asks behind the checks.
 use Prim.Native.Nat.{ℕ, _<_}
 use mathlib.Core.Path.{_≡_}
-use mathlib.Core.Bool.{Bool, true, false, not, _||_}
+use mathlib.Core.Bool.{Bool, true, false, not, cond, _||_}
 use lib.Dec.{eqb, ltb}
-use Rattle.fieldset.specs.Fields.{size}
+use Rattle.fieldset.specs.Fields.{size, below, within}
 use Rattle.panel.specs.declared.Standing.the-variants.{Waiting}
 use Rattle.panel.specs.declared.Link.{Link}
 use Rattle.panel.specs.declared.Panel.{Panel}
+use Rattle.panel.specs.declared.Refusal.the-variants.{NotOpen, BadLink, NoSuchField, LinkTaken}
+use Rattle.panel.specs.declared.Reply.{Reply}
+use Rattle.panel.specs.declared.Reply.the-variants.{Accepted, Refused}
 use Rattle.panel.specs.Items.{linkAt}
 use Rattle.panel.specs.Legal.{Legal, Formed}
 
@@ -25,3 +28,11 @@ pub record Addable (p : Panel) (id level covered outputs : ℕ) : Type 0 where
 abbrev pub isBadLink : ℕ → ℕ → ℕ → ℕ → Bool → Bool
 isBadLink id level covered outputs rising =
     ltb 127 id || ltb 15 level || not rising || eqb (size covered) 0 || ltb 8 (size covered) || eqb outputs 0
+
+-- the reply of the checks of an add to a panel of n fields: `used` where its number is taken
+abbrev pub checkAdd : ℕ → ℕ → ℕ → ℕ → ℕ → Bool → Bool → Reply
+checkAdd n id level covered outputs rising used =
+    cond (eqb n 0) (Refused NotOpen)
+    (cond (isBadLink id level covered outputs rising) (Refused BadLink)
+    (cond (not (within covered (below n))) (Refused NoSuchField)
+    (cond used (Refused LinkTaken) (Accepted 0))))
