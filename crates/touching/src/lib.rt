@@ -95,6 +95,7 @@ pub fn touch(mut p: Panel, f: u8) -> Done
                     &mut path,
                 );
                 if t.looped {
+                    // a refusal leaves the order as it was
                     p.place = place;
                     reply = Reply::Refused(Refusal::Loop);
                 } else {
