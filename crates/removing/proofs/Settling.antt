@@ -1,8 +1,9 @@
 -- After a removal: the item of least level that is blocked, and what turning for it gives.
 use mathlib.Core.Path.{_≡_, refl, sym, ap, _∙_}
+use mathlib.Core.Logic.{_≢_, _⊎_, ⊎-elim}
 use mathlib.Core.Bool.{Bool, true, false, not}
 use mathlib.Core.List.{List}
-use mathlib.Core.Option.{some}
+use mathlib.Core.Option.{none, some}
 use Prim.Native.Nat.{ℕ, _<_}
 use native.Mathlib.Decide.{ℕ-discrete}
 use native.Mathlib.Omega.{arith}
@@ -19,7 +20,7 @@ use Rattle.strength.specs.Filling.{Acyclic, Strengths, Within}
 use Rattle.panel.specs.declared.Link.{Link}
 use Rattle.panel.specs.declared.Panel.{Panel}
 use Rattle.panel.specs.declared.Blocked.{Blocked}
-use Rattle.panel.specs.declared.Blocked.the-variants.{Nothing, Link as ALink, Stay as AStay}
+use Rattle.panel.specs.declared.Blocked.the-variants.{Link as ALink, Stay as AStay}
 use Rattle.panel.specs.declared.Refusal.the-variants.{Loop}
 use Rattle.panel.specs.Items.{Item, link, stay, linkAt, outputsOf, inForce, itemsOf, foundOf}
 use Rattle.panel.specs.Answers.{refused}
@@ -68,6 +69,10 @@ taken-stay q b f k m setter outputs covered l e w is s o c = record {
   cover = c ∙ is ∙ ap only w;
 }
 
+-- what a scan found: nothing, and no outputs, or an item
+abbrev pub Found : Panel → ℕ → ℕ → ℕ → Type 0
+Found q setter outputs covered = ((leastBlocked q ≡ none) × (outputs ≡ 0)) ⊎ Taken q setter outputs covered
+
 -- ---- a blocked item
 
 -- what an item in force covers are fields of the panel
@@ -98,6 +103,9 @@ module _ (q : Panel) (h : Legal q) (d : Item) (found : leastBlocked q ≡ some d
   found-force : inForce (q .size) (q .links) d ≡ true
   found-force = waits-force (q .size) (q .links) (q .setter) d (found-blocking .waits-now)
 
+  found-output : 0 < outputsOf (q .links) d
+  found-output = some-of (outputsOf (q .links) d) (found-blocking .field) (found-blocking .output)
+
   found-link : (i : ℕ) → d ≡ link i → i < 128
   found-link i e = used-small (q .links) i (h .links-length) (rw e at found-force)
 
@@ -110,6 +118,13 @@ link-small q h b i k f e w = omega (arith, found-link q h (link i) (sym f ∙ ap
 
 pub stay-small : (q : Panel) → Legal q → (b : Blocked) (f k : ℕ) → foundOf b ≡ leastBlocked q → b ≡ AStay f → k ≡ f → k < 64
 stay-small q h b f k l e w = omega (arith, h .few, found-stay q h (stay f) (sym l ∙ ap foundOf e) f refl)
+
+module _ (q : Panel) (h : Legal q) (setter outputs covered : ℕ) (f : Found q setter outputs covered) where
+  pub found-some : outputs ≢ 0 → Taken q setter outputs covered
+  found-some e = ⊎-elim (λ n. absurd (e (n .1))) (λ k. k) f
+
+  pub found-none : outputs ≡ 0 → leastBlocked q ≡ none
+  found-none e = ⊎-elim (λ n. n .0) (λ k. absurd (omega (arith, k .outs, found-output q h (k .item) (k .found)))) f
 
 -- ---- the tables of a legal panel
 
@@ -161,7 +176,7 @@ module _ (q : Panel) (h : Legal q) (levels others reads : List ℕ)
         acyclic = panel-acyclic;
         strengths = all-strengths;
         outputs-known = outputs-in;
-        some-output = some-of (outputsOf (q .links) (k .item)) (found-blocking q h (k .item) (k .found) .field) (found-blocking q h (k .item) (k .found) .output);
+        some-output = found-output q h (k .item) (k .found);
         outputs-inside = outputs-in;
         is-greatest = is-greatest;
         among = table-among q (k .item) (legal .carrying) (legal .loopless) levels others reads t;
@@ -192,7 +207,7 @@ module _ (q : Panel) (h : Legal q) (levels others reads : List ℕ)
             ∙ ap (settled p q) (sym (k .found))
 
 -- nothing is blocked
-pub settle-none : (p q : Panel) (b : Blocked) (m : ℕ) → foundOf b ≡ leastBlocked q → b ≡ Nothing
+pub settle-none : (p q : Panel) (m : ℕ) → leastBlocked q ≡ none
     → m ≡ Numbers.count (λ f. not (eqb (at (p .setter) f) (at (q .setter) f))) (q .size) → answer q m ≡ settled p q (leastBlocked q)
 unfolding moved
-settle-none p q b m f e counted = ap (answer q) counted ∙ ap (settled p q) (sym (ap foundOf e) ∙ f)
+settle-none p q m e counted = ap (answer q) counted ∙ ap (settled p q) (sym e)

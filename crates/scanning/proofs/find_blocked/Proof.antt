@@ -1,49 +1,173 @@
--- `scanning::find_blocked` meets its contract. Assumes nothing.
-use mathlib.Core.Path.{_∙_}
-use Rattle.scanning.proofs.Scan.{blocked-link-first, no-blocked-link, blocked-stay-first, no-blocked-stay}
+-- `scanning::find_blocked` meets its contract: the links passed, and then the stays passed, are scanned. Assumes nothing.
+use Prim.Native.Nat.{_-_, _≤_, _<_}
+use mathlib.Core.Path.{_≡_, sym, ap, _∙_}
+use mathlib.Core.Logic.{⊎-elim}
+use native.Mathlib.Omega.{arith}
 use borrow.Author.Needs.{needs}
+use borrow.Author.Tests.{ltb-true, ltb-false}
+use Rattle.fieldset.specs.Tables.{at}
+use Rattle.panel.specs.Items.{link, stay}
+use Rattle.panel.specs.Solution.{isBlocked, level}
+use Rattle.scanning.specs.Scan.{leastOf}
+use Rattle.scanning.proofs.Over.{link-blocked, link-level, stay-over, stay-under, stay-sets}
+use Rattle.scanning.proofs.Scan.{Scanned, scan-none, scan-takes, scan-leaves, scan-keeps, blocked-link-first, no-blocked-link, blocked-stay-first, no-blocked-stay}
 use Rattle.scanning.proofs.find_blocked.Statement.{statement}
 use Rattle.scanning.proofs.find_blocked.Tie as tie
 
-blocked-link-requires : tie.Need-blocked-link-requires
-blocked-link-requires c κs = search needs
+abbrev Inv-loop : tie.InvT-loop
+Inv-loop table p found₀ least₀ i₀ found least i = (i ≤ 128) × Scanned (isBlocked p) (level p) link 128 i found least
 
-cast-t6 : tie.Need-cast-t6
-cast-t6 c = search needs
+abbrev μ-loop : tie.MeasureT-loop
+μ-loop table p found₀ least₀ i₀ found least i = 128 - i
 
-returns : tie.Need-returns
+abbrev Inv-loop2 : tie.InvT-loop2
+Inv-loop2 table p found least i n stay₀ low₀ f₀ stay′ low f = (f ≤ n) × Scanned (isBlocked p) (level p) stay 64 f stay′ low
+
+abbrev μ-loop2 : tie.MeasureT-loop2
+μ-loop2 table p found least i n stay₀ low₀ f₀ stay′ low f = n - f
+
+loop-holds : tie.Need-loop-holds Inv-loop μ-loop Inv-loop2 μ-loop2
+loop-holds c = (omega arith, scan-none (isBlocked (c .args .t1)) (level (c .args .t1)) link 128)
+
+mul-l : tie.Need-mul-l Inv-loop μ-loop Inv-loop2 μ-loop2
+mul-l c = omega arith
+
+element-copy-out-l : tie.Need-element-copy-out-l Inv-loop μ-loop Inv-loop2 μ-loop2
+element-copy-out-l c = omega arith
+
+is-blocked-requires : tie.Need-is-blocked-requires Inv-loop μ-loop Inv-loop2 μ-loop2
+is-blocked-requires c κs = search needs
+
+add-i : tie.Need-add-i Inv-loop μ-loop Inv-loop2 μ-loop2
+add-i c = omega arith
+
+loop-less : tie.Need-loop-less Inv-loop μ-loop Inv-loop2 μ-loop2
+loop-less c = omega arith
+
+loop-again : tie.Need-loop-again Inv-loop μ-loop Inv-loop2 μ-loop2
+loop-again c =
+    let b = c .before .before .before .before .before in
+    let a = c .before .before .before .before .loop in
+    let p = b .args .t1 in
+    let L = b .pre .0 in
+    let l : a .i < 128 = omega arith in
+    let q = link-blocked p (b .args .table .now) L (b .pre .1) (a .i) l in (
+      omega arith,
+      ⊎-elim (λ w. scan-takes (a .inv .1) (w .3) (w .4) l (q ∙ sym (w .1 .ensures) ∙ w .2 .taken) (w .0 .taken))
+          (λ w.
+          ⊎-elim (λ v. scan-leaves (a .inv .1) (w .1) (w .2) (q ∙ sym (v .1 .ensures) ∙ v .2 .left))
+          (λ v. scan-keeps (a .inv .1) (w .1) (w .2) (omega (arith, link-level p (a .i) L l)) (v .left)) (w .0 .came))
+          (c .if1 .came),
+    )
+
+cast-t21 : tie.Need-cast-t21 Inv-loop μ-loop Inv-loop2 μ-loop2
+cast-t21 c = omega arith
+
+returns : tie.Need-returns Inv-loop μ-loop Inv-loop2 μ-loop2
 returns c =
-    let b = c .before .before in
-    blocked-link-first (b .args .p) (c .before .blocked-link .result) (b .pre .0) (c .before .blocked-link .ensures) (c .if1 .taken)
+    let s = c .before .before .before in
+    let a = c .before .before .loop in
+    let e : a .i ≡ 128 = omega arith in
+    blocked-link-first (s .args .t1) (a .found) (s .pre .0) (ap (leastOf (s .args .t1) link) (sym e) ∙ a .inv .1 .result) (c .if3 .taken)
 
-blocked-stay-requires : tie.Need-blocked-stay-requires
-blocked-stay-requires c κs = search needs
+loop2-holds : tie.Need-loop2-holds Inv-loop μ-loop Inv-loop2 μ-loop2
+loop2-holds c =
+    let p = c .before .before .before .args .t1 in
+    (omega arith, scan-none (isBlocked p) (level p) stay 64)
 
-cast-t7 : tie.Need-cast-t7
-cast-t7 c = search needs
+element-copy-out-level : tie.Need-element-copy-out-level Inv-loop μ-loop Inv-loop2 μ-loop2
+element-copy-out-level c = omega (arith, c .before .before .before .before .before .pre .0 .few)
 
-returns-2 : tie.Need-returns-2
+add-level : tie.Need-add-level Inv-loop μ-loop Inv-loop2 μ-loop2
+add-level c =
+    let L = c .before .before .before .before .before .before .pre .0 in
+    omega (arith, L .place-small (c .before .before .loop2 .f) (omega arith), L .few)
+
+element-copy-out-if4 : tie.Need-element-copy-out-if4 Inv-loop μ-loop Inv-loop2 μ-loop2
+element-copy-out-if4 c = omega (arith, c .before .before .before .before .before .before .pre .0 .few)
+
+element-copy-out-if5 : tie.Need-element-copy-out-if5 Inv-loop μ-loop Inv-loop2 μ-loop2
+element-copy-out-if5 c = omega (arith, c .before .before .before .before .before .before .before .before .pre .0 .few)
+
+add-f : tie.Need-add-f Inv-loop μ-loop Inv-loop2 μ-loop2
+add-f c = omega arith
+
+loop2-less : tie.Need-loop2-less Inv-loop μ-loop Inv-loop2 μ-loop2
+loop2-less c = omega arith
+
+loop2-again : tie.Need-loop2-again Inv-loop μ-loop Inv-loop2 μ-loop2
+loop2-again c =
+    let b = c .before .before .before .before .before .before .before .before in
+    let a = c .before .before .before .before .loop2 in
+    let p = b .args .t1 in
+    let t = b .args .table .now in
+    let L = b .pre .0 in
+    let S = b .pre .1 in
+    let lev = level p (stay (a .f)) in
+    let l : a .f < p .size = omega arith in
+    let few : a .f < 64 = omega (arith, L .few) in (
+      omega arith,
+      ⊎-elim
+          (λ w.
+          scan-takes (a .inv .1) (w .4) (w .5) few (stay-over p t L S (a .f) l (w .0 .taken) (ltb-true lev (at t (a .f)) (w .2 .taken)))
+          (ltb-true lev (a .low) (w .3 .taken)))
+          (λ w.
+          ⊎-elim (λ v. scan-keeps (a .inv .1) (w .1) (w .2) (omega (arith, L .place-small (a .f) l)) (ltb-false lev (a .low) (v .3 .left)))
+          (⊎-elim (λ v. scan-leaves (a .inv .1) (w .1) (w .2) (stay-under p t L S (a .f) l (ltb-false lev (at t (a .f)) (v .2 .left))))
+          (λ v. scan-leaves (a .inv .1) (w .1) (w .2) (stay-sets p t L S (a .f) l (v .left)))) (w .0 .came))
+          (c .if4 .came),
+    )
+
+cast-t34 : tie.Need-cast-t34 Inv-loop μ-loop Inv-loop2 μ-loop2
+cast-t34 c = omega arith
+
+returns-2 : tie.Need-returns-2 Inv-loop μ-loop Inv-loop2 μ-loop2
 returns-2 c =
-    let b = c .before .before .before .before in
-    let i = c .before .before .before .blocked-link in
-    let f = c .before .blocked-stay in
-    blocked-stay-first (b .args .p) (f .result) (f .ensures) (c .if2 .taken) ∙ no-blocked-link (b .args .p) (i .result) (i .ensures) (c .before .before .if1 .left)
+    let d = c .before .before in
+    let s = d .before .before .before .before in
+    let a = d .before .before .before .loop in
+    let p = s .args .t1 in
+    let e : a .i ≡ 128 = omega arith in
+    let n : d .loop2 .f ≡ p .size = omega arith in
+    blocked-stay-first p (d .loop2 .stay) (ap (leastOf p stay) (sym n) ∙ d .loop2 .inv .1 .result) (c .if7 .taken)
+    ∙ no-blocked-link p (a .found) (ap (leastOf p link) (sym e) ∙ a .inv .1 .result) (d .before .if3 .left)
 
-returns-3 : tie.Need-returns-3
+returns-3 : tie.Need-returns-3 Inv-loop μ-loop Inv-loop2 μ-loop2
 returns-3 c =
-    let b = c .before .before .before .before in
-    let i = c .before .before .before .blocked-link in
-    let f = c .before .blocked-stay in
-    no-blocked-stay (b .args .p) (f .result) (f .ensures) (c .if2 .left) ∙ no-blocked-link (b .args .p) (i .result) (i .ensures) (c .before .before .if1 .left)
+    let d = c .before .before in
+    let s = d .before .before .before .before in
+    let a = d .before .before .before .loop in
+    let p = s .args .t1 in
+    let e : a .i ≡ 128 = omega arith in
+    let n : d .loop2 .f ≡ p .size = omega arith in
+    no-blocked-stay p (d .loop2 .stay) (ap (leastOf p stay) (sym n) ∙ d .loop2 .inv .1 .result) (c .if7 .left)
+    ∙ no-blocked-link p (a .found) (ap (leastOf p link) (sym e) ∙ a .inv .1 .result) (d .before .if3 .left)
 
 pub find-blocked-spec : {M : Type 1} → statement M
 find-blocked-spec =
     tie.close
     (tie.spec
-    blocked-link-requires
-    cast-t6
+    Inv-loop
+    μ-loop
+    Inv-loop2
+    μ-loop2
+    loop-holds
+    mul-l
+    element-copy-out-l
+    is-blocked-requires
+    add-i
+    loop-less
+    loop-again
+    cast-t21
     returns
-    blocked-stay-requires
-    cast-t7
+    loop2-holds
+    element-copy-out-level
+    add-level
+    element-copy-out-if4
+    element-copy-out-if5
+    add-f
+    loop2-less
+    loop2-again
+    cast-t34
     returns-2
     returns-3)

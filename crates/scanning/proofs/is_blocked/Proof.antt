@@ -1,14 +1,8 @@
 -- `scanning::is_blocked` meets its contract. Assumes nothing.
-use borrow.Author.Tests.{not-true, not-false}
 use Rattle.scanning.proofs.Over.{link-unused, link-holds, link-waits}
 use borrow.Author.Needs.{needs}
 use Rattle.scanning.proofs.is_blocked.Statement.{statement}
 use Rattle.scanning.proofs.is_blocked.Tie as tie
-
-returns : tie.Need-returns
-returns c =
-    let b = c .before .before .args in
-    link-unused (b .table .now) (b .l) (not-true (b .l .used) (c .if1 .taken))
 
 enum-told : tie.Need-enum-told
 enum-told c = search needs
@@ -19,16 +13,22 @@ is-over-requires c κs = search needs
 enum-told-2 : tie.Need-enum-told-2
 enum-told-2 c = search needs
 
+returns : tie.Need-returns
+returns c =
+    let t = c .before .before in
+    let b = t .before .before .args in
+    link-waits (b .table .now) (b .l) (c .is-over .result) (c .before .if1 .taken) (t .enum-told .given .1) (c .is-over .ensures)
+
 returns-2 : tie.Need-returns-2
 returns-2 c =
-    let b = c .before .before .before .before .before .args in
-    link-waits (b .table .now) (b .l) (c .is-over .result) (not-false (b .l .used) (c .before .before .before .if1 .left)) (c .before .enum-told .given .1) (c .is-over .ensures)
+    let b = c .before .before .before .args in
+    link-unused (b .table .now) (b .l) (c .if1 .left)
 
 returns-3 : tie.Need-returns-3
 returns-3 c =
-    let b = c .before .before .before .before .args in
+    let b = c .before .before .args in
     link-holds (b .table .now) (b .l) (c .enum-told2 .given .0 .0) (c .enum-told2 .given .1)
 
 pub is-blocked-spec : {M : Type 1} → statement M
 is-blocked-spec =
-    tie.close (tie.spec returns enum-told is-over-requires enum-told-2 returns-2 returns-3)
+    tie.close (tie.spec enum-told is-over-requires enum-told-2 returns returns-2 returns-3)
