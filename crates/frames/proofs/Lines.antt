@@ -77,7 +77,6 @@ lines-few (c ∷ s) = go (eqb c 10) (lines-few s) (linesOf s) refl where
 -- ---- the line from a position of a text, its end, and the position behind it
 
 module _ (text : List ℕ) (from end : ℕ) (h : from < length text) (e : end ≡ from + upTo (drop from text)) where
-
   pub end-within : end ≤ length text
   end-within = omega (arith, up-to-le (drop from text), length-drop from text)
 

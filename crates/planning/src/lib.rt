@@ -39,7 +39,6 @@ pub fn plan(p: Panel, rows: &mut [u8; 192]) -> Reply
     let mut levels = [0u8; 64];
     let mut others = [0u64; 64];
     let mut reads = [0u64; 64];
-    // filled here, as `tables::fill_tables` does it: a call would copy the panel
     let mut g: usize = 0;
     while g < n {
         let c = p.setter[g];

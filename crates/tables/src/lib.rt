@@ -14,8 +14,7 @@ ghost use Rattle.fieldset.specs.Fields.{without};
 ghost use Rattle.fieldset.specs.Tables.{at};
 ghost use Rattle.panel.specs.Panels.{standing};
 ghost use Rattle.panel.specs.Solution.{reversed};
-ghost use Rattle.panel.specs.Legal.{Legal};
-ghost use Rattle.tables.specs.Leaves.{TablesOf, PathOf, itemOf, reversedReads};
+ghost use Rattle.tables.specs.Leaves.{PathOf, itemOf, reversedReads};
 
 // The setter of a field that its stay sets.
 pub const STAY: u8 = 128;
@@ -68,32 +67,6 @@ pub fn link_entry(l: Link, f: usize) -> Entry
         level: l.level,
         others: without(l.outputs, f),
         reads: without(l.covered, f),
-    }
-}
-
-// For each field of the panel the level, the other outputs and the read fields of its setter; the tables' rests are as they were.
-pub fn fill_tables(p: Panel, levels: &mut [u8; 64], others: &mut [u64; 64], reads: &mut [u64; 64])
-    requires { ⌜ Legal p × (length (now levels) ≡ 64) × (length (now others) ≡ 64) × (length (now reads) ≡ 64) ⌝ }
-    ensures { λ r. ⌜ TablesOf p (p .size) (now (levels .entry)) (now (others .entry)) (now (reads .entry)) (now (levels .exit)) (now (others .exit)) (now (reads .exit)) ⌝ }
-{
-    let n = p.size;
-    let mut f: usize = 0;
-    while f < n {
-        let c = p.setter[f];
-        // of its stay
-        let mut level = 16 + p.place[f];
-        let mut other = 0u64;
-        let mut read = 0u64;
-        if c < STAY {
-            let l = p.links[wide(c)];
-            level = l.level;
-            other = without(l.outputs, f);
-            read = without(l.covered, f);
-        }
-        levels[f] = level;
-        others[f] = other;
-        reads[f] = read;
-        f += 1;
     }
 }
 
