@@ -265,6 +265,13 @@ fn limit_in_pieces() {
     }
 }
 
+/// A read that fails is not taken for the end of the text: nothing is answered.
+/// A folder can be opened, and cannot be read.
+#[test]
+fn failed_read_is_not_answered() {
+    assert_eq!(program::run_on_file("/"), b"");
+}
+
 /// What is read of the output before it is closed is right, and the program
 /// ends (this comes back), whether the signal of a closed pipe ends it or it
 /// gets an error from each write.
