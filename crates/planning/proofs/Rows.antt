@@ -1,20 +1,15 @@
 -- The rows of a plan, written one after the other.
 use mathlib.Core.Path.{_≡_, refl, sym, ap, _∙_}
 use mathlib.Core.List.{List, [], _∷_, _++_}
-use Prim.Native.Nat.{ℕ, suc, _+_, _*_, _<_}
-use native.Mathlib.Nat.{add-zero}
+use Prim.Native.Nat.{ℕ, _+_, _*_, _<_}
 use native.Mathlib.Numerals.{add-one}
 use native.Mathlib.Omega.{arith}
-use lib.ListN.{length, take, set, length-take}
+use lib.ListN.{length, take, length-take}
 use lib.Seq.{sets, take-suc}
 use Rattle.fieldset.specs.Tables.{at}
+use Rattle.fieldset.proofs.Tables.{sets-append}
 use Rattle.panel.specs.declared.Panel.{Panel}
 use Rattle.panel.specs.Solution.{strengthOf, rowsOf}
-
--- what is stored in two parts
-pub sets-append : (xs ys l : List ℕ) (i : ℕ) → sets l i (xs ++ ys) ≡ sets (sets l i xs) (i + length xs) ys
-sets-append [] ys l i = ap (λ (k : ℕ). sets l k ys) (sym (add-zero i))
-sets-append (x ∷ xs) ys l i = sets-append xs ys (set l i x) (suc i) ∙ ap (λ (k : ℕ). sets (sets (set l i x) (suc i) xs) k ys) (omega arith)
 
 -- the row of a field
 abbrev pub rowOf : Panel → ℕ → List ℕ
@@ -39,6 +34,6 @@ rows-step p plan before rows rows′ i f l e was now =
     now
     ∙ ap (λ (x : List ℕ). sets x (3 * i) (rowOf p f)) was
     ∙ ap (λ (k : ℕ). sets (sets before 0 (rowsOf p (take i plan))) k (rowOf p f)) (omega arith)
-    ∙ sym (sets-append (rowsOf p (take i plan)) (rowOf p f) before 0)
+    ∙ sets-append before 0 (rowsOf p (take i plan)) (rowOf p f)
     ∙ ap (λ (x : List ℕ). sets before 0 x) (sym (rows-more p (take i plan) f))
     ∙ ap (λ (x : List ℕ). sets before 0 (rowsOf p x)) (sym more)
