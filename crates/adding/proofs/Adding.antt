@@ -26,24 +26,32 @@ use Rattle.panel.specs.Panels.{withLink}
 use Rattle.panel.specs.Solution.{level, setterLevel, setterOthers, setterReads, isBlocked, reversed}
 use Rattle.panel.specs.Steps.{turned, addStep}
 use Rattle.panel.specs.Commands.{isOpen, performed, adding, areFieldBytes, isRising, anyOf, isOutput, fieldOf, coveredIn, outputsIn}
-use Rattle.panel.specs.Legal.{Legal}
+use Rattle.panel.specs.Legal.{Legal, Formed}
 use Rattle.panel.proofs.Turn.{link-here, link-there}
 use Rattle.panel.proofs.Legal.{LegalBut}
 use Rattle.panel.proofs.Setters.{reads-there}
 use Rattle.panel.proofs.Changes.{legal-add}
 use Rattle.panel.proofs.Checks
-use Rattle.tables.specs.Leaves.{tableOf, TablesOf, itemOf}
+use Rattle.tables.specs.Leaves.{itemOf}
+use Rattle.tables.proofs.Filling.{tableOf, TablesOf}
 use Rattle.fieldbytes.specs.Bytes.{FieldsOf}
 use Rattle.fieldbytes.proofs.FieldBytes.{add-check, covered-within}
 use Rattle.turning.proofs.Steps.{moved-none}
 use Rattle.turning.proofs.Decision.{answer}
 use Rattle.turning.specs.Outcomes.{Gives}
 use Rattle.turning.proofs.Gives.{gives, applies, passes, none-left}
-use Rattle.adding.specs.Addable.{Addable, waitingLink, isBadLink, checkAdd}
+use Rattle.adding.specs.Checks.{waitingLink, isBadLink, checkAdd}
+
+-- a well-formed link can be entered under a number that is free
+pub record Enterable (p : Panel) (id level covered outputs : ℕ) : Type 0 where
+  pub legal : Legal p
+  pub number : id < 128
+  pub free : linkAt (p .links) id .used ≡ false
+  pub formed : Formed (p .size) (waitingLink level covered outputs)
 
 -- ---- the step, for the panel with the new link waiting
 
-module _ (p : Panel) (id level₁ covered outputs : ℕ) (a : Addable p id level₁ covered outputs) where
+module _ (p : Panel) (id level₁ covered outputs : ℕ) (a : Enterable p id level₁ covered outputs) where
   pub new-legal : LegalBut (link id) (withLink p id (waitingLink level₁ covered outputs))
   new-legal = legal-add p id (waitingLink level₁ covered outputs) (a .legal) (a .number) (a .free) (a .formed) refl refl
 
@@ -179,7 +187,7 @@ module _ (p : Panel) (id level₁ : ℕ) (bytes : List ℕ) where
               (passes p bad BadLink _ _ _ fine-is (passes p out NoSuchField _ _ _ none-out (applies p (linkAt (p .links) id .used) LinkTaken _ _ e)))
 
           module _ (free : linkAt (p .links) id .used ≡ false) where
-            can-add : Legal p → Addable p id level₁ c o
+            can-add : Legal p → Enterable p id level₁ c o
             unfolding bad out
             can-add h =
                 let a = Checks.addable p id level₁ bytes (is-open, (fine-is, (none-out, (free, tt)))) in
@@ -236,7 +244,7 @@ module _ (p : Panel) (id level₁ : ℕ) (bytes : List ℕ) (c o : ℕ) (r : Boo
 -- ---- behind the checks
 
 module _ (p : Panel) (id level₁ : ℕ) (bytes : List ℕ) (c o : ℕ) (r : Bool) (f : FieldsOf bytes c o r) (k m : ℕ) (h : Passed p id level₁ c o r k m) (l : Legal p) where
-  pub passed-adds : Addable p k level₁ c o
+  pub passed-adds : Enterable p k level₁ c o
   passed-adds = rw (h .number) (can-add p id level₁ bytes (h .open′) c o r f (h .fine) (h .all-in) (h .free) l)
 
   pub passed-gives : (d : Done) → answerOf d ≡ addStep p k level₁ c o → Gives d (performed p (adding id level₁ bytes))

@@ -1,1 +1,1 @@
-pub mod Addable
+pub mod Checks

@@ -23,7 +23,7 @@ ghost use Prim.Native.Nat.{_≤_};
 ghost use Rattle.panel.specs.Commands.{performed, adding};
 ghost use Rattle.panel.specs.Legal.{Legal};
 ghost use Rattle.turning.specs.Outcomes.{Gives};
-ghost use Rattle.adding.specs.Addable.{waitingLink, isBadLink, checkAdd};
+ghost use Rattle.adding.specs.Checks.{waitingLink, isBadLink, checkAdd};
 
 // Whether the numbers and fields of an add are no link's: an id over 127, a level over 15, fields that do not rise, not 1 to 8 fields by count
 // of ones, no output.

@@ -11,7 +11,7 @@ use Rattle.panel.specs.Items.{noLink}
 use Rattle.panel.specs.Panels.{opened}
 use Rattle.panel.specs.Legal.{Legal}
 use Rattle.panel.proofs.Changes.{legal-unopened}
-use Rattle.tables.specs.Leaves.{tableOf}
+use Rattle.tables.proofs.Filling.{tableOf}
 use Rattle.turning.proofs.Tables.{table-whole}
 
 abbrev made : Link → List ℕ → Panel

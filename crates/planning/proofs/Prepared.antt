@@ -25,7 +25,7 @@ use Rattle.panel.specs.Steps.{planStep}
 use Rattle.panel.specs.Commands.{isOpen, performed, planning}
 use Rattle.panel.specs.Legal.{Legal}
 use Rattle.panel.proofs.Setters.{whole}
-use Rattle.tables.specs.Leaves.{TablesOf}
+use Rattle.tables.proofs.Filling.{TablesOf}
 use Rattle.tables.specs.Leaves.{StrengthsOf}
 use Rattle.turning.specs.Outcomes.{Plans}
 use Rattle.turning.proofs.Tables.{at-table, reads-at, table-acyclic, table-among, table-strength}

@@ -33,7 +33,8 @@ use Rattle.panel.proofs.Legal.{Filled, LegalBut, used-small}
 use Rattle.panel.proofs.Setters.{whole, outputs-inside, waits-force}
 use Rattle.panel.proofs.Reversal.{Blocking, blocking, legal-waits}
 use Rattle.panel.proofs.Performed.{least-passes}
-use Rattle.tables.specs.Leaves.{TablesOf, StrengthsOf, itemOf, tableOf}
+use Rattle.tables.specs.Leaves.{StrengthsOf, itemOf}
+use Rattle.tables.proofs.Filling.{TablesOf, tableOf}
 use Rattle.turning.specs.Turns.{Undecided, Decided}
 use Rattle.turning.proofs.Tables.{at-table, length-table, table-acyclic, table-among, table-strength, greatest-same}
 use Rattle.turning.proofs.Reversal.{coverOf}

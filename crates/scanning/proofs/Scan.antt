@@ -13,8 +13,15 @@ use Rattle.panel.specs.declared.Panel.{Panel}
 use Rattle.panel.specs.Items.{Item, link, stay, itemsOf}
 use Rattle.panel.specs.Solution.{level, isBlocked, lesser, least, leastBlocked}
 use Rattle.panel.specs.Legal.{Legal}
-use Rattle.scanning.specs.Scan.{leastOf, numbered}
 use Rattle.scanning.proofs.Over.{link-level}
+
+-- the first of least level among the blocked of the first n links, or of the first n stays
+abbrev pub leastOf : Panel → (ℕ → Item) → ℕ → Option Item
+leastOf p kind n = least (isBlocked p) (level p) (map kind (tabulate (λ i. i) n))
+
+-- the link or stay of a number, none from top on
+abbrev pub numbered : (ℕ → Item) → ℕ → ℕ → Option Item
+numbered kind top i = cond (ltb i top) (some (kind i)) none
 
 module _ (q : Item → Bool) (lev : Item → ℕ) where
   -- of two that may be, the first among equals

@@ -2,7 +2,7 @@
 use Prim.Native.Nat.{ℕ, suc, _+_, _≤_, _<_}
 use mathlib.Core.Path.{_≡_, sym, _∙_}
 use mathlib.Core.Bool.{Bool, true, false, not, cond, and-not-self}
-use mathlib.Core.List.{List, [], _∷_, append-assoc}
+use mathlib.Core.List.{List, [], _∷_, _++_, append-assoc}
 use native.Mathlib.Numerals.{add-one}
 use native.Mathlib.Omega.{arith}
 use lib.Dec.{eqb}
@@ -18,7 +18,16 @@ use Rattle.panel.specs.Items.{linkAt}
 use Rattle.panel.specs.Solution.{setterLevel, setterOthers, setterReads}
 use Rattle.panel.proofs.Turn.{setter-link, setter-stay}
 use Rattle.tables.specs.declared.Entry.{Entry}
-use Rattle.tables.specs.Leaves.{tableOf, TablesOf}
+
+-- a table whose first n entries are those of a function, and whose rest is as it was
+abbrev pub tableOf : (ℕ → ℕ) → ℕ → List ℕ → List ℕ
+tableOf g n before = tabulate g n ++ drop n before
+
+-- the level, the other outputs and the read fields of the setters of the first n fields
+pub record TablesOf (p : Panel) (n : ℕ) (levels₀ others₀ reads₀ levels₁ others₁ reads₁ : List ℕ) : Type 0 where
+  pub levels : levels₁ ≡ tableOf (setterLevel p) n levels₀
+  pub others : others₁ ≡ tableOf (setterOthers p) n others₀
+  pub reads : reads₁ ≡ tableOf (setterReads p) n reads₀
 
 -- one more entry
 pub table-more : (g : ℕ → ℕ) (f x : ℕ) (before l : List ℕ) → f < length before → x ≡ g f → l ≡ tableOf g f before → set l f x ≡ tableOf g (f + 1) before

@@ -1,25 +1,15 @@
--- What the tables hold, and what the reversal of a path does to them.
+-- A table of strengths, and what the reversal of a path does to a table of read fields.
 use Prim.Native.Nat.{ℕ, _≤_, _<_}
 use mathlib.Core.Path.{_≡_}
 use mathlib.Core.Bool.{cond}
-use mathlib.Core.List.{List, [], _∷_, _++_}
+use mathlib.Core.List.{List, [], _∷_}
 use lib.Dec.{ltb}
-use lib.ListN.{drop, set}
-use Rattle.fieldset.specs.Tables.{at, tabulate}
+use lib.ListN.{set}
+use Rattle.fieldset.specs.Tables.{at}
 use Rattle.fieldset.specs.Fields.{with, without}
 use Rattle.panel.specs.declared.Panel.{Panel}
 use Rattle.panel.specs.Items.{Item, link, stay}
-use Rattle.panel.specs.Solution.{strengthOf, setterLevel, setterOthers, setterReads}
-
--- a table whose first n entries are those of a function, and whose rest is as it was
-abbrev pub tableOf : (ℕ → ℕ) → ℕ → List ℕ → List ℕ
-tableOf g n before = tabulate g n ++ drop n before
-
--- the level, the other outputs and the read fields of the setters of the first n fields
-pub record TablesOf (p : Panel) (n : ℕ) (levels₀ others₀ reads₀ levels₁ others₁ reads₁ : List ℕ) : Type 0 where
-  pub levels : levels₁ ≡ tableOf (setterLevel p) n levels₀
-  pub others : others₁ ≡ tableOf (setterOthers p) n others₀
-  pub reads : reads₁ ≡ tableOf (setterReads p) n reads₀
+use Rattle.panel.specs.Solution.{strengthOf}
 
 -- the table has every field's strength
 abbrev pub StrengthsOf : Panel → List ℕ → Type 0
@@ -35,7 +25,6 @@ abbrev pub itemOf : ℕ → ℕ → Item
 itemOf c f = cond (ltb c 128) (link c) (stay f)
 
 -- the read fields after a path is reversed, from the covered fields of what sets its first field: what set a field covers what it read and
-
 -- that field
 unfoldable pub reversedReads : List ℕ → ℕ → List ℕ → List ℕ
 reversedReads reads covered [] = reads

@@ -13,8 +13,7 @@ use lib.Seq.{ext-getD, getD-set-same, getD-set-other}
 use Rattle.fieldset.specs.Tables.{at, tabulate}
 use Rattle.fieldset.proofs.Tables.{length-tabulate, getD-tabulate}
 use Rattle.panel.specs.Panels.{placeAfter}
-use Rattle.tables.specs.Leaves.{tableOf}
-use Rattle.tables.proofs.Filling.{table-more}
+use Rattle.tables.proofs.Filling.{tableOf, table-more}
 use Rattle.turning.proofs.Tables.{table-whole, at-rest}
 
 -- a place before `front` moves down one

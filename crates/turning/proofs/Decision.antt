@@ -33,7 +33,8 @@ use Rattle.panel.proofs.Turn.{numberOf, turn, alike-reads, reversed-size, rever
 use Rattle.panel.proofs.Legal.{Carrying, used-small}
 use Rattle.panel.proofs.Setters.{setter-force, setter-output, outputs-inside}
 use Rattle.panel.proofs.Reversal.{turned-setters, Start, startOf, start-of, blocking, path-for, route-for}
-use Rattle.tables.specs.Leaves.{TablesOf, itemOf, reversedReads}
+use Rattle.tables.specs.Leaves.{itemOf, reversedReads}
+use Rattle.tables.proofs.Filling.{TablesOf}
 use Rattle.turning.specs.Turns.{Undecided, Decided}
 use Rattle.turning.proofs.Tables.{level-at, others-at, reads-at, table-inside, table-acyclic, table-among, table-strength, table-tied, greatest-same, path-same, length-table}
 use Rattle.turning.proofs.Steps.{turned-loop, turned-done, blocked-over}

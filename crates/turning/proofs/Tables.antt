@@ -31,7 +31,7 @@ use Rattle.panel.specs.Items.{Item}
 use Rattle.panel.specs.Solution.{setterLevel, setterOthers, setterReads, strengthOf, isLooped}
 use Rattle.panel.proofs.Legal.{Carrying}
 use Rattle.panel.proofs.Setters.{others-inside, setter-reads-inside, setter-ranked, setter-falls}
-use Rattle.tables.specs.Leaves.{tableOf, TablesOf}
+use Rattle.tables.proofs.Filling.{tableOf, TablesOf}
 
 -- ---- a table's entries
 

@@ -21,16 +21,15 @@ use Rattle.panel.specs.Commands.{adding, performed}
 use Rattle.panel.proofs.Legal.{LegalBut}
 use Rattle.panel.proofs.Setters.{waits-force}
 use Rattle.tables.specs.declared.Entry.{Entry}
-use Rattle.tables.specs.Leaves.{TablesOf}
-use Rattle.tables.proofs.Filling.{set-by-link, set-by-stay, fill-more}
+use Rattle.tables.proofs.Filling.{TablesOf, set-by-link, set-by-stay, fill-more}
 use Rattle.turning.specs.Turns.{Decided}
 use Rattle.turning.specs.Outcomes.{Gives}
 use Rattle.turning.proofs.Reversal.{coverOf}
 use Rattle.turning.proofs.Tables.{table-acyclic}
 use Rattle.turning.proofs.Decision.{undecided, is-blocked, turn-refused, turn-accepted}
 use Rattle.turning.proofs.Gives.{gives}
-use Rattle.adding.specs.Addable.{Addable, waitingLink}
-use Rattle.adding.proofs.Adding.{Passed, checks-refuse, checks-accept, passed-adds, passed-gives, waits-answer, new-legal, new-waits, new-level, new-outputs, new-covered, outputs-inside, covered-inside, add-conflict, add-waits, add-turns, tables-there, same-reversal}
+use Rattle.adding.specs.Checks.{waitingLink}
+use Rattle.adding.proofs.Adding.{Enterable, Passed, checks-refuse, checks-accept, passed-adds, passed-gives, waits-answer, new-legal, new-waits, new-level, new-outputs, new-covered, outputs-inside, covered-inside, add-conflict, add-waits, add-turns, tables-there, same-reversal}
 use Rattle.adding.proofs.add.Statement.{statement}
 use Rattle.adding.proofs.add.Tie as tie
 
@@ -77,7 +76,7 @@ passed c =
     checks-accept (s .args .t1) (s .args .id) (s .args .level) (s .args .bytes .now) _ _ _ (w-of c .before .read-fields .ensures) _ (w-of c .wide .ensures) _
     (c .before .before .check-add .ensures) _ (c .enum-told .given .1)
 
-addable : (c : Told) → Addable (p-of c) (id-of c) (level-of c) (covered-of c) (outputs-of c)
+addable : (c : Told) → Enterable (p-of c) (id-of c) (level-of c) (covered-of c) (outputs-of c)
 addable c =
     let s = s-of (w-of c) in
     passed-adds (s .args .t1) (s .args .id) (s .args .level) (s .args .bytes .now) _ _ _ (w-of c .before .read-fields .ensures) _ _ (passed c) (s .pre)

@@ -2,8 +2,7 @@ use Prim.Native.Nat.{_≤_, _-_}
 use mathlib.Core.Path.{_≡_, refl, sym}
 use borrow.Author.Needs.{needs}
 use native.Mathlib.Omega.{arith}
-use Rattle.tables.specs.Leaves.{tableOf}
-use Rattle.tables.proofs.Filling.{table-more}
+use Rattle.tables.proofs.Filling.{tableOf, table-more}
 use Rattle.turning.proofs.Tables.{table-none}
 use Rattle.opening.proofs.Made.{made-unopened}
 use Rattle.opening.proofs.unopened.Statement.{statement}

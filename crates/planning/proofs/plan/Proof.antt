@@ -6,8 +6,7 @@ use native.Mathlib.Omega.{arith}
 use borrow.Author.Needs.{needs}
 use lib.ListN.{replicate}
 use Rattle.fieldset.specs.Tables.{tabulate}
-use Rattle.tables.specs.Leaves.{TablesOf}
-use Rattle.tables.proofs.Filling.{entered-link, entered-stay, fill-more}
+use Rattle.tables.proofs.Filling.{TablesOf, entered-link, entered-stay, fill-more}
 use Rattle.planning.proofs.Prepared.{Prepared, panel-acyclic, panel-among, prepared, Written, written-none, written-more, plan-closed, plan-done}
 use Rattle.planning.proofs.plan.Statement.{statement}
 use Rattle.planning.proofs.plan.Tie as tie

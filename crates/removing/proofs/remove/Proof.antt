@@ -11,8 +11,7 @@ use Rattle.panel.specs.declared.Refusal.the-variants.{Loop}
 use Rattle.panel.specs.Items.{foundOf}
 use Rattle.panel.specs.Answers.{refused}
 use Rattle.panel.specs.Legal.{Legal}
-use Rattle.tables.specs.Leaves.{TablesOf}
-use Rattle.tables.proofs.Filling.{entered-link, entered-stay, fill-more}
+use Rattle.tables.proofs.Filling.{TablesOf, entered-link, entered-stay, fill-more}
 use Rattle.removing.proofs.Dropping.{remove-closed, remove-bad, remove-unused, Dropped, remove-waiting, Freed, freed, field-small, legal-freed, remove-holding, one-moved, number-small, undone}
 use Rattle.removing.proofs.Settling.{Taken, Found, taken-link, taken-stay, link-small, stay-small, panel-acyclic, panel-strengths, found-some, found-none, undecided, settle-refused, settle-turned, settle-none}
 use Rattle.removing.proofs.remove.Statement.{statement}

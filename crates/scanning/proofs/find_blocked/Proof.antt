@@ -8,9 +8,8 @@ use borrow.Author.Tests.{ltb-true, ltb-false}
 use Rattle.fieldset.specs.Tables.{at}
 use Rattle.panel.specs.Items.{link, stay}
 use Rattle.panel.specs.Solution.{isBlocked, level}
-use Rattle.scanning.specs.Scan.{leastOf}
 use Rattle.scanning.proofs.Over.{link-blocked, link-level, stay-over, stay-under, stay-sets}
-use Rattle.scanning.proofs.Scan.{Scanned, scan-none, scan-takes, scan-leaves, scan-keeps, blocked-link-first, no-blocked-link, blocked-stay-first, no-blocked-stay}
+use Rattle.scanning.proofs.Scan.{leastOf, Scanned, scan-none, scan-takes, scan-leaves, scan-keeps, blocked-link-first, no-blocked-link, blocked-stay-first, no-blocked-stay}
 use Rattle.scanning.proofs.find_blocked.Statement.{statement}
 use Rattle.scanning.proofs.find_blocked.Tie as tie
 

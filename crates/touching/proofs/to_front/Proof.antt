@@ -3,7 +3,7 @@ use mathlib.Core.Path.{_≡_, sym, ap, _∙_}
 use borrow.Author.Needs.{needs}
 use native.Mathlib.Omega.{arith}
 use Rattle.fieldset.specs.Tables.{at}
-use Rattle.tables.specs.Leaves.{tableOf}
+use Rattle.tables.proofs.Filling.{tableOf}
 use Rattle.turning.proofs.Tables.{table-none}
 use Rattle.touching.proofs.Places.{pushedAt, push-step, front-set}
 use Rattle.touching.proofs.to_front.Statement.{statement}

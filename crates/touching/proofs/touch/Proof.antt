@@ -22,8 +22,7 @@ use Rattle.panel.specs.Legal.{Legal}
 use Rattle.panel.proofs.Legal.{LegalBut}
 use Rattle.panel.proofs.Setters.{waits-force}
 use Rattle.panel.proofs.Reversal.{legal-waits}
-use Rattle.tables.specs.Leaves.{TablesOf}
-use Rattle.tables.proofs.Filling.{entered-link, entered-stay, fill-more}
+use Rattle.tables.proofs.Filling.{TablesOf, entered-link, entered-stay, fill-more}
 use Rattle.turning.specs.Turns.{Decided}
 use Rattle.turning.proofs.Gives.{gives}
 use Rattle.turning.proofs.Tables.{table-acyclic}

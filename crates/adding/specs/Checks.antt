@@ -1,28 +1,17 @@
--- What adding a link asks behind the checks.
-use Prim.Native.Nat.{ℕ, _<_}
-use mathlib.Core.Path.{_≡_}
-use mathlib.Core.Bool.{Bool, true, false, not, cond, _||_}
+-- The link that an add enters, and the checks of an add over its numbers.
+use Prim.Native.Nat.{ℕ}
+use mathlib.Core.Bool.{Bool, true, not, cond, _||_}
 use lib.Dec.{eqb, ltb}
 use Rattle.fieldset.specs.Fields.{size, below, within}
 use Rattle.panel.specs.declared.Standing.the-variants.{Waiting}
 use Rattle.panel.specs.declared.Link.{Link}
-use Rattle.panel.specs.declared.Panel.{Panel}
 use Rattle.panel.specs.declared.Refusal.the-variants.{NotOpen, BadLink, NoSuchField, LinkTaken}
 use Rattle.panel.specs.declared.Reply.{Reply}
 use Rattle.panel.specs.declared.Reply.the-variants.{Accepted, Refused}
-use Rattle.panel.specs.Items.{linkAt}
-use Rattle.panel.specs.Legal.{Legal, Formed}
 
 -- a link in force that waits
 abbrev pub waitingLink : ℕ → ℕ → ℕ → Link
 waitingLink level covered outputs = record { covered = covered; outputs = outputs; level = level; used = true; standing = Waiting }
-
--- a well-formed link can be added under a number that is free
-pub record Addable (p : Panel) (id level covered outputs : ℕ) : Type 0 where
-  pub legal : Legal p
-  pub number : id < 128
-  pub free : linkAt (p .links) id .used ≡ false
-  pub formed : Formed (p .size) (waitingLink level covered outputs)
 
 -- the numbers of an add, its covered fields by their count, its outputs, and whether its fields do not rise or have bit 6: no link's
 abbrev pub isBadLink : ℕ → ℕ → ℕ → ℕ → Bool → Bool
