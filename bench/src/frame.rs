@@ -122,3 +122,14 @@ pub fn read_link(
     }
     Ok((covered, outputs))
 }
+
+/// The size of an opening, after the checks 3 and 5; `now` is 0 while unopened.
+pub fn read_size(now: usize, size: u8) -> Result<usize, Refusal> {
+    if now != 0 {
+        return Err(Refusal::AlreadyOpen);
+    }
+    if !(1..=64).contains(&size) {
+        return Err(Refusal::BadSize);
+    }
+    Ok(size as usize)
+}

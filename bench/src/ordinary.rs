@@ -2,7 +2,7 @@
 //! and strengths worked out once a command. Between commands it keeps what document 01 names and nothing more.
 
 use crate::fields::{below, each, has, lowest, only, without};
-use crate::frame::read_link;
+use crate::frame::{read_link, read_size};
 use crate::text::{Refusal, Solver, LONGEST_REPLY};
 
 /// In the place of a link number: the field is set by its stay.
@@ -213,13 +213,7 @@ impl Solver for Panel {
     }
 
     fn open(&mut self, size: u8) -> Result<u8, Refusal> {
-        if self.size != 0 {
-            return Err(Refusal::AlreadyOpen);
-        }
-        if !(1..=64).contains(&size) {
-            return Err(Refusal::BadSize);
-        }
-        self.size = size as usize;
+        self.size = read_size(self.size, size)?;
         Ok(0)
     }
 

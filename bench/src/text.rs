@@ -1,22 +1,8 @@
 //! Whole texts: replies and the tally.
 
-use crate::frame::{read_frame, read_line, Command};
+pub use harness::plain::Refusal;
 
-/// The refusals of a line, by their numbers.
-#[derive(Clone, Copy, Debug, PartialEq, Eq)]
-pub enum Refusal {
-    BadHex = 1,
-    BadFrame = 2,
-    AlreadyOpen = 3,
-    NotOpen = 4,
-    BadSize = 5,
-    BadLink = 6,
-    NoSuchField = 7,
-    LinkTaken = 8,
-    NoSuchLink = 9,
-    Conflict = 10,
-    Loop = 11,
-}
+use crate::frame::{read_frame, read_line, Command};
 
 /// The state of a solver, with its operations. The first four answer the moved count.
 pub trait Solver {
@@ -40,16 +26,13 @@ pub const TEXT_LIMIT: usize = 65_535;
 /// reply for its length, and the tally comes after all replies.
 pub const LONGEST_OUTPUT: usize = (TEXT_LIMIT / 3 + 1) * (2 * LONGEST_REPLY + 1) + 23;
 
-/// "TextTooLong, over 65,535 bytes."
-const TEXT_TOO_LONG: u8 = 12;
-
 /// Writes the output of a text, from an unopened panel, to the front of `out`
 /// and answers its length. Panics where `out` is shorter; `LONGEST_OUTPUT`
 /// bytes are always enough.
 pub fn run_text<P: Solver>(text: &[u8], out: &mut [u8]) -> usize {
     let mut output = Output { out, len: 0 };
     if text.len() > TEXT_LIMIT {
-        output.line(&[0xFF, TEXT_TOO_LONG]);
+        output.line(&[0xFF, Refusal::TextTooLong as u8]);
         return output.len;
     }
     let mut panel = P::unopened();

@@ -3,19 +3,13 @@
 use super::panel::{Link, Panel, Setter, A_STAY, FIRST_STAY_LEVEL, NO_LINK};
 use super::strength::Strengths;
 use crate::fields::{has, only};
-use crate::frame::read_link;
+use crate::frame::{read_link, read_size};
 use crate::text::Refusal;
 
 impl Panel {
     /// The places are right already: those of an unopened panel.
     pub fn open(&mut self, size: u8) -> Result<u8, Refusal> {
-        if self.size != 0 {
-            return Err(Refusal::AlreadyOpen);
-        }
-        if !(1..=64).contains(&size) {
-            return Err(Refusal::BadSize);
-        }
-        self.size = size as usize;
+        self.size = read_size(self.size, size)?;
         Ok(0)
     }
 
