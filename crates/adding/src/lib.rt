@@ -4,26 +4,27 @@ use fieldbytes::read_fields;
 use fieldset::below;
 use fieldset::size;
 use fieldset::within;
-use panel::Done;
+use panel::Change;
 use panel::Link;
 use panel::Panel;
 use panel::Refusal;
 use panel::Reply;
 use panel::Standing;
-use strength::greatest;
-use tables::STAY;
-use tables::link_entry;
-use tables::moved;
-use tables::reverse;
-use tables::stay_entry;
-use tables::wide;
-use turning::decide;
+use panel::Step;
+use panel::only_reply;
+use reversal::Turn;
+use reversal::resolve;
+use reversal::step_of;
 ghost use mathlib.Core.Path.{_≡_};
-ghost use Prim.Native.Nat.{_≤_};
-ghost use Rattle.panel.specs.Commands.{performed, adding};
+ghost use Prim.Native.Nat.{_≤_, _%_};
+ghost use lib.ListN.{length};
+ghost use Rattle.panel.specs.Items.{linkAt};
+ghost use Rattle.panel.specs.Panels.{waitingLink};
+ghost use Rattle.panel.specs.Commands.{adding};
 ghost use Rattle.panel.specs.Legal.{Legal};
-ghost use Rattle.turning.specs.Outcomes.{Gives};
-ghost use Rattle.adding.specs.Checks.{waitingLink, isBadLink, checkAdd};
+ghost use Rattle.panel.specs.Outcomes.{Decides};
+ghost use Rattle.tables.specs.Tables.{Tabled};
+ghost use Rattle.adding.specs.Checks.{isBadLink, checkAdd};
 
 // Whether the numbers and fields of an add are no link's: an id over 127, a level over 15, fields that do not rise, not 1 to 8 fields by count
 // of ones, no output.
@@ -83,66 +84,35 @@ fn waiting_link(level: u8, fields: Fields) -> Link
     }
 }
 
-// Adds a link. The panel is changed in place, and only once the link is accepted: the tables are the same without it, since it sets nothing yet.
+// Decides on adding a link; `old` is the link that stands under its number.
 // The contract rules out, for instance, counting an equal strength as blocked and setters that never change (must-fail: equal_is_blocked,
 // setters_never_change).
-pub fn add(mut p: Panel, id: u8, level: u8, bytes: &[u8]) -> Done
-    requires { ⌜ Legal p ⌝ }
-    ensures { λ r. ⌜ Gives r (performed p (adding id level (now (bytes .entry)))) ⌝ }
+pub fn add(
+    p: Panel,
+    old: Link,
+    levels: &[u8; 64],
+    others: &[u64; 64],
+    reads: &[u64; 64],
+    id: u8,
+    level: u8,
+    bytes: &[u8],
+    path: &mut [u8; 64],
+) -> Step
+    requires { ⌜ Legal p × Tabled p (now levels) (now others) (now reads) × (old ≡ linkAt (p .links) (id % 128)) × (length (now path) ≡ 64) ⌝ }
+    ensures { λ r. ⌜ Decides p (adding id level (now (bytes .entry))) (now (path .exit)) r ⌝ }
 {
     let n = p.size;
     let fields = read_fields(bytes);
-    // the checks refuse an id over 127, whatever link is here
-    let k = wide(id % 128);
-    let mut reply = check_add(n, id, level, fields, p.links[k].used);
-    if let Reply::Accepted(_) = reply {
-        let mut levels = [0u8; 64];
-        let mut others = [0u64; 64];
-        let mut reads = [0u64; 64];
-        let mut g: usize = 0;
-        while g < n {
-            let c = p.setter[g];
-            let mut e = stay_entry(p.place[g]);
-            if c < STAY {
-                e = link_entry(p.links[wide(c)], g);
-            }
-            levels[g] = e.level;
-            others[g] = e.others;
-            reads[g] = e.reads;
-            g += 1;
-        }
-        let mut table = [0u8; 64];
-        let top = greatest(&levels, &others, n, fields.outputs, &mut table);
-        if level < top.strength {
-            let mut path = [0u8; 64];
-            let t = decide(
-                &levels,
-                &others,
-                &table,
-                n,
-                top.known,
-                top.strength,
-                fields.outputs,
-                fields.covered,
-                &mut reads,
-                &mut path,
-            );
-            if t.looped {
-                reply = Reply::Refused(Refusal::Loop);
-            } else {
-                let before = p.setter;
-                p.links[k] = waiting_link(level, fields);
-                p = reverse(p, id, &path, t.count);
-                reply = Reply::Accepted(moved(&before, &p.setter, n));
-            }
-        } else if level == 0 {
-            reply = Reply::Refused(Refusal::Conflict);
-        } else {
-            p.links[k] = waiting_link(level, fields);
+    let reply = check_add(n, id, level, fields, old.used);
+    if let Reply::Refused(_) = reply {
+        return only_reply(reply);
+    }
+    let turn = resolve(levels, others, reads, n, level, fields.outputs, fields.covered, path);
+    if level == 0 {
+        if let Turn::Free = turn {
+            return only_reply(Reply::Refused(Refusal::Conflict));
         }
     }
-    Done {
-        panel: p,
-        reply: reply,
-    }
+    let link = waiting_link(level, fields);
+    step_of(turn, Change::Enter(id, link), id, 0)
 }

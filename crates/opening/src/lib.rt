@@ -1,31 +1,20 @@
 // The panel before it is opened, and its opening.
-use panel::Done;
-use panel::Link;
+use panel::Change;
 use panel::Panel;
 use panel::Refusal;
 use panel::Reply;
-use panel::Standing;
-use tables::STAY;
-use tables::wide;
+use panel::STAY;
+use panel::Step;
+use panel::no_link;
+use panel::only_reply;
 ghost use mathlib.Core.Path.{_≡_};
-ghost use Rattle.panel.specs.Items.{noLink};
+ghost use Prim.Native.Nat.{ℕ};
+ghost use mathlib.Core.List.{List};
 ghost use Rattle.panel.specs.Panels.{opened};
-ghost use Rattle.panel.specs.Commands.{performed, opening};
+ghost use Rattle.panel.specs.Commands.{opening};
 ghost use Rattle.panel.specs.Legal.{Legal};
-ghost use Rattle.turning.specs.Outcomes.{Gives};
-
-// The link of a number that is not in use.
-pub fn no_link() -> Link
-    ensures { λ r. ⌜ r ≡ noLink ⌝ }
-{
-    Link {
-        covered: 0,
-        outputs: 0,
-        level: 0,
-        used: false,
-        standing: Standing::Waiting,
-    }
-}
+ghost use Rattle.panel.specs.Outcomes.{Decides};
+ghost use Rattle.opening.specs.Checks.{checkOpen};
 
 // The panel before it is opened.
 pub fn unopened() -> Panel
@@ -46,35 +35,35 @@ pub fn unopened() -> Panel
     }
 }
 
-// Opens the panel with n fields.
-// The contract rules out, for instance, a panel of another size and a refusal of 64 fields (must-fail: one_field_only, size_64_refused).
-pub fn open(p: Panel, n: u8) -> Done
-    requires { ⌜ Legal p ⌝ }
-    ensures { λ r. ⌜ Gives r (performed p (opening n)) ⌝ }
+// The reply of the checks of an opening with n fields, on a panel that has `size`.
+fn check_open(size: usize, n: u8) -> Reply
+    ensures { λ r. ⌜ r ≡ checkOpen size n ⌝ }
 {
-    let was = p.size;
-    if was != 0 {
-        return Done {
-            panel: p,
-            reply: Reply::Refused(Refusal::AlreadyOpen),
-        };
+    if size != 0 {
+        return Reply::Refused(Refusal::AlreadyOpen);
     }
     if n == 0 {
-        return Done {
-            panel: p,
-            reply: Reply::Refused(Refusal::BadSize),
-        };
+        return Reply::Refused(Refusal::BadSize);
     }
     if 64 < n {
-        return Done {
-            panel: p,
-            reply: Reply::Refused(Refusal::BadSize),
-        };
+        return Reply::Refused(Refusal::BadSize);
     }
-    let mut q = p;
-    q.size = wide(n);
-    Done {
-        panel: q,
-        reply: Reply::Accepted(0),
+    Reply::Accepted(0)
+}
+
+// Decides on the opening with n fields.
+// The contract rules out, for instance, a panel of another size and a refusal of 64 fields (must-fail: one_field_only, size_64_refused).
+pub fn open(p: Panel, n: u8) -> Step
+    ensures { λ r. ⌜ ((path : List ℕ) → Decides p (opening n) path r) ⌝ }
+{
+    let reply = check_open(p.size, n);
+    if let Reply::Refused(_) = reply {
+        return only_reply(reply);
+    }
+    Step {
+        reply: reply,
+        change: Change::Open(n),
+        setter: STAY,
+        count: 0,
     }
 }

@@ -14,11 +14,12 @@ use Rattle.fieldset.proofs.Fields.{member-empty, member-only}
 use Rattle.fieldset.proofs.Tables.{length-tabulate, getD-tabulate}
 use Rattle.ordering.specs.Order.{hasLoop}
 use Rattle.ordering.proofs.Loops.{ranked-no-loop}
+use Rattle.panel.specs.declared.Standing.{Standing}
 use Rattle.panel.specs.declared.Standing.the-variants.{Waiting, Holding}
 use Rattle.panel.specs.declared.Link.{Link}
 use Rattle.panel.specs.declared.Panel.{Panel}
 use Rattle.panel.specs.Items.{Item, link, stay, noLink, linkAt, setterOf, readsOf}
-use Rattle.panel.specs.Panels.{opened, withLink, withSetter, placeAfter, toFront}
+use Rattle.panel.specs.Panels.{opened, withLink, withSetter, freed, dropped, placeAfter, toFront}
 use Rattle.panel.specs.Solution.{setterReads, isLooped}
 use Rattle.panel.specs.Legal.{Formed, Legal}
 use Rattle.panel.proofs.Turn.{setter-own, number-setter, link-not-stay, setter-stay, put, put-here, put-there, link-here, holding-sets}
@@ -117,7 +118,7 @@ drop-link p i small h e =
     (λ u z. clash (rw gone at u) refl) (loopless-link p i noLink h e)
 
 -- a link that waits is dropped
-pub legal-drop : (p : Panel) (i : ℕ) → Legal p → i < 128 → linkAt (p .links) i .standing ≡ Waiting → Legal (withLink p i noLink)
+legal-drop : (p : Panel) (i : ℕ) → Legal p → i < 128 → linkAt (p .links) i .standing ≡ Waiting → Legal (withLink p i noLink)
 legal-drop p i h small rests =
     drop-link p i small (carrying p (link i) h (λ f l e. never f (whole p h .held .sets f i l e .holds))) (h .loopless)
   where
@@ -125,7 +126,7 @@ legal-drop p i h small rests =
     never f e = let z : _≡_ {A = ℕ} 0 1 = cc in omega arith
 
 -- a link that holds v is dropped, and v's stay sets v
-pub legal-free : (p : Panel) (i v : ℕ) → Legal p → i < 128 → linkAt (p .links) i .standing ≡ Holding v → Legal (withSetter (withLink p i noLink) v 128)
+legal-free : (p : Panel) (i v : ℕ) → Legal p → i < 128 → linkAt (p .links) i .standing ≡ Holding v → Legal (withSetter (withLink p i noLink) v 128)
 unfolding isLooped
 legal-free p i v h small holds = drop-link q i small (subst (λ (c : Item). Carrying c q) was step) less
   where
@@ -162,6 +163,14 @@ legal-free p i v h small holds = drop-link q i small (subst (λ (c : Item). Carr
     less =
         no-loop-within (setterReads p) (setterReads q) (p .size) (setter-reads-inside p (stay v) start)
         (λ g f l m e. fewer g f (rw now at e) (ℕ-discrete g v)) (h .loopless)
+
+pub legal-dropped : (p : Panel) (i : ℕ) → Legal p → i < 128 → Legal (dropped p i)
+unfolding dropped
+legal-dropped p i h small = go (linkAt (p .links) i .standing) refl
+  where
+    go : (s : Standing) → linkAt (p .links) i .standing ≡ s → Legal (freed (withLink p i noLink) s)
+    go Waiting e = legal-drop p i h small e
+    go (Holding v) e = legal-free p i v h small e
 
 -- ---- a stay moved to the front
 

@@ -11,12 +11,13 @@ use Rattle.fieldset.specs.Fields.{member, with, without, size}
 use Rattle.fieldset.proofs.Numbers.{clash}
 use Rattle.fieldset.proofs.Fields.{member-with, member-with-same, member-without-same, member-without-other, member-empty, with-lt, size-without, size-mono, size-empty}
 use Rattle.fieldset.proofs.Tests.{and-left, and-right}
-use Rattle.panel.specs.declared.Standing.the-variants.{Waiting}
 use Rattle.panel.specs.declared.Link.{Link}
 use Rattle.panel.specs.declared.Panel.{Panel}
+use Rattle.panel.specs.declared.Refusal.{Refusal}
 use Rattle.panel.specs.Items.{linkAt}
-use Rattle.panel.specs.Answers.{Answer}
-use Rattle.panel.specs.Commands.{fieldOf, isOutput, hasBit6, anyOf, fieldsIn, coveredIn, outputsIn, isRising, areFieldBytes, Check, checked, isOpen, openChecks, addChecks, removeChecks, touchChecks}
+use Rattle.panel.specs.Answers.{Answer, refused}
+use Rattle.panel.specs.Panels.{waitingLink}
+use Rattle.panel.specs.Commands.{fieldOf, isOutput, hasBit6, anyOf, fieldsIn, coveredIn, outputsIn, isRising, areFieldBytes, Check, check, checked, isOpen, openChecks, addChecks, removeChecks, touchChecks}
 use Rattle.panel.specs.Legal.{Formed}
 
 -- ---- checks in turn
@@ -35,6 +36,19 @@ checked-panel P p (c ∷ cs) step h k = go (c .applies) refl (λ e. checked-pane
     go : (b : Bool) → c .applies ≡ b → (c .applies ≡ false → P (checked p cs step .panel)) → P (checked p (c ∷ cs) step .panel)
     go true e ih = rw e h
     go false e ih = rw e (ih e)
+
+-- by the first check: it applies, or it does not
+pub applies : (p : Panel) (b : Bool) (r : Refusal) (cs : List Check) (step : Answer) → b ≡ true → refused p r ≡ checked p (check b r ∷ cs) step
+unfolding checked
+applies p b r cs step e = rw e
+
+pub passes : (p : Panel) (b : Bool) (r : Refusal) (cs : List Check) (step a : Answer) → b ≡ false → a ≡ checked p cs step → a ≡ checked p (check b r ∷ cs) step
+unfolding checked
+passes p b r cs step a e t = rw e t
+
+pub none-left : (p : Panel) (step a : Answer) → a ≡ step → a ≡ checked p [] step
+unfolding checked
+none-left p step a t = t
 
 or-left : (a b : Bool) → (a || b) ≡ false → a ≡ false
 or-left true b e = e
@@ -136,7 +150,7 @@ size-fields q (b ∷ bs) = go (q b) refl (size-fields q bs)
 
 -- the link that an add makes
 abbrev pub newLink : ℕ → List ℕ → Link
-newLink level bytes = record { covered = coveredIn bytes; outputs = outputsIn bytes; level = level; used = true; standing = Waiting }
+newLink level bytes = waitingLink level (coveredIn bytes) (outputsIn bytes)
 
 pub new-formed : (n level : ℕ) (bytes : List ℕ) → level ≤ 15 → length bytes ≤ 8 → anyOf isOutput bytes ≡ true
     → anyOf (λ b. leb n (fieldOf b)) bytes ≡ false → Formed n (newLink level bytes)

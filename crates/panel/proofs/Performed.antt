@@ -10,20 +10,21 @@ use borrow.Author.Tests.{eqb-false}
 use lib.Dec.{eqb, leb}
 use Rattle.panel.specs.declared.Standing.{Standing}
 use Rattle.panel.specs.declared.Standing.the-variants.{Waiting, Holding}
+use Rattle.panel.specs.declared.Link.{Link}
 use Rattle.panel.specs.declared.Panel.{Panel}
 use Rattle.panel.specs.declared.Refusal.the-variants.{Conflict, Loop}
-use Rattle.panel.specs.Items.{Item, link, stay, noLink, linkAt, itemsOf}
+use Rattle.panel.specs.Items.{Item, link, stay, linkAt, itemsOf}
 use Rattle.panel.specs.Answers.{Answer, refused}
-use Rattle.panel.specs.Panels.{withLink, withSetter, toFront}
+use Rattle.panel.specs.Panels.{withLink, dropped, toFront}
 use Rattle.panel.specs.Solution.{level, isBlocked, pathFor, reversed, lesser, least, leastBlocked, isLooped}
-use Rattle.panel.specs.Steps.{accepted, turned, openStep, addStep, settled, removed, removeStep, touchStep, planStep}
+use Rattle.panel.specs.Steps.{accepted, turned, openStep, enterStep, addStep, settled, dropStep, removeStep, touchStep, planStep}
 use Rattle.panel.specs.Commands.{coveredIn, outputsIn, openChecks, addChecks, removeChecks, touchChecks, planChecks, Command, opening, adding, removing, touching, planning, performed}
-use Rattle.panel.specs.Legal.{Legal}
+use Rattle.panel.specs.Legal.{Formed, Legal}
 use Rattle.panel.proofs.Turn.{link-here}
 use Rattle.panel.proofs.Legal.{LegalBut}
 use Rattle.panel.proofs.Reversal.{blocking, legal-waits, legal-reversed}
-use Rattle.panel.proofs.Changes.{legal-opened, legal-add, legal-but, legal-drop, legal-free, legal-front}
-use Rattle.panel.proofs.Checks.{checked-panel, newLink, Addable, addable, removable, touchable, openable}
+use Rattle.panel.proofs.Changes.{legal-opened, legal-add, legal-but, legal-dropped, legal-front}
+use Rattle.panel.proofs.Checks.{checked-panel, newLink, addable, removable, touchable, openable}
 
 -- one of two answers
 abbrev pick : Bool → Answer → Answer → Answer
@@ -40,25 +41,26 @@ legal-turned p q c h k b = go (isLooped r) refl
     go true e = h
     go false e = legal-reversed q c k b e
 
-pub legal-add-step : (p : Panel) (id level : ℕ) (bytes : List ℕ) → Legal p → Addable p id level bytes
-    → Legal (addStep p id level (coveredIn bytes) (outputsIn bytes) .panel)
-unfolding addStep
-legal-add-step p id level bytes h a = go (isBlocked q (link id)) refl (eqb level 0) refl
+-- a well-formed link is entered in q under a number that is free
+pub legal-enter-step : (p q : Panel) (id : ℕ) (l : Link) → Legal p → Legal q → id < 128 → linkAt (q .links) id .used ≡ false
+    → Formed (q .size) l → l .used ≡ true → l .standing ≡ Waiting → Legal (enterStep p q id l .panel)
+unfolding enterStep
+legal-enter-step p q id l h k small free formed used rests = go (isBlocked r (link id)) refl (eqb (l .level) 0) refl
   where
-    q : Panel
-    q = withLink p id (newLink level bytes)
+    r : Panel
+    r = withLink q id l
 
-    new : LegalBut (link id) q
-    new = legal-add p id (newLink level bytes) h (a .number) (a .free) (a .formed) refl refl
+    new : LegalBut (link id) r
+    new = legal-add q id l k small free formed used rests
 
-    here : linkAt (q .links) id ≡ newLink level bytes
-    here = link-here (p .links) id (newLink level bytes) (omega (arith, h .links-length, a .number))
+    here : linkAt (r .links) id ≡ l
+    here = link-here (q .links) id l (omega (arith, k .links-length))
 
-    go : (b : Bool) → isBlocked q (link id) ≡ b → (z : Bool) → eqb level 0 ≡ z
-        → Legal (pick b (turned p q (link id)) (pick z (refused p Conflict) (accepted p q)) .panel)
-    go true e z d = legal-turned p q (link id) h new e
+    go : (b : Bool) → isBlocked r (link id) ≡ b → (z : Bool) → eqb (l .level) 0 ≡ z
+        → Legal (pick b (turned p r (link id)) (pick z (refused p Conflict) (accepted p r)) .panel)
+    go true e z d = legal-turned p r (link id) h new e
     go false e true d = h
-    go false e false d = legal-but q (link id) new (λ u x. eqb-false level 0 d (rw here at x))
+    go false e false d = legal-but r (link id) new (λ u x. eqb-false (l .level) 0 d (rw here at x))
 
 -- ---- the least blocked item
 
@@ -96,11 +98,11 @@ legal-settled p q h k = go (leastBlocked q) refl
 
 pub legal-remove-step : (p : Panel) (id : ℕ) → Legal p → id < 128 → Legal (removeStep p id .panel)
 unfolding removeStep
-legal-remove-step p id h l = go (linkAt (p .links) id .standing) refl
+legal-remove-step p id h l = go (linkAt (p .links) id .standing)
   where
-    go : (s : Standing) → linkAt (p .links) id .standing ≡ s → Legal (removed p id s .panel)
-    go Waiting e = legal-drop p id h l e
-    go (Holding v) e = legal-settled p (withSetter (withLink p id noLink) v 128) h (legal-free p id v h l e)
+    go : (s : Standing) → Legal (dropStep p (dropped p id) s .panel)
+    go Waiting = legal-dropped p id h l
+    go (Holding v) = legal-settled p (dropped p id) h (legal-dropped p id h l)
 
 pub legal-touch-step : (p : Panel) (f : ℕ) → Legal p → f < p .size → Legal (touchStep p f .panel)
 unfolding touchStep
@@ -124,7 +126,7 @@ legal-performed p (opening n) h =
     checked-panel Legal p (openChecks p n) (openStep n) h (λ k. legal-opened n (openable p n k .2))
 legal-performed p (adding id level bytes) h =
     checked-panel Legal p (addChecks p id level bytes) (addStep p id level (coveredIn bytes) (outputsIn bytes)) h
-    (λ k. legal-add-step p id level bytes h (addable p id level bytes k))
+    (λ k. let a = addable p id level bytes k in legal-enter-step p p id (newLink level bytes) h h (a .number) (a .free) (a .formed) refl refl)
 legal-performed p (removing id) h =
     checked-panel Legal p (removeChecks p id) (removeStep p id) h (λ k. legal-remove-step p id h (removable p id k .number))
 legal-performed p (touching f) h =

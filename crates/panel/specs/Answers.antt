@@ -9,7 +9,6 @@ use Rattle.panel.specs.declared.Refusal.{Refusal}
 use Rattle.panel.specs.declared.Refusal.the-variants.{BadHex, BadFrame, AlreadyOpen, NotOpen, BadSize, BadLink, NoSuchField, LinkTaken, NoSuchLink, Conflict, Loop, TextTooLong}
 use Rattle.panel.specs.declared.Reply.{Reply}
 use Rattle.panel.specs.declared.Reply.the-variants.{Accepted, Refused}
-use Rattle.panel.specs.declared.Done.{Done}
 
 -- a refusal's number ("Who causes which refusal") and the values behind it, of which there are none
 abbrev pub refusalBytes : Refusal → List ℕ
@@ -39,9 +38,6 @@ isRefusal reply = eqb (getD reply 0 0) 0xFF
 pub record Answer : Type 0 where
   pub panel : Panel
   pub reply : List ℕ
-
-abbrev pub answerOf : Done → Answer
-answerOf d = record { panel = d .panel; reply = replyBytes (d .reply) }
 
 -- "a refusal .. leaves links, stay order and setters as they stood"
 abbrev pub refused : Panel → Refusal → Answer

@@ -25,9 +25,13 @@ noLink = record { covered = 0; outputs = 0; level = 0; used = false; standing = 
 abbrev pub linkAt : List Link → ℕ → Link
 linkAt links i = getD links i noLink
 
+-- the item of a number as the setter of field f
+abbrev pub itemOf : ℕ → ℕ → Item
+itemOf c f = cond (ltb c 128) (link c) (stay f)
+
 -- the setter of field f: "a link holding it, or its stay"
 unfoldable pub setterOf : List ℕ → ℕ → Item
-setterOf setter f = cond (ltb (at setter f) 128) (link (at setter f)) (stay f)
+setterOf setter f = itemOf (at setter f) f
 
 -- a link has a level; "the stay at place p, from 0, has level 16 + p"
 abbrev pub levelOf : List Link → List ℕ → Item → ℕ

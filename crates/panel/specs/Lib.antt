@@ -5,3 +5,4 @@ pub mod Solution
 pub mod Steps
 pub mod Commands
 pub mod Legal
+pub mod Outcomes

@@ -1,6 +1,6 @@
 -- Panels before and after opening, and what changes in one.
 use Prim.Native.Nat.{ℕ, _+_}
-use mathlib.Core.Bool.{not, cond}
+use mathlib.Core.Bool.{true, not, cond}
 use mathlib.Core.List.{List}
 use lib.Dec.{eqb, ltb}
 use lib.ListN.{set, replicate}
@@ -15,6 +15,10 @@ use Rattle.panel.specs.Items.{Item, link, stay, noLink, linkAt}
 -- a panel of n fields without links: "At opening field 0 has place 0, and so on"; of no fields: the unopened panel
 unfoldable pub opened : ℕ → Panel
 opened n = record { size = n; links = replicate 128 noLink; place = tabulate (λ f. f) 64; setter = replicate 64 128 }
+
+-- a link in force that waits
+abbrev pub waitingLink : ℕ → ℕ → ℕ → Link
+waitingLink level covered outputs = record { covered = covered; outputs = outputs; level = level; used = true; standing = Waiting }
 
 -- the link at another standing
 abbrev pub standing : Link → Standing → Link
@@ -37,6 +41,15 @@ holding p (stay g) f = withSetter p f 128
 abbrev pub waiting : Panel → Item → Panel
 waiting p (link i) = withLink p i (standing (linkAt (p .links) i) Waiting)
 waiting p (stay f) = p
+
+-- what was set by an item of this standing is set by its stay
+abbrev pub freed : Panel → Standing → Panel
+freed p Waiting = p
+freed p (Holding v) = withSetter p v 128
+
+-- "If the link waits, drop it. If it sets v, drop it and let v's stay set v"
+unfoldable pub dropped : Panel → ℕ → Panel
+dropped p id = freed (withLink p id noLink) (linkAt (p .links) id .standing)
 
 -- "f's stay moves to place 0; those that stood before it move down one"
 abbrev pub placeAfter : List ℕ → ℕ → ℕ → ℕ

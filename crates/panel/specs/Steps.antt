@@ -6,11 +6,12 @@ use mathlib.Core.Option.{Option, none, some}
 use lib.Dec.{eqb}
 use Rattle.panel.specs.declared.Standing.{Standing}
 use Rattle.panel.specs.declared.Standing.the-variants.{Waiting, Holding}
+use Rattle.panel.specs.declared.Link.{Link}
 use Rattle.panel.specs.declared.Panel.{Panel}
 use Rattle.panel.specs.declared.Refusal.the-variants.{Conflict, Loop}
-use Rattle.panel.specs.Items.{Item, link, stay, noLink, linkAt}
+use Rattle.panel.specs.Items.{Item, link, stay, linkAt}
 use Rattle.panel.specs.Answers.{Answer, refused}
-use Rattle.panel.specs.Panels.{opened, withLink, withSetter, toFront, moved}
+use Rattle.panel.specs.Panels.{opened, waitingLink, withLink, dropped, toFront, moved}
 use Rattle.panel.specs.Solution.{isBlocked, pathFor, reversed, leastBlocked, planOf, isLooped, rowsOf}
 
 -- the panel p becomes q: 00 and the moved count
@@ -27,29 +28,31 @@ turned p q c =
 abbrev pub openStep : ℕ → Answer
 openStep n = record { panel = opened n; reply = 0x00 ∷ 0 ∷ [] }
 
--- "The new link waits. If it is not blocked: at level 0 refuse with Conflict, else accept. If it is blocked, .."
-unfoldable pub addStep : Panel → ℕ → ℕ → ℕ → ℕ → Answer
-addStep p id level covered outputs =
-    let q = withLink p id (record { covered = covered; outputs = outputs; level = level; used = true; standing = Waiting }) in
-    elim (isBlocked q (link id)) [
-      | true ↦ turned p q (link id)
-      | false ↦ elim (eqb level 0) [ true ↦ refused p Conflict | false ↦ accepted p q ]
+-- the panel p becomes q with a link entered: "The new link waits. If it is not blocked: at level 0 refuse with Conflict, else accept. If it is
+-- blocked, .."
+unfoldable pub enterStep : Panel → Panel → ℕ → Link → Answer
+enterStep p q id l =
+    let r = withLink q id l in
+    elim (isBlocked r (link id)) [
+      | true ↦ turned p r (link id)
+      | false ↦ elim (eqb (l .level) 0) [ true ↦ refused p Conflict | false ↦ accepted p r ]
     ]
+
+abbrev pub addStep : Panel → ℕ → ℕ → ℕ → ℕ → Answer
+addStep p id level covered outputs = enterStep p p id (waitingLink level covered outputs)
 
 -- "if there are any, take the one with the least level .. and carry out the walk and the turning of Add for it, once"
 abbrev pub settled : Panel → Panel → Option Item → Answer
 settled p q none = accepted p q
 settled p q (some c) = turned p q c
 
--- "If the link waits, drop it. If it sets v, drop it and let v's stay set v. Then look at all blocked links and stays"
-abbrev pub removed : Panel → ℕ → Standing → Answer
-removed p id Waiting = accepted p (withLink p id noLink)
-removed p id (Holding v) =
-    let q = withSetter (withLink p id noLink) v 128 in
-    settled p q (leastBlocked q)
+-- the panel p becomes q with a link of this standing dropped: "If it sets v, .. Then look at all blocked links and stays"
+abbrev pub dropStep : Panel → Panel → Standing → Answer
+dropStep p q Waiting = accepted p q
+dropStep p q (Holding v) = settled p q (leastBlocked q)
 
 unfoldable pub removeStep : Panel → ℕ → Answer
-removeStep p id = removed p id (linkAt (p .links) id .standing)
+removeStep p id = dropStep p (dropped p id) (linkAt (p .links) id .standing)
 
 -- "f's stay moves to place 0; .. If that stay waits and is now blocked, turn as in Add"
 unfoldable pub touchStep : Panel → ℕ → Answer

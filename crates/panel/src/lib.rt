@@ -1,4 +1,10 @@
-// The panel: fields, links, stays.
+// The panel: fields, links, stays, and what a command comes to.
+ghost use mathlib.Core.Path.{_≡_};
+ghost use Rattle.panel.specs.Items.{noLink};
+ghost use Rattle.panel.specs.Outcomes.{onlyReply};
+
+// The setter of a field that its stay sets.
+pub const STAY: u8 = 128;
 
 // A link's standing: it waits, or it holds one named field.
 pub enum Standing {
@@ -50,15 +56,50 @@ pub enum Reply {
     Refused(Refusal),
 }
 
-// A command's outcome: the panel afterwards and the reply.
-pub struct Done {
-    pub panel: Panel,
-    pub reply: Reply,
+// What a command changes before a path is reversed.
+pub enum Change {
+    Nothing,
+    // the panel is opened with so many fields
+    Open(u8),
+    // a link that waits is entered under a number
+    Enter(u8, Link),
+    // the link of a number is dropped; what it set is set by its stay
+    Drop(u8),
+    // the stay of a field moves to the front
+    Front(u8),
 }
 
-// What a scan for blocked links and stays finds.
-pub enum Blocked {
-    Nothing,
-    Link(u8),
-    Stay(u8),
+// What a command comes to: its reply, what it changes, and the path that is then reversed, whose fields stand at the start of a buffer.
+pub struct Step {
+    pub reply: Reply,
+    pub change: Change,
+    // what sets the path's first field: a link's number, or STAY
+    pub setter: u8,
+    // how many fields the path has
+    pub count: usize,
+}
+
+// The link of a number that is not in use.
+pub fn no_link() -> Link
+    ensures { λ r. ⌜ r ≡ noLink ⌝ }
+{
+    Link {
+        covered: 0,
+        outputs: 0,
+        level: 0,
+        used: false,
+        standing: Standing::Waiting,
+    }
+}
+
+// The step that changes nothing.
+pub fn only_reply(reply: Reply) -> Step
+    ensures { λ r. ⌜ r ≡ onlyReply reply ⌝ }
+{
+    Step {
+        reply: reply,
+        change: Change::Nothing,
+        setter: STAY,
+        count: 0,
+    }
 }

@@ -1,117 +1,108 @@
 // Removing a link.
 use fieldset::below;
 use fieldset::only;
-use opening::no_link;
-use panel::Blocked;
-use panel::Done;
+use fieldset::wide;
+use panel::Change;
+use panel::Link;
 use panel::Panel;
 use panel::Refusal;
 use panel::Reply;
+use panel::STAY;
 use panel::Standing;
+use panel::Step;
+use panel::only_reply;
+use reversal::Turn;
+use reversal::decide;
+use reversal::step_of;
+use scanning::Blocked;
 use scanning::find_blocked;
 use strength::strengths;
 use strength::top_of;
-use tables::STAY;
-use tables::link_entry;
-use tables::moved;
-use tables::reverse;
-use tables::stay_entry;
-use tables::wide;
-use turning::decide;
-ghost use Rattle.panel.specs.Commands.{performed, removing};
+ghost use mathlib.Core.Path.{_≡_};
+ghost use Prim.Native.Nat.{_%_};
+ghost use lib.ListN.{length};
+ghost use Rattle.panel.specs.Items.{linkAt};
+ghost use Rattle.panel.specs.Commands.{removing};
 ghost use Rattle.panel.specs.Legal.{Legal};
-ghost use Rattle.turning.specs.Outcomes.{Gives};
+ghost use Rattle.panel.specs.Outcomes.{Decides};
+ghost use Rattle.tables.specs.Tables.{Tabled};
+ghost use Rattle.removing.specs.Checks.{checkRemove};
 
-// Removes a link. The panel is changed in place, and put back where a loop refuses the command: a second panel would be one more copy.
+// The reply of the checks of a removal, on a panel of n fields; `used` where the number is in use.
+fn check_remove(n: usize, id: u8, used: bool) -> Reply
+    ensures { λ r. ⌜ r ≡ checkRemove n id used ⌝ }
+{
+    if n == 0 {
+        return Reply::Refused(Refusal::NotOpen);
+    }
+    if 127 < id {
+        return Reply::Refused(Refusal::BadLink);
+    }
+    if !used {
+        return Reply::Refused(Refusal::NoSuchLink);
+    }
+    Reply::Accepted(0)
+}
+
+// Decides on removing a link; `old` is the link that stands under its number.
 // The contract rules out, for instance, a field left without a setter, a moved count since the stay stepped in, and a refusal that leaves
 // other setters (must-fail: stay_does_not_step_in, moved_since_the_stay_stepped_in, setters_not_put_back).
-pub fn remove(mut p: Panel, id: u8) -> Done
-    requires { ⌜ Legal p ⌝ }
-    ensures { λ r. ⌜ Gives r (performed p (removing id)) ⌝ }
+pub fn remove(
+    p: Panel,
+    old: Link,
+    levels: &[u8; 64],
+    others: &[u64; 64],
+    reads: &[u64; 64],
+    id: u8,
+    path: &mut [u8; 64],
+) -> Step
+    requires { ⌜ Legal p × Tabled p (now levels) (now others) (now reads) × (old ≡ linkAt (p .links) (id % 128)) × (length (now path) ≡ 64) ⌝ }
+    ensures { λ r. ⌜ Decides p (removing id) (now (path .exit)) r ⌝ }
 {
     let n = p.size;
-    let mut reply = Reply::Refused(Refusal::NotOpen);
-    if 0 < n {
-        reply = Reply::Refused(Refusal::BadLink);
-        if id < 128 {
-            let k = wide(id);
-            let old = p.links[k];
-            reply = Reply::Refused(Refusal::NoSuchLink);
-            if old.used {
-                p.links[k] = no_link();
-                reply = Reply::Accepted(0);
-                let s = old.standing;
-                if let Standing::Holding(v) = s {
-                    // its stay steps in
-                    let before = p.setter;
-                    p.setter[wide(v)] = STAY;
-                    reply = Reply::Accepted(1);
-                    let mut levels = [0u8; 64];
-                    let mut others = [0u64; 64];
-                    let mut reads = [0u64; 64];
-                    let mut g: usize = 0;
-                    while g < n {
-                        let c = p.setter[g];
-                        let mut e = stay_entry(p.place[g]);
-                        if c < STAY {
-                            e = link_entry(p.links[wide(c)], g);
-                        }
-                        levels[g] = e.level;
-                        others[g] = e.others;
-                        reads[g] = e.reads;
-                        g += 1;
-                    }
-                    let mut table = [0u8; 64];
-                    strengths(&levels, &others, n, &mut table);
-                    let b = find_blocked(p, &table);
-                    // what is blocked has outputs
-                    let mut setter = STAY;
-                    let mut outputs = 0u64;
-                    let mut covered = 0u64;
-                    match b {
-                        Blocked::Nothing => {}
-                        Blocked::Link(i) => {
-                            let l = p.links[wide(i)];
-                            setter = i;
-                            outputs = l.outputs;
-                            covered = l.covered;
-                        }
-                        Blocked::Stay(f) => {
-                            outputs = only(wide(f));
-                            covered = outputs;
-                        }
-                    }
-                    if outputs != 0 {
-                        let top = top_of(&table, outputs);
-                        let mut path = [0u8; 64];
-                        let t = decide(
-                            &levels,
-                            &others,
-                            &table,
-                            n,
-                            below(n),
-                            top,
-                            outputs,
-                            covered,
-                            &mut reads,
-                            &mut path,
-                        );
-                        if t.looped {
-                            p.links[k] = old;
-                            p.setter = before;
-                            reply = Reply::Refused(Refusal::Loop);
-                        } else {
-                            p = reverse(p, setter, &path, t.count);
-                            let m = moved(&before, &p.setter, n);
-                            reply = Reply::Accepted(m);
-                        }
-                    }
-                }
-            }
+    let reply = check_remove(n, id, old.used);
+    if let Reply::Refused(_) = reply {
+        return only_reply(reply);
+    }
+    let change = Change::Drop(id);
+    let s = old.standing;
+    let Standing::Holding(h) = s else {
+        return step_of(Turn::Free, change, STAY, 0);
+    };
+    // its stay steps in
+    let v = wide(h);
+    let place = p.place;
+    let mut setter = p.setter;
+    let mut fresh = *levels;
+    let mut outs = *others;
+    let mut reading = *reads;
+    setter[v] = STAY;
+    fresh[v] = 16 + place[v];
+    outs[v] = 0;
+    reading[v] = 0;
+    let mut table = [0u8; 64];
+    strengths(&fresh, &outs, n, &mut table);
+    let b = find_blocked(p, &setter, &table);
+    // what is blocked has outputs
+    let mut c = STAY;
+    let mut outputs = 0u64;
+    let mut covered = 0u64;
+    match b {
+        Blocked::Nothing => {}
+        Blocked::Link(i, l) => {
+            c = i;
+            outputs = l.outputs;
+            covered = l.covered;
+        }
+        Blocked::Stay(f) => {
+            outputs = only(wide(f));
+            covered = outputs;
         }
     }
-    Done {
-        panel: p,
-        reply: reply,
+    let mut turn = Turn::Free;
+    if outputs != 0 {
+        let top = top_of(&table, outputs);
+        turn = decide(&fresh, &outs, &table, n, below(n), top, outputs, covered, &reading, path);
     }
+    step_of(turn, change, c, only(v))
 }

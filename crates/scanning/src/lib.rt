@@ -1,11 +1,10 @@
 // The scan for blocked links and stays, over a table of strengths.
 use fieldset::lowest;
 use fieldset::without_lowest;
-use panel::Blocked;
 use panel::Link;
 use panel::Panel;
+use panel::STAY;
 use panel::Standing;
-use tables::STAY;
 ghost use mathlib.Core.Path.{_≡_};
 ghost use Rattle.panel.specs.Items.{foundOf};
 ghost use Rattle.panel.specs.Solution.{leastBlocked};
@@ -45,11 +44,18 @@ fn is_blocked(l: Link, table: &[u8; 64]) -> bool
     }
 }
 
-// The blocked link or stay of least level, the lowest link number among equals, over a table of all strengths.
+// What a scan for blocked links and stays finds.
+pub enum Blocked {
+    Nothing,
+    Link(u8, Link),
+    Stay(u8),
+}
+
+// The blocked link or stay of least level, the lowest link number among equals, where the fields have these setters, over a table of all strengths.
 // Both scans stand here: a function for each would copy the panel.
-pub fn find_blocked(p: Panel, table: &[u8; 64]) -> Blocked
-    requires { ⌜ Legal p × StrengthsOf p (now table) ⌝ }
-    ensures { λ r. ⌜ foundOf r ≡ leastBlocked p ⌝ }
+pub fn find_blocked(p: Panel, setter: &[u8; 64], table: &[u8; 64]) -> Blocked
+    requires { ⌜ Legal p × StrengthsOf (withSetters p (now setter)) (now table) ⌝ }
+    ensures { λ r. ⌜ Finds (withSetters p (now (setter .entry))) r ⌝ }
 {
     // 128: none
     let mut found: usize = 128;
@@ -64,7 +70,7 @@ pub fn find_blocked(p: Panel, table: &[u8; 64]) -> Blocked
         i += 1;
     }
     if found < 128 {
-        return Blocked::Link(found as u8);
+        return Blocked::Link(found as u8, p.links[found]);
     }
     let n = p.size;
     // 64: none
@@ -73,7 +79,7 @@ pub fn find_blocked(p: Panel, table: &[u8; 64]) -> Blocked
     let mut f: usize = 0;
     while f < n {
         let level = 16 + p.place[f];
-        if p.setter[f] < STAY && level < table[f] && level < low {
+        if setter[f] < STAY && level < table[f] && level < low {
             stay = f;
             low = level;
         }

@@ -1,2 +1,3 @@
-pub mod Filling
-pub mod Reversal
+pub mod Maps
+pub mod Settings
+pub mod Tables

@@ -1,8 +1,13 @@
 // The two operations on a text of lines.
 use frames::Command;
+use frames::Line;
 use frames::Outcome;
+use panel::Change;
+use panel::Link;
 use panel::Panel;
 use panel::Reply;
+use panel::Step;
+use panel::only_reply;
 use tally::Tally;
 ghost use mathlib.Core.Path.{_≡_};
 ghost use Prim.Native.Nat.{_+_, _*_, _^_, _≤_, _<_};
@@ -20,6 +25,49 @@ pub struct Progress {
     pub panel: Panel,
     pub tally: Tally,
     pub written: usize,
+}
+
+// What a line comes to: its step, and how many bytes of the buffer for rows belong to its reply.
+pub struct Decision {
+    pub step: Step,
+    pub rest: usize,
+}
+
+// Decides on a line by its command; `named` is the link that stands under the number in the frame's second byte.
+fn decide_line(
+    p: Panel,
+    named: Link,
+    levels: &[u8; 64],
+    others: &[u64; 64],
+    reads: &[u64; 64],
+    line: Line,
+    path: &mut [u8; 64],
+    rows: &mut [u8; 192],
+) -> Decision {
+    let command = line.command;
+    let mut rest: usize = 0;
+    let mut step = only_reply(Reply::Accepted(0));
+    match command {
+        Command::Open(n) => step = opening::open(p, n),
+        Command::Add(id, level) => {
+            let frame = line.frame;
+            let len = line.len;
+            let bytes = &frame[..len];
+            step = adding::add(p, named, levels, others, reads, id, level, &bytes[3..], path);
+        }
+        Command::Remove(id) => step = removing::remove(p, named, levels, others, reads, id, path),
+        Command::Touch(f) => step = touching::touch(p, levels, others, reads, f, path),
+        Command::Plan => {
+            let reply = planning::plan(p, levels, others, reads, rows);
+            step = only_reply(reply);
+            rest = 3 * p.size;
+        }
+        Command::Refused(r) => step = only_reply(Reply::Refused(r)),
+    }
+    Decision {
+        step: step,
+        rest: rest,
+    }
 }
 
 // Answers whole lines while the room has place for a longest reply; what does not fit the buffer is counted, not stored.
@@ -40,44 +88,25 @@ fn answer_lines(
     let mut u = t;
     let mut n: usize = 0;
     let mut rows = [0u8; 192];
+    let mut path = [0u8; 64];
+    let mut levels = [0u8; 64];
+    let mut others = [0u64; 64];
+    let mut reads = [0u64; 64];
+    tables::fill_tables(q, &mut levels, &mut others, &mut reads);
     while at < text.len() && 389 <= room - n {
         let end = frames::line_end(text, at);
         let line = frames::read_line(&text[at..end]);
-        let command = line.command;
         let frame = line.frame;
-        let len = line.len;
-        let mut count: usize = 0;
-        let mut reply = Reply::Accepted(0);
-        match command {
-            Command::Open(size) => {
-                let d = opening::open(q, size);
-                q = d.panel;
-                reply = d.reply;
-            }
-            Command::Add(id, level) => {
-                let bytes = &frame[..len];
-                let d = adding::add(q, id, level, &bytes[3..]);
-                q = d.panel;
-                reply = d.reply;
-            }
-            Command::Remove(id) => {
-                let d = removing::remove(q, id);
-                q = d.panel;
-                reply = d.reply;
-            }
-            Command::Touch(f) => {
-                let d = touching::touch(q, f);
-                q = d.panel;
-                reply = d.reply;
-            }
-            Command::Plan => {
-                count = 3 * q.size;
-                reply = planning::plan(q, &mut rows);
-            }
-            Command::Refused(r) => {
-                reply = Reply::Refused(r);
-            }
+        let named = q.links[fieldset::wide(frame[1] % 128)];
+        let d = decide_line(q, named, &levels, &others, &reads, line, &mut path, &mut rows);
+        let step = d.step;
+        let reply = step.reply;
+        let change = step.change;
+        if let Change::Nothing = change {
+        } else {
+            q = taking::take(q, step, &path, &mut levels, &mut others, &mut reads);
         }
+        let count = d.rest;
         let b = frames::reply_bytes(reply);
         n = hex::put_line(out, n, b[0], b[1], &rows[..count]);
         u = tally::counted_line(u, frames::refusal_of(b[0], b[1]));

@@ -1,17 +1,17 @@
 // Touching a field.
 use fieldset::only;
-use panel::Done;
+use fieldset::wide;
+use panel::Change;
 use panel::Panel;
 use panel::Refusal;
 use panel::Reply;
-use strength::greatest;
-use tables::STAY;
-use tables::link_entry;
-use tables::moved;
-use tables::reverse;
-use tables::stay_entry;
-use tables::wide;
-use turning::decide;
+use panel::STAY;
+use panel::Step;
+use panel::only_reply;
+use reversal::Turn;
+use reversal::resolve;
+use reversal::step_of;
+use tables::stay_levels;
 ghost use mathlib.Core.Path.{_≡_};
 ghost use Prim.Native.Nat.{_<_, _+_};
 ghost use lib.Dec.{ltb};
@@ -19,9 +19,11 @@ ghost use mathlib.Core.Bool.{cond};
 ghost use lib.ListN.{length};
 ghost use Rattle.fieldset.specs.Tables.{tabulate};
 ghost use Rattle.panel.specs.Panels.{placeAfter};
-ghost use Rattle.panel.specs.Commands.{performed, touching};
+ghost use Rattle.panel.specs.Commands.{touching};
 ghost use Rattle.panel.specs.Legal.{Legal};
-ghost use Rattle.turning.specs.Outcomes.{Gives};
+ghost use Rattle.panel.specs.Outcomes.{Decides};
+ghost use Rattle.tables.specs.Tables.{Tabled};
+ghost use Rattle.touching.specs.Checks.{checkTouch};
 
 // A place before `at` moves down one.
 fn pushed(x: u8, at: u8) -> u8
@@ -31,7 +33,7 @@ fn pushed(x: u8, at: u8) -> u8
 }
 
 // The places with f's stay at place 0 and those that stood before it one further.
-fn to_front(place: &mut [u8; 64], f: usize)
+pub fn to_front(place: &mut [u8; 64], f: usize)
     requires { ⌜ (f < 64) × (length (now place) ≡ 64) ⌝ }
     ensures { λ r. ⌜ now (place .exit) ≡ tabulate (placeAfter (now (place .entry)) f) 64 ⌝ }
 {
@@ -44,71 +46,49 @@ fn to_front(place: &mut [u8; 64], f: usize)
     place[f] = 0;
 }
 
-// Touches a field: its stay becomes the strongest of the stays.
+// The reply of the checks of a touch, on a panel of n fields.
+fn check_touch(n: usize, f: u8) -> Reply
+    ensures { λ r. ⌜ r ≡ checkTouch n f ⌝ }
+{
+    if n == 0 {
+        return Reply::Refused(Refusal::NotOpen);
+    }
+    if n <= wide(f) {
+        return Reply::Refused(Refusal::NoSuchField);
+    }
+    Reply::Accepted(0)
+}
+
+// Decides on touching a field: its stay becomes the strongest of the stays.
 // The contract rules out, for instance, an order that stays as it was and an invented moved count (must-fail: order_kept,
 // moved_count_invented).
-pub fn touch(mut p: Panel, f: u8) -> Done
-    requires { ⌜ Legal p ⌝ }
-    ensures { λ r. ⌜ Gives r (performed p (touching f)) ⌝ }
+pub fn touch(
+    p: Panel,
+    levels: &[u8; 64],
+    others: &[u64; 64],
+    reads: &[u64; 64],
+    f: u8,
+    path: &mut [u8; 64],
+) -> Step
+    requires { ⌜ Legal p × Tabled p (now levels) (now others) (now reads) × (length (now path) ≡ 64) ⌝ }
+    ensures { λ r. ⌜ Decides p (touching f) (now (path .exit)) r ⌝ }
 {
     let n = p.size;
+    let reply = check_touch(n, f);
+    if let Reply::Refused(_) = reply {
+        return only_reply(reply);
+    }
     let v = wide(f);
-    let mut reply = Reply::Refused(Refusal::NotOpen);
-    if 0 < n {
-        reply = Reply::Refused(Refusal::NoSuchField);
+    let change = Change::Front(f);
+    let setter = p.setter;
+    let mut turn = Turn::Free;
+    if setter[v] < STAY {
+        let mut place = p.place;
+        to_front(&mut place, v);
+        let mut fresh = *levels;
+        stay_levels(&mut fresh, &setter, &place);
+        let set = only(v);
+        turn = resolve(&fresh, others, reads, n, 16, set, set, path);
     }
-    if v < n {
-        let place = p.place;
-        to_front(&mut p.place, v);
-        reply = Reply::Accepted(0);
-        if p.setter[v] < STAY {
-            let mut levels = [0u8; 64];
-            let mut others = [0u64; 64];
-            let mut reads = [0u64; 64];
-            let mut g: usize = 0;
-            while g < n {
-                let c = p.setter[g];
-                let mut e = stay_entry(p.place[g]);
-                if c < STAY {
-                    e = link_entry(p.links[wide(c)], g);
-                }
-                levels[g] = e.level;
-                others[g] = e.others;
-                reads[g] = e.reads;
-                g += 1;
-            }
-            let mut table = [0u8; 64];
-            let set = only(v);
-            let top = greatest(&levels, &others, n, set, &mut table);
-            if 16 < top.strength {
-                let mut path = [0u8; 64];
-                let t = decide(
-                    &levels,
-                    &others,
-                    &table,
-                    n,
-                    top.known,
-                    top.strength,
-                    set,
-                    set,
-                    &mut reads,
-                    &mut path,
-                );
-                if t.looped {
-                    // a refusal leaves the order as it was
-                    p.place = place;
-                    reply = Reply::Refused(Refusal::Loop);
-                } else {
-                    let before = p.setter;
-                    p = reverse(p, STAY, &path, t.count);
-                    let m = moved(&before, &p.setter, n);
-                    reply = Reply::Accepted(m);
-                }
-            }
-        }
-    }
-    Done {
-        panel: p,
-        reply: reply,
-    }
+    step_of(turn, change, STAY, 0)
 }

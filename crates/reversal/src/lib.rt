@@ -1,0 +1,145 @@
+// Deciding on the reversal of a path, over the tables of a panel's setters.
+use fieldset::size;
+use fieldset::union;
+use fieldset::wide;
+use fieldset::with;
+use fieldset::without;
+use panel::Change;
+use panel::Refusal;
+use panel::Reply;
+use panel::STAY;
+use panel::Step;
+use panel::only_reply;
+use strength::greatest;
+use strength::lowest_at;
+use strength::path_from;
+ghost use mathlib.Core.Path.{_≡_};
+ghost use lib.ListN.{length, take};
+ghost use Rattle.fieldset.specs.Fields.{size};
+ghost use Rattle.panel.specs.Outcomes.{PathOf};
+ghost use Rattle.reversal.specs.Reversals.{reversedReads, fieldsOf, Undecided, Decided, Unresolved, Resolved, stepOf};
+
+// What is to be done for an item: nothing where it is not blocked; else its path is reversed, which has so many fields, these, unless
+// there is a loop then.
+pub enum Turn {
+    Free,
+    Looped,
+    Path(usize, u64),
+}
+
+// The read fields after a path is reversed: `covered` are the covered fields of what sets its first field.
+fn reverse_reads(reads: &mut [u64; 64], covered: u64, path: &[u8; 64], count: usize)
+    requires { ⌜ PathOf (now path) count × (length (now path) ≡ 64) × (length (now reads) ≡ 64) ⌝ }
+    ensures { λ r. ⌜ now (reads .exit) ≡ reversedReads (now (reads .entry)) covered (take count (now (path .entry))) ⌝ }
+{
+    let mut cover = covered;
+    let mut i: usize = 0;
+    while i < count {
+        let f = wide(path[i]);
+        let old = with(reads[f], f);
+        reads[f] = without(cover, f);
+        cover = old;
+        i += 1;
+    }
+}
+
+// The set of a path's fields.
+fn path_fields(path: &[u8; 64], count: usize) -> u64
+    requires { ⌜ PathOf (now path) count × (length (now path) ≡ 64) ⌝ }
+    ensures { λ r. ⌜ r ≡ fieldsOf (take count (now (path .entry))) ⌝ }
+{
+    let mut set = 0u64;
+    let mut i: usize = 0;
+    while i < count {
+        set = with(set, wide(path[i]));
+        i += 1;
+    }
+    set
+}
+
+// Finds the reversible path for a blocked item with these outputs and covered fields, from its lowest-numbered output of the strength s, and
+// whether there is a loop when it is reversed.
+pub fn decide(
+    levels: &[u8; 64],
+    others: &[u64; 64],
+    table: &[u8; 64],
+    n: usize,
+    known: u64,
+    s: u8,
+    outputs: u64,
+    covered: u64,
+    reads: &[u64; 64],
+    path: &mut [u8; 64],
+) -> Turn
+    requires { ⌜ Undecided (now levels) (now others) (now table) n known s outputs covered (now reads) (now path) ⌝ }
+    ensures { λ r. ⌜ Decided (now (levels .entry)) (now (others .entry)) n s outputs covered (now (reads .entry)) (now (path .exit)) r ⌝ }
+{
+    let v = lowest_at(table, s, outputs);
+    let w = path_from(levels, others, table, n, known, v, path);
+    let count = w.count;
+    let mut after = *reads;
+    reverse_reads(&mut after, covered, path, count);
+    if ordering::has_loop(&after, n) {
+        return Turn::Looped;
+    }
+    let set = path_fields(path, count);
+    Turn::Path(count, set)
+}
+
+// What is to be done for an item that waits, with this level, these outputs and covered fields.
+pub fn resolve(
+    levels: &[u8; 64],
+    others: &[u64; 64],
+    reads: &[u64; 64],
+    n: usize,
+    level: u8,
+    outputs: u64,
+    covered: u64,
+    path: &mut [u8; 64],
+) -> Turn
+    requires { ⌜ Unresolved (now others) n outputs covered (now reads) (now path) ⌝ }
+    ensures { λ r. ⌜ Resolved (now (levels .entry)) (now (others .entry)) n level outputs covered (now (reads .entry)) (now (path .exit)) r ⌝ }
+{
+    let mut table = [0u8; 64];
+    let top = greatest(levels, others, n, outputs, &mut table);
+    let s = top.strength;
+    if s <= level {
+        return Turn::Free;
+    }
+    decide(levels, others, &table, n, top.known, s, outputs, covered, reads, path)
+}
+
+// How many fields a set has.
+fn count_of(set: u64) -> u8
+    ensures { λ r. ⌜ r ≡ size set ⌝ }
+{
+    size(set) as u8
+}
+
+// The step that makes a change and then reverses the path for the item of the number c. The fields with another setter are the path's and those of
+// `also`.
+pub fn step_of(turn: Turn, change: Change, c: u8, also: u64) -> Step
+    ensures { λ r. ⌜ r ≡ stepOf turn change c also ⌝ }
+{
+    match turn {
+        Turn::Free => {
+            let m = count_of(also);
+            Step {
+                reply: Reply::Accepted(m),
+                change: change,
+                setter: STAY,
+                count: 0,
+            }
+        }
+        Turn::Looped => only_reply(Reply::Refused(Refusal::Loop)),
+        Turn::Path(count, set) => {
+            let m = count_of(union(set, also));
+            Step {
+                reply: Reply::Accepted(m),
+                change: change,
+                setter: c,
+                count: count,
+            }
+        }
+    }
+}
