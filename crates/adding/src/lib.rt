@@ -4,14 +4,13 @@ use fieldbytes::read_fields;
 use fieldset::below;
 use fieldset::size;
 use fieldset::within;
-use panel::Change;
 use panel::Link;
 use panel::Panel;
 use panel::Refusal;
 use panel::Reply;
 use panel::Standing;
 use panel::Step;
-use panel::only_reply;
+use panel::unchanged;
 use reversal::Turn;
 use reversal::resolve;
 use reversal::step_of;
@@ -99,20 +98,23 @@ pub fn add(
     path: &mut [u8; 64],
 ) -> Step
     requires { ⌜ Legal p × Tabled p (now levels) (now others) (now reads) × (old ≡ linkAt (p .links) (id % 128)) × (length (now path) ≡ 64) ⌝ }
-    ensures { λ r. ⌜ Decides p (adding id level (now (bytes .entry))) (now (path .exit)) r ⌝ }
+    ensures { λ r. ⌜ Decides p (id % 128) (adding id level (now (bytes .entry))) (now (path .exit)) r ⌝ }
 {
     let n = p.size;
+    let place = p.place;
     let fields = read_fields(bytes);
     let reply = check_add(n, id, level, fields, old.used);
     if let Reply::Refused(_) = reply {
-        return only_reply(reply);
+        return unchanged(n, &place, old, reply);
     }
     let turn = resolve(levels, others, reads, n, level, fields.outputs, fields.covered, path);
+    if let Turn::Looped = turn {
+        return unchanged(n, &place, old, Reply::Refused(Refusal::Loop));
+    }
     if level == 0 {
         if let Turn::Free = turn {
-            return only_reply(Reply::Refused(Refusal::Conflict));
+            return unchanged(n, &place, old, Reply::Refused(Refusal::Conflict));
         }
     }
-    let link = waiting_link(level, fields);
-    step_of(turn, Change::Enter(id, link), id, 0)
+    step_of(turn, n, &place, waiting_link(level, fields), Standing::Waiting, id)
 }

@@ -186,3 +186,15 @@ pub fn refusal_of(first: u8, second: u8) -> u8
 {
     if first == 0xFF { second } else { 0 }
 }
+
+// The number of the link that a command names; 0 where it names none.
+pub fn number_of(command: Command) -> u8 {
+    match command {
+        Command::Open(_) => 0,
+        Command::Add(id, _) => id % 128,
+        Command::Remove(id) => id % 128,
+        Command::Touch(_) => 0,
+        Command::Plan => 0,
+        Command::Refused(_) => 0,
+    }
+}

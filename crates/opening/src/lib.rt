@@ -1,12 +1,13 @@
 // The panel before it is opened, and its opening.
-use panel::Change;
+use fieldset::wide;
+use panel::Link;
 use panel::Panel;
 use panel::Refusal;
 use panel::Reply;
 use panel::STAY;
 use panel::Step;
 use panel::no_link;
-use panel::only_reply;
+use panel::unchanged;
 ghost use mathlib.Core.Path.{_≡_};
 ghost use Prim.Native.Nat.{ℕ};
 ghost use mathlib.Core.List.{List};
@@ -53,17 +54,15 @@ fn check_open(size: usize, n: u8) -> Reply
 
 // Decides on the opening with n fields.
 // The contract rules out, for instance, a panel of another size and a refusal of 64 fields (must-fail: one_field_only, size_64_refused).
-pub fn open(p: Panel, n: u8) -> Step
-    ensures { λ r. ⌜ ((path : List ℕ) → Decides p (opening n) path r) ⌝ }
+pub fn open(p: Panel, named: Link, n: u8) -> Step
+    requires { ⌜ Legal p ⌝ }
+    ensures { λ r. ⌜ ((k : ℕ) (path : List ℕ) → named ≡ linkAt (p .links) k → Decides p k (opening n) path r) ⌝ }
 {
-    let reply = check_open(p.size, n);
+    let size = p.size;
+    let place = p.place;
+    let reply = check_open(size, n);
     if let Reply::Refused(_) = reply {
-        return only_reply(reply);
+        return unchanged(size, &place, named, reply);
     }
-    Step {
-        reply: reply,
-        change: Change::Open(n),
-        setter: STAY,
-        count: 0,
-    }
+    unchanged(wide(n), &place, named, reply)
 }

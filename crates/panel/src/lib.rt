@@ -1,7 +1,7 @@
 // The panel: fields, links, stays, and what a command comes to.
 ghost use mathlib.Core.Path.{_≡_};
 ghost use Rattle.panel.specs.Items.{noLink};
-ghost use Rattle.panel.specs.Outcomes.{onlyReply};
+ghost use Rattle.panel.specs.Outcomes.{unchanged};
 
 // The setter of a field that its stay sets.
 pub const STAY: u8 = 128;
@@ -56,27 +56,20 @@ pub enum Reply {
     Refused(Refusal),
 }
 
-// What a command changes before a path is reversed.
-pub enum Change {
-    Nothing,
-    // the panel is opened with so many fields
-    Open(u8),
-    // a link that waits is entered under a number
-    Enter(u8, Link),
-    // the link of a number is dropped; what it set is set by its stay
-    Drop(u8),
-    // the stay of a field moves to the front
-    Front(u8),
-}
-
-// What a command comes to: its reply, what it changes, and the path that is then reversed, whose fields stand at the start of a buffer.
+// What a command comes to. The panel is changed by whoever takes the step.
 pub struct Step {
     pub reply: Reply,
-    pub change: Change,
-    // what sets the path's first field: a link's number, or STAY
+    // what the panel then has: its fields, the stays' places, the link of the number that the command names
+    pub size: usize,
+    pub place: [u8; 64],
+    pub link: Link,
+    // the standing of a link that is dropped: what it held is set by its stay
+    pub freed: Standing,
+    // what then sets the first field of a path that is reversed, a link's number or STAY, and how many fields the path has
     pub setter: u8,
-    // how many fields the path has
     pub count: usize,
+    // the fields that get another setter
+    pub changed: u64,
 }
 
 // The link of a number that is not in use.
@@ -92,14 +85,20 @@ pub fn no_link() -> Link
     }
 }
 
-// The step that changes nothing.
-pub fn only_reply(reply: Reply) -> Step
-    ensures { λ r. ⌜ r ≡ onlyReply reply ⌝ }
+// The step that leaves the panel as it is: its fields, the stays' places and the link of the number that the command names.
+pub fn unchanged(size: usize, place: &[u8; 64], named: Link, reply: Reply) -> Step
+    requires { ⌜ length (now place) ≡ 64 ⌝ }
+    ensures { λ r. ⌜ r ≡ unchanged size (now (place .entry)) named reply ⌝ }
 {
+    let places = *place;
     Step {
         reply: reply,
-        change: Change::Nothing,
+        size: size,
+        place: places,
+        link: named,
+        freed: Standing::Waiting,
         setter: STAY,
         count: 0,
+        changed: 0,
     }
 }

@@ -2,7 +2,6 @@
 use fieldset::below;
 use fieldset::only;
 use fieldset::wide;
-use panel::Change;
 use panel::Link;
 use panel::Panel;
 use panel::Refusal;
@@ -10,7 +9,8 @@ use panel::Reply;
 use panel::STAY;
 use panel::Standing;
 use panel::Step;
-use panel::only_reply;
+use panel::no_link;
+use panel::unchanged;
 use reversal::Turn;
 use reversal::decide;
 use reversal::step_of;
@@ -57,21 +57,20 @@ pub fn remove(
     path: &mut [u8; 64],
 ) -> Step
     requires { ⌜ Legal p × Tabled p (now levels) (now others) (now reads) × (old ≡ linkAt (p .links) (id % 128)) × (length (now path) ≡ 64) ⌝ }
-    ensures { λ r. ⌜ Decides p (removing id) (now (path .exit)) r ⌝ }
+    ensures { λ r. ⌜ Decides p (id % 128) (removing id) (now (path .exit)) r ⌝ }
 {
     let n = p.size;
+    let place = p.place;
     let reply = check_remove(n, id, old.used);
     if let Reply::Refused(_) = reply {
-        return only_reply(reply);
+        return unchanged(n, &place, old, reply);
     }
-    let change = Change::Drop(id);
     let s = old.standing;
     let Standing::Holding(h) = s else {
-        return step_of(Turn::Free, change, STAY, 0);
+        return step_of(Turn::Free, n, &place, no_link(), s, STAY);
     };
     // its stay steps in
     let v = wide(h);
-    let place = p.place;
     let mut setter = p.setter;
     let mut fresh = *levels;
     let mut outs = *others;
@@ -104,5 +103,8 @@ pub fn remove(
         let top = top_of(&table, outputs);
         turn = decide(&fresh, &outs, &table, n, below(n), top, outputs, covered, &reading, path);
     }
-    step_of(turn, change, c, only(v))
+    if let Turn::Looped = turn {
+        return unchanged(n, &place, old, Reply::Refused(Refusal::Loop));
+    }
+    step_of(turn, n, &place, no_link(), s, c)
 }

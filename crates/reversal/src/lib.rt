@@ -1,15 +1,15 @@
 // Deciding on the reversal of a path, over the tables of a panel's setters.
+use fieldset::only;
 use fieldset::size;
 use fieldset::union;
 use fieldset::wide;
 use fieldset::with;
 use fieldset::without;
-use panel::Change;
-use panel::Refusal;
+use panel::Link;
 use panel::Reply;
 use panel::STAY;
+use panel::Standing;
 use panel::Step;
-use panel::only_reply;
 use strength::greatest;
 use strength::lowest_at;
 use strength::path_from;
@@ -109,6 +109,17 @@ pub fn resolve(
     decide(levels, others, &table, n, top.known, s, outputs, covered, reads, path)
 }
 
+// The set of the field that is held.
+fn field_of(s: Standing) -> u64
+    requires { ⌜ Held s ⌝ }
+    ensures { λ r. ⌜ r ≡ fieldOf s ⌝ }
+{
+    match s {
+        Standing::Waiting => 0,
+        Standing::Holding(v) => only(wide(v)),
+    }
+}
+
 // How many fields a set has.
 fn count_of(set: u64) -> u8
     ensures { λ r. ⌜ r ≡ size set ⌝ }
@@ -116,30 +127,30 @@ fn count_of(set: u64) -> u8
     size(set) as u8
 }
 
-// The step that makes a change and then reverses the path for the item of the number c. The fields with another setter are the path's and those of
-// `also`.
-pub fn step_of(turn: Turn, change: Change, c: u8, also: u64) -> Step
-    ensures { λ r. ⌜ r ≡ stepOf turn change c also ⌝ }
+// The step that leaves so many fields, these places and this link, and reverses the path for the item of the number c. The fields with another
+// setter are the path's and that of a link that is dropped.
+pub fn step_of(turn: Turn, size: usize, place: &[u8; 64], link: Link, freed: Standing, c: u8) -> Step
+    requires { ⌜ length (now place) ≡ 64 ⌝ }
+    ensures { λ r. ⌜ r ≡ stepOf turn size (now (place .entry)) link freed c ⌝ }
 {
-    match turn {
-        Turn::Free => {
-            let m = count_of(also);
-            Step {
-                reply: Reply::Accepted(m),
-                change: change,
-                setter: STAY,
-                count: 0,
-            }
-        }
-        Turn::Looped => only_reply(Reply::Refused(Refusal::Loop)),
-        Turn::Path(count, set) => {
-            let m = count_of(union(set, also));
-            Step {
-                reply: Reply::Accepted(m),
-                change: change,
-                setter: c,
-                count: count,
-            }
-        }
+    let mut setter = STAY;
+    let mut count: usize = 0;
+    let mut changed = field_of(freed);
+    if let Turn::Path(k, set) = turn {
+        setter = c;
+        count = k;
+        changed = union(set, changed);
+    }
+    let places = *place;
+    let m = count_of(changed);
+    Step {
+        reply: Reply::Accepted(m),
+        size: size,
+        place: places,
+        link: link,
+        freed: freed,
+        setter: setter,
+        count: count,
+        changed: changed,
     }
 }

@@ -1,15 +1,10 @@
 // Taking a step: the panel and its tables after it.
 use fieldset::wide;
-use panel::Change;
 use panel::Link;
 use panel::Panel;
 use panel::STAY;
 use panel::Standing;
-use panel::Step;
-use panel::no_link;
 use tables::setter_entry;
-use tables::stay_levels;
-use touching::to_front;
 ghost use mathlib.Core.Path.{_≡_};
 ghost use mathlib.Core.Bool.{cond};
 ghost use lib.Dec.{ltb};
@@ -37,45 +32,35 @@ fn standing_of(c: u8, l: Link, s: Standing) -> Link
     }
 }
 
-// The panel after a step, with its tables.
-pub fn take(
+// The number of a setter: a link's, or STAY.
+fn number_of(c: u8) -> u8
+    ensures { λ r. ⌜ r ≡ cond (ltb c 128) c 128 ⌝ }
+{
+    if c < STAY { c } else { STAY }
+}
+
+// The panel with what a dropped link held set by its stay, and then a path reversed, with its tables.
+pub fn reverse(
     mut p: Panel,
-    step: Step,
+    freed: Standing,
+    setter: u8,
     path: &[u8; 64],
+    count: usize,
     levels: &mut [u8; 64],
     others: &mut [u64; 64],
     reads: &mut [u64; 64],
 ) -> Panel
-    requires { ⌜ Legal p × Tabled p (now levels) (now others) (now reads) × Takes p (step .change) × PathOf (now path) (step .count) × (length (now path) ≡ 64) ⌝ }
-    ensures { λ r. ⌜ (r ≡ taken p step (now (path .entry))) × Tabled r (now (levels .exit)) (now (others .exit)) (now (reads .exit)) ⌝ }
+    requires { ⌜ PathOf (now path) count × (length (now path) ≡ 64) ⌝ }
+    ensures { λ r. ⌜ (r ≡ reversed (freed p freed) (itemOf setter (at (now (path .entry)) 0)) (take count (now (path .entry)))) × Tabled r (now (levels .exit)) (now (others .exit)) (now (reads .exit)) ⌝ }
 {
-    let change = step.change;
-    match change {
-        Change::Nothing => {}
-        Change::Open(n) => p.size = wide(n),
-        Change::Enter(i, l) => p.links[wide(i)] = l,
-        Change::Drop(i) => {
-            let k = wide(i);
-            let l = p.links[k];
-            p.links[k] = no_link();
-            let s = l.standing;
-            if let Standing::Holding(v) = s {
-                let f = wide(v);
-                p.setter[f] = STAY;
-                levels[f] = 16 + p.place[f];
-                others[f] = 0;
-                reads[f] = 0;
-            }
-        }
-        Change::Front(f) => {
-            to_front(&mut p.place, wide(f));
-            let setter = p.setter;
-            let place = p.place;
-            stay_levels(levels, &setter, &place);
-        }
+    if let Standing::Holding(v) = freed {
+        let f = wide(v);
+        p.setter[f] = STAY;
+        levels[f] = 16 + p.place[f];
+        others[f] = 0;
+        reads[f] = 0;
     }
-    let count = step.count;
-    let mut c = step.setter;
+    let mut c = setter;
     let mut i: usize = 0;
     while i < count {
         let f = path[i];
@@ -85,7 +70,7 @@ pub fn take(
         let l = p.links[j];
         let e = setter_entry(c, l, p.place[k], k);
         p.links[j] = standing_of(c, l, Standing::Holding(f));
-        p.setter[k] = c;
+        p.setter[k] = number_of(c);
         levels[k] = e.level;
         others[k] = e.others;
         reads[k] = e.reads;

@@ -2,12 +2,11 @@
 use frames::Command;
 use frames::Line;
 use frames::Outcome;
-use panel::Change;
 use panel::Link;
 use panel::Panel;
 use panel::Reply;
 use panel::Step;
-use panel::only_reply;
+use panel::unchanged;
 use tally::Tally;
 ghost use mathlib.Core.Path.{_≡_};
 ghost use Prim.Native.Nat.{_+_, _*_, _^_, _≤_, _<_};
@@ -46,27 +45,38 @@ fn decide_line(
 ) -> Decision {
     let command = line.command;
     let mut rest: usize = 0;
-    let mut step = only_reply(Reply::Accepted(0));
-    match command {
-        Command::Open(n) => step = opening::open(p, n),
+    let step = match command {
+        Command::Open(n) => opening::open(p, named, n),
         Command::Add(id, level) => {
             let frame = line.frame;
             let len = line.len;
             let bytes = &frame[..len];
-            step = adding::add(p, named, levels, others, reads, id, level, &bytes[3..], path);
+            adding::add(p, named, levels, others, reads, id, level, &bytes[3..], path)
         }
-        Command::Remove(id) => step = removing::remove(p, named, levels, others, reads, id, path),
-        Command::Touch(f) => step = touching::touch(p, levels, others, reads, f, path),
+        Command::Remove(id) => removing::remove(p, named, levels, others, reads, id, path),
+        Command::Touch(f) => touching::touch(p, named, levels, others, reads, f, path),
         Command::Plan => {
             let reply = planning::plan(p, levels, others, reads, rows);
-            step = only_reply(reply);
-            rest = 3 * p.size;
+            rest = rest_of(reply);
+            keep(p, named, reply)
         }
-        Command::Refused(r) => step = only_reply(Reply::Refused(r)),
-    }
+        Command::Refused(r) => keep(p, named, Reply::Refused(r)),
+    };
     Decision {
         step: step,
         rest: rest,
+    }
+}
+
+fn keep(p: Panel, named: Link, reply: Reply) -> Step {
+    let place = p.place;
+    unchanged(p.size, &place, named, reply)
+}
+
+fn rest_of(reply: Reply) -> usize {
+    match reply {
+        Reply::Accepted(n) => 3 * fieldset::wide(n),
+        Reply::Refused(_) => 0,
     }
 }
 
@@ -96,17 +106,39 @@ fn answer_lines(
     while at < text.len() && 389 <= room - n {
         let end = frames::line_end(text, at);
         let line = frames::read_line(&text[at..end]);
-        let frame = line.frame;
-        let named = q.links[fieldset::wide(frame[1] % 128)];
-        let d = decide_line(q, named, &levels, &others, &reads, line, &mut path, &mut rows);
-        let step = d.step;
-        let reply = step.reply;
-        let change = step.change;
-        if let Change::Nothing = change {
-        } else {
-            q = taking::take(q, step, &path, &mut levels, &mut others, &mut reads);
+        let k = fieldset::wide(frames::number_of(line.command));
+        let named = q.links[k];
+        let command = line.command;
+        let mut count: usize = 0;
+        let step = match command {
+            Command::Open(n) => opening::open(q, named, n),
+            Command::Add(id, level) => {
+                let frame = line.frame;
+                let len = line.len;
+                let bytes = &frame[..len];
+                adding::add(q, named, &levels, &others, &reads, id, level, &bytes[3..], &mut path)
+            }
+            Command::Remove(id) => removing::remove(q, named, &levels, &others, &reads, id, &mut path),
+            Command::Touch(f) => touching::touch(q, named, &levels, &others, &reads, f, &mut path),
+            Command::Plan => {
+                let reply = planning::plan(q, &levels, &others, &reads, &mut rows);
+                count = rest_of(reply);
+                keep(q, named, reply)
+            }
+            Command::Refused(r) => keep(q, named, Reply::Refused(r)),
+        };
+        // the panel takes the step
+        let place = step.place;
+        q.place = place;
+        let setter = q.setter;
+        let link = step.link;
+        q.links[k] = link;
+        q.size = step.size;
+        tables::stay_levels(&mut levels, &setter, &place);
+        if step.changed != 0 {
+            q = taking::reverse(q, step.freed, step.setter, &path, step.count, &mut levels, &mut others, &mut reads);
         }
-        let count = d.rest;
+        let reply = step.reply;
         let b = frames::reply_bytes(reply);
         n = hex::put_line(out, n, b[0], b[1], &rows[..count]);
         u = tally::counted_line(u, frames::refusal_of(b[0], b[1]));

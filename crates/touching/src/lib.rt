@@ -1,13 +1,14 @@
 // Touching a field.
 use fieldset::only;
 use fieldset::wide;
-use panel::Change;
+use panel::Link;
 use panel::Panel;
 use panel::Refusal;
 use panel::Reply;
 use panel::STAY;
+use panel::Standing;
 use panel::Step;
-use panel::only_reply;
+use panel::unchanged;
 use reversal::Turn;
 use reversal::resolve;
 use reversal::step_of;
@@ -33,7 +34,7 @@ fn pushed(x: u8, at: u8) -> u8
 }
 
 // The places with f's stay at place 0 and those that stood before it one further.
-pub fn to_front(place: &mut [u8; 64], f: usize)
+fn to_front(place: &mut [u8; 64], f: usize)
     requires { ⌜ (f < 64) × (length (now place) ≡ 64) ⌝ }
     ensures { λ r. ⌜ now (place .exit) ≡ tabulate (placeAfter (now (place .entry)) f) 64 ⌝ }
 {
@@ -64,6 +65,7 @@ fn check_touch(n: usize, f: u8) -> Reply
 // moved_count_invented).
 pub fn touch(
     p: Panel,
+    named: Link,
     levels: &[u8; 64],
     others: &[u64; 64],
     reads: &[u64; 64],
@@ -71,24 +73,27 @@ pub fn touch(
     path: &mut [u8; 64],
 ) -> Step
     requires { ⌜ Legal p × Tabled p (now levels) (now others) (now reads) × (length (now path) ≡ 64) ⌝ }
-    ensures { λ r. ⌜ Decides p (touching f) (now (path .exit)) r ⌝ }
+    ensures { λ r. ⌜ ((k : ℕ) → named ≡ linkAt (p .links) k → Decides p k (touching f) (now (path .exit)) r) ⌝ }
 {
     let n = p.size;
+    let order = p.place;
     let reply = check_touch(n, f);
     if let Reply::Refused(_) = reply {
-        return only_reply(reply);
+        return unchanged(n, &order, named, reply);
     }
     let v = wide(f);
-    let change = Change::Front(f);
     let setter = p.setter;
+    let mut place = order;
+    to_front(&mut place, v);
     let mut turn = Turn::Free;
     if setter[v] < STAY {
-        let mut place = p.place;
-        to_front(&mut place, v);
         let mut fresh = *levels;
         stay_levels(&mut fresh, &setter, &place);
         let set = only(v);
         turn = resolve(&fresh, others, reads, n, 16, set, set, path);
     }
-    step_of(turn, change, STAY, 0)
+    if let Turn::Looped = turn {
+        return unchanged(n, &order, named, Reply::Refused(Refusal::Loop));
+    }
+    step_of(turn, n, &place, named, Standing::Waiting, STAY)
 }
