@@ -11,9 +11,11 @@ use borrow.Author.Tests.{eq-eqb, ne-eqb, eqb-true}
 use lib.Dec.{eqb}
 use lib.ListN.{length}
 use Rattle.fieldset.specs.Numbers.{lowest}
+use Rattle.fieldset.specs.Lists.{All, Distinct}
 use Rattle.fieldset.specs.Fields.{member, without}
 use Rattle.fieldset.proofs.Tests.{and-left, and-right}
 use Rattle.fieldset.proofs.Numbers.{lowest-cong, lowest-none, lowest-lt, lowest-true, lowest-unique}
+use Rattle.fieldset.proofs.Lists.{all-map}
 use Rattle.fieldset.proofs.Fields.{member-empty, member-without-other, lowestOf-before}
 use Rattle.strength.specs.Strength.{greatest, strength, lowestAt, strongest, path}
 use Rattle.strength.specs.Filling.{First, lastOf}
@@ -112,18 +114,6 @@ pub data Chain (level others str : ℕ → ℕ) (s : ℕ) : List ℕ → Type 0 
   next : {v u : ℕ} {vs : List ℕ} → v < 64 → str v ≡ s → level v < s → member (others v) u ≡ true → Chain level others str s (u ∷ vs)
       → Chain level others str s (v ∷ u ∷ vs)
 
-abbrev pub All : (ℕ → Type 0) → List ℕ → Type 0
-All P [] = Unit {0}
-All P (v ∷ vs) = P v × All P vs
-
-abbrev pub Distinct : List ℕ → Type 0
-Distinct [] = Unit {0}
-Distinct (v ∷ vs) = All (λ u. v ≢ u) vs × Distinct vs
-
-pub all-map : {P Q : ℕ → Type 0} → ((v : ℕ) → P v → Q v) → (vs : List ℕ) → All P vs → All Q vs
-all-map f [] h = tt
-all-map f (v ∷ vs) (a, b) = (f v a, all-map f vs b)
-
 module _ {level others str : ℕ → ℕ} {s : ℕ} where
   -- the last field's setter has the level s
   pub chain-last : {vs : List ℕ} → Chain level others str s vs → (d : ℕ) → level (lastOf d vs) ≡ s
@@ -150,14 +140,12 @@ module _ {level others str : ℕ → ℕ} {s : ℕ} where
     chain-falls (last l e h) = tt
     chain-falls (next {v = v} {u = u} {vs = vs} l e h f c) =
         let b : rank u < rank v = falls v u l (chain-fields c .0) f in
-        let under : (w : ℕ) → rank w < rank u → rank w < rank v = λ w q. omega arith in
-        (b, all-map under vs (chain-falls c))
+        (b, all-map (λ w. rank w < rank u) (λ w. rank w < rank v) (λ w q. omega arith) vs (chain-falls c))
 
     pub chain-distinct : {vs : List ℕ} → Chain level others str s vs → Distinct vs
     chain-distinct (last l e h) = (tt, tt)
     chain-distinct (next {v = v} {u = u} {vs = vs} l e h f c) =
-        let other : (w : ℕ) → rank w < rank v → v ≢ w = λ w q d. omega (arith, ap rank d) in
-        (all-map other (u ∷ vs) (chain-falls (next l e h f c)), chain-distinct c)
+        (all-map (λ w. rank w < rank v) (λ w. v ≢ w) (λ w q d. omega (arith, ap rank d)) (u ∷ vs) (chain-falls (next l e h f c)), chain-distinct c)
 
     -- there are no more fields than ranks
     pub chain-short : {v : ℕ} {vs : List ℕ} → Chain level others str s (v ∷ vs) → length vs ≤ rank v
