@@ -11,8 +11,9 @@ use lib.Dec.{eqb, ltb}
 use lib.ListN.{length, set, length-set}
 use lib.Seq.{getD-set-same, getD-set-other, set-out}
 use Rattle.fieldset.specs.Tables.{at}
+use Rattle.fieldset.specs.Lists.{All, Distinct}
+use Rattle.fieldset.proofs.Lists.{all-map}
 use Rattle.strength.specs.Filling.{lastOf}
-use Rattle.strength.proofs.Paths.{All, Distinct, all-map}
 use Rattle.panel.specs.declared.Standing.{Standing}
 use Rattle.panel.specs.declared.Standing.the-variants.{Waiting, Holding}
 use Rattle.panel.specs.declared.Link.{Link}
@@ -330,7 +331,7 @@ reversed-other p c [] i full fits h off = waiting-other p c i h
 reversed-other p c (v ∷ vs) i full (l, fit, fits) h (a, off) =
     let e = holding-sets p v c full l fit in
     reversed-other (holding p c v) (setterOf (p .setter) v) vs i (holding-full p v c ∙ full) (rw e fits) a
-    (rw e (all-map (λ w k. at-put (eqb w v) k) vs off))
+    (rw e (all-map (λ w. setterOf (p .setter) w ≢ link i) (λ w. put (setterOf (p .setter)) v c w ≢ link i) (λ w k. at-put (eqb w v) k) vs off))
     ∙ holding-other p v c i h
   where
     at-put : {d : Item} (b : Bool) → d ≢ link i → cond b c d ≢ link i
