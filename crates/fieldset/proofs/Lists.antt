@@ -3,7 +3,7 @@ use Prim.Native.Nat.{ℕ, zero, suc, _+_, _≤_, _<_, zero-le, suc-le-suc}
 use mathlib.Core.Path.{_≡_, refl, sym, ap, _∙_}
 use mathlib.Core.Bool.{Bool, true, false, cond}
 use mathlib.Core.List.{List, [], _∷_, _++_, map}
-use mathlib.Core.Logic.{_≢_, inl, inr}
+use mathlib.Core.Logic.{_≢_, _⊎_, inl, inr}
 use native.Mathlib.Nat.{le-refl}
 use native.Mathlib.Decide.{ℕ-discrete}
 use native.Mathlib.Omega.{arith}
@@ -12,6 +12,7 @@ use lib.Dec.{eqb}
 use lib.ListN.{length, getD}
 use Rattle.fieldset.specs.Tables.{tabulate}
 use Rattle.fieldset.specs.Lists.{In, All, Distinct, passing, place}
+use Rattle.fieldset.proofs.Numbers.{below-suc}
 use Rattle.fieldset.proofs.Tables.{length-tabulate}
 
 -- ---- members and all entries
@@ -73,18 +74,6 @@ module _ {A : Type 0} where
   passing-cong q r [] a = refl
   passing-cong q r (x ∷ xs) a = rw (a .0, passing-cong q r xs (a .1))
 
-  pub passing-distinct : (q : A → Bool) (xs : List A) → Distinct xs → Distinct (passing q xs)
-  unfolding passing
-  passing-distinct q [] d = tt
-  passing-distinct q (x ∷ xs) d = go (q x) (passing-distinct q xs (d .1))
-    where
-      apart : (y : A) → In y (passing q xs) → x ≢ y
-      apart y m = all-in (λ z. x ≢ z) xs y (d .0) (all-in (λ z. In z xs × (q z ≡ true)) (passing q xs) y (passing-in q xs) m .0)
-
-      go : (b : Bool) → Distinct (passing q xs) → Distinct (cond b (x ∷ passing q xs) (passing q xs))
-      go true k = (in-all (λ y. x ≢ y) (passing q xs) apart, k)
-      go false k = k
-
   -- ---- lists without repeats
 
   -- the list with a member struck out
@@ -120,6 +109,10 @@ module _ {A B : Type 0} (g : A → B) where
   in-map x (y ∷ xs) (inl e) = inl (ap g e)
   in-map x (y ∷ xs) (inr m) = inr (in-map x xs m)
 
+  pub map-in : (y : B) (xs : List A) → In y (map g xs) → (x : A) × In x xs × (y ≡ g x)
+  map-in y (x ∷ xs) (inl e) = (x, inl refl, e)
+  map-in y (x ∷ xs) (inr m) = let (z, k, e) = map-in y xs m in (z, inr k, e)
+
   pub map-all : (P : B → Type 0) (xs : List A) → All (λ x. P (g x)) xs → All P (map g xs)
   map-all P [] a = tt
   map-all P (x ∷ xs) a = (a .0, map-all P xs (a .1))
@@ -134,7 +127,44 @@ module _ {A B : Type 0} (g : A → B) where
       go true e = ap (λ (ys : List B). g x ∷ ys) e
       go false e = e
 
+  pub passing-distinct : (q : A → Bool) (xs : List A) → Distinct (map g xs) → Distinct (map g (passing q xs))
+  unfolding passing
+  passing-distinct q [] d = tt
+  passing-distinct q (x ∷ xs) d = go (q x) (passing-distinct q xs (d .1))
+    where
+      apart : All (λ y. g x ≢ g y) (passing q xs)
+      apart =
+          all-map (λ y. In y xs × (q y ≡ true)) (λ y. g x ≢ g y) (λ y (m, e). all-in (λ z. g x ≢ z) (map g xs) (g y) (d .0) (in-map y xs m))
+          (passing q xs) (passing-in q xs)
+
+      go : (b : Bool) → Distinct (map g (passing q xs)) → Distinct (map g (cond b (x ∷ passing q xs) (passing q xs)))
+      go true k = (map-all (λ y. g x ≢ y) (passing q xs) apart, k)
+      go false k = k
+
+-- images are distinct that are where two other images are
+pub distinct-map : {A B C D : Type 0} (f : A → B) (h : A → C) (g : A → D) (xs : List A) → Distinct (map f xs) → Distinct (map h xs)
+    → ((x y : A) → In x xs → In y xs → f x ≢ f y → h x ≢ h y → g x ≢ g y) → Distinct (map g xs)
+distinct-map f h g [] d e k = tt
+distinct-map f h g (x ∷ xs) d e k = (
+  map-all g (λ y. g x ≢ y) xs
+      (in-all (λ y. g x ≢ g y) xs
+      (λ y m.
+      k x y (inl refl) (inr m) (all-in (λ z. f x ≢ z) (map f xs) (f y) (d .0) (in-map f y xs m))
+      (all-in (λ z. h x ≢ z) (map h xs) (h y) (e .0) (in-map h y xs m)))),
+  distinct-map f h g xs (d .1) (e .1) (λ y z my mz. k y z (inr my) (inr mz)),
+)
+
 -- ---- the numbers below n
+
+-- one of them has the property, or none has
+pub find : (P : ℕ → Type 0) → ((i : ℕ) → Dec (P i)) → (n : ℕ) → ((i : ℕ) × (i < n) × P i) ⊎ ((i : ℕ) → i < n → P i → ⊥)
+find P dec zero = inr (λ i l. absurd (omega arith))
+find P dec (suc n) = go (dec n) (find P dec n)
+  where
+    go : Dec (P n) → ((i : ℕ) × (i < n) × P i) ⊎ ((i : ℕ) → i < n → P i → ⊥) → ((i : ℕ) × (i < suc n) × P i) ⊎ ((i : ℕ) → i < suc n → P i → ⊥)
+    go (yes p) r = inl (n, le-refl (suc n), p)
+    go (no p) (inl (i, l, q)) = inl (i, omega arith, q)
+    go (no p) (inr h) = inr (below-suc (λ i. P i → ⊥) n h p)
 
 pub in-tabulate : (n i : ℕ) → i < n → In i (tabulate (λ k. k) n)
 unfolding tabulate

@@ -10,6 +10,8 @@ use native.Mathlib.Omega.{arith}
 use borrow.Author.Tests.{lt-ltb, le-ltb, eq-eqb, ne-eqb}
 use lib.Dec.{eqb, ltb}
 use lib.ListN.{length, getD, set, replicate, length-replicate, getD-replicate, List·getD-eq-default}
+use Rattle.fieldset.specs.Lists.{In, All, place}
+use Rattle.fieldset.proofs.Lists.{all-map, in-tabulate, tabulate-below}
 use Rattle.fieldset.specs.Tables.{at, tabulate}
 use Rattle.fieldset.proofs.Tables.{getD-tabulate, length-tabulate}
 use Rattle.panel.specs.declared.Link.{Link}
@@ -18,10 +20,8 @@ use Rattle.panel.specs.Items.{noLink, linkAt}
 use Rattle.panel.specs.Panels.{opened, withLink, toFront, placeAfter}
 use Rattle.panel.specs.Commands.{opening, touching}
 use Rattle.panel.proofs.Turn.{AllAlike, link-here, link-there}
-use Rattle.optimality.specs.Condition3.{In, All, place, strike, Store, entry, entered}
+use Rattle.optimality.specs.Condition3.{strike, Store, entry, entered}
 use Rattle.optimality.specs.Agreement.{entryOf, Agrees}
-use Rattle.optimality.proofs.Lists.{all-map, in-tabulate}
-use Rattle.optimality.proofs.Held.{getD-all}
 
 -- ---- only standings and setters change
 
@@ -128,12 +128,6 @@ unfolding place
 place-right f [] ys a = omega arith
 place-right f (x ∷ xs) ys a = rw (ne-eqb x f (a .0)) (omega (arith, place-right f xs ys (a .1)))
 
-below-tabulate : (n : ℕ) → All (λ f. f < n) (tabulate (λ k. k) n)
-below-tabulate n = getD-all (λ f. f < n) 0 (tabulate (λ k. k) n) below
-  where
-    below : (i : ℕ) → i < length (tabulate (λ k. k) n) → getD (tabulate (λ k. k) n) i 0 < n
-    below i l = let k : i < n = rw (length-tabulate (λ k. k) n) at l in rw (getD-tabulate (λ k. k) n i 0 k) k
-
 place-tabulate : (n f : ℕ) → f < n → place (tabulate (λ k. k) n) f ≡ f
 unfolding tabulate place
 place-tabulate zero f l = absurd (omega arith)
@@ -141,7 +135,7 @@ place-tabulate (suc n) f l = go (ℕ-discrete f n) (place-tabulate n f)
   where
     go : Dec (f ≡ n) → (f < n → place (tabulate (λ k. k) n) f ≡ f) → place (tabulate (λ k. k) n ++ (n ∷ [])) f ≡ f
     go (yes d) ih =
-        place-right f (tabulate (λ k. k) n) (n ∷ []) (all-map (λ x. x < n) (λ x. x ≢ f) (λ x h e. omega arith) (tabulate (λ k. k) n) (below-tabulate n))
+        place-right f (tabulate (λ k. k) n) (n ∷ []) (all-map (λ x. x < n) (λ x. x ≢ f) (λ x h e. omega arith) (tabulate (λ k. k) n) (tabulate-below n))
         ∙ rw (eq-eqb n f (sym d), length-tabulate (λ (k : ℕ). k) n) (omega arith)
     go (no d) ih = place-left f (tabulate (λ k. k) n) (n ∷ []) (in-tabulate n f (omega arith)) ∙ ih (omega arith)
 
@@ -162,6 +156,6 @@ agrees-opened b n few empty =
     record {
       links = λ i. empty i ∙ sym (ap entryOf (default-link i));
       stays = λ f l. in-tabulate n f l;
-      below = below-tabulate n;
+      below = tabulate-below n;
       places = λ f l. place-tabulate n f l ∙ sym (getD-tabulate (λ (k : ℕ). k) 64 f 0 (omega arith));
     }

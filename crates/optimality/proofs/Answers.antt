@@ -1,16 +1,16 @@
 -- Which answers a command may have: a refusal that leaves the panel, or a reply that begins with 00.
 use Prim.Native.Nat.{ℕ, _<_}
 use mathlib.Core.Path.{_≡_, refl, ap}
-use mathlib.Core.Bool.{Bool, true, false, not}
+use mathlib.Core.Bool.{Bool, true, false}
 use mathlib.Core.List.{List, [], _∷_}
 use mathlib.Core.Option.{Option, none, some}
 use mathlib.Core.Logic.{_≢_}
 use native.Mathlib.Omega.{arith}
-use borrow.Author.Tests.{eqb-true, not-true}
+use borrow.Author.Tests.{eqb-true}
 use lib.Dec.{eqb}
 use lib.ListN.{getD, drop}
+use Rattle.fieldset.specs.Lists.{All}
 use Rattle.fieldset.proofs.Numbers.{clash}
-use Rattle.fieldset.proofs.Tests.{and-left, and-right}
 use Rattle.panel.specs.declared.Standing.{Standing}
 use Rattle.panel.specs.declared.Standing.the-variants.{Waiting, Holding}
 use Rattle.panel.specs.declared.Panel.{Panel}
@@ -23,8 +23,7 @@ use Rattle.panel.specs.Steps.{accepted, turned, openStep, addStep, settled, rem
 use Rattle.panel.specs.Commands.{Command, opening, adding, removing, touching, planning, performed, Check, checked, openChecks, addChecks, removeChecks, touchChecks, planChecks, coveredIn, outputsIn}
 use Rattle.panel.proofs.Answers.{refusals-apart}
 use Rattle.panel.proofs.Checks.{NoneApply}
-use Rattle.optimality.specs.Condition3.{All}
-use Rattle.optimality.specs.Others.{passes, WeakerNeverConflict, TouchNeverConflict, RemoveNeverConflict, RefusedUnchanged}
+use Rattle.optimality.specs.Refusals.{WeakerNeverConflict, TouchNeverConflict, RemoveNeverConflict, RefusedUnchanged}
 
 -- ---- checks
 
@@ -38,11 +37,6 @@ checked-answer P p (c ∷ cs) step a h = go (c .applies) refl (λ e. checked-ans
     go : (b : Bool) → c .applies ≡ b → (c .applies ≡ false → P (checked p cs step)) → P (checked p (c ∷ cs) step)
     go true e ih = rw e (a .0)
     go false e ih = rw e (ih e)
-
-pub passes-none : (cs : List Check) → passes cs ≡ true → NoneApply cs
-unfolding passes
-passes-none [] e = tt
-passes-none (c ∷ cs) e = (not-true (c .applies) (and-left (not (c .applies)) (passes cs) e), passes-none cs (and-right (not (c .applies)) (passes cs) e))
 
 -- where no check applies the step is carried out
 pub checked-step : (p : Panel) (cs : List Check) (step : Answer) → NoneApply cs → checked p cs step ≡ step

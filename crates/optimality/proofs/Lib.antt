@@ -1,6 +1,4 @@
 -- The laws of this crate: the argument over a constraint graph; a panel as a graph; each command; the theorems.
-pub mod Tests
-pub mod Lists
 pub mod Setters
 pub mod Matchings
 pub mod Counting

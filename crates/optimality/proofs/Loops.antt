@@ -27,12 +27,12 @@ use Rattle.panel.proofs.Setters.{setter-reads-inside}
 use Rattle.panel.proofs.Reversal.{blocking, route-for, turned-carrying, legal-waits}
 use Rattle.panel.proofs.Changes.{legal-add, legal-free, legal-front}
 use Rattle.panel.proofs.Checks.{NoneApply, newLink, addable, removable, touchable}
-use Rattle.optimality.specs.Condition3.{State, start, after}
-use Rattle.optimality.specs.Others.{AfterEveryList, checksOf, Reversal, turning, settling, dropping, reversal, turnedPanel, Loops, LoopExactly}
+use Rattle.optimality.specs.Condition3.{AfterEveryList, panels, start}
+use Rattle.optimality.specs.Refusals.{checksOf, Reversal, turning, settling, dropping, reversal, turnedPanel, Loops, LoopExactly}
 use Rattle.optimality.proofs.Graphs.{settersOf}
 use Rattle.optimality.proofs.Least.{Least, least-blocked}
-use Rattle.optimality.proofs.Answers.{pick, Outcome, no, yes, Not, not-given, passes-none, checked-step}
-use Rattle.optimality.proofs.Runs.{after-sound, start-sound}
+use Rattle.optimality.proofs.Answers.{pick, Outcome, no, yes, Not, not-given, checked-step}
+use Rattle.optimality.proofs.Runs.{after-sound}
 
 -- the answer is Loop exactly where the reversal has a loop
 abbrev Exactly : Panel → Answer → Option Reversal → Type 0
@@ -128,8 +128,5 @@ module _ (p : Panel) (h : Legal p) where
   command-exactly (touching f) n = rw (checked-step p (checksOf p (touching f)) (touchStep p f) n) (touch-exactly f (touchable p f n))
   command-exactly planning n = rw (checked-step p (checksOf p planning) (planStep p) n) (still p (planStep p) (yes _ _))
 
-pub legal-loop-exactly : (s : State) → Legal (s .panel) → LoopExactly s
-legal-loop-exactly s l c h = command-exactly (s .panel) l c (passes-none (checksOf (s .panel) c) h)
-
-pub loop-exactly : AfterEveryList LoopExactly
-loop-exactly commands = legal-loop-exactly (after start commands) (after-sound commands start start-sound .legal)
+pub loop-exactly : AfterEveryList panels start (λ r. LoopExactly (r .state))
+loop-exactly commands = command-exactly _ (after-sound commands .legal)

@@ -8,6 +8,8 @@ use native.Mathlib.Nat.{le-of-eq}
 use native.Mathlib.Omega.{arith}
 use borrow.Author.Tests.{eqb-true}
 use lib.ListN.{set}
+use Rattle.fieldset.specs.Lists.{All}
+use Rattle.fieldset.proofs.Lists.{all-in}
 use Rattle.fieldset.specs.Fields.{member, only}
 use Rattle.fieldset.proofs.Numbers.{clash}
 use Rattle.fieldset.proofs.Fields.{member-only, member-empty}
@@ -26,9 +28,8 @@ use Rattle.panel.proofs.Legal.{LegalBut}
 use Rattle.panel.proofs.Setters.{waits-idle}
 use Rattle.panel.proofs.Reversal.{blocking, startOf, legal-waits}
 use Rattle.panel.proofs.Changes.{legal-drop, legal-free}
-use Rattle.optimality.specs.Condition3.{All, Store, entered}
+use Rattle.optimality.specs.Condition3.{Store, entered}
 use Rattle.optimality.specs.Agreement.{Agrees, Sound}
-use Rattle.optimality.proofs.Lists.{all-in}
 use Rattle.optimality.proofs.Setters.{Graph, Waits, Free, Unblocked}
 use Rattle.optimality.proofs.Changes.{changed-potential, changed-free}
 use Rattle.optimality.proofs.Removal.{struck-potential, removal-unblocked}
@@ -36,9 +37,9 @@ use Rattle.optimality.proofs.Graphs.{graphOf, settersOf, legal-whole, s
 use Rattle.optimality.proofs.Turned.{path-start, path-reversible}
 use Rattle.optimality.proofs.Agreement.{agrees-link}
 use Rattle.optimality.proofs.Least.{Least, least-blocked, item-listed}
-use Rattle.optimality.proofs.Steps.{state, SoundAfter, turned-sound, there, link-none}
+use Rattle.optimality.proofs.Steps.{SoundAfter, turned-sound, there, link-none}
 
-module _ (b : Store) (p : Panel) (x : Sound (state p b)) (id : ℕ) (lt : id < 128) (used : linkAt (p .links) id .used ≡ true) where
+module _ (b : Store) (p : Panel) (x : Sound b p) (id : ℕ) (lt : id < 128) (used : linkAt (p .links) id .used ≡ true) where
   gone : linkAt (set (p .links) id noLink) id ≡ noLink
   gone = link-here (p .links) id noLink (omega (arith, x .legal .links-length))
 
@@ -46,7 +47,7 @@ module _ (b : Store) (p : Panel) (x : Sound (state p b)) (id : ℕ) (lt : id < 1
   drop-agrees = agrees-link b p id noLink (omega (arith, x .legal .links-length)) (x .agrees)
 
   -- the link waits
-  drop-sound : linkAt (p .links) id .standing ≡ Waiting → Sound (state (withLink p id noLink) (entered b (removing id)))
+  drop-sound : linkAt (p .links) id .standing ≡ Waiting → Sound (entered b (removing id)) (withLink p id noLink)
   drop-sound e =
       record {
         legal = k;

@@ -5,9 +5,9 @@ use mathlib.Core.Bool.{true}
 use mathlib.Core.List.{List, [], _∷_}
 use mathlib.Core.Logic.{_≢_, _⊎_, inl, inr}
 use native.Mathlib.Decide.{ℕ-discrete}
+use Rattle.fieldset.specs.Lists.{All, Distinct}
 use Rattle.panel.specs.Items.{Item}
 use Rattle.panel.proofs.Turn.{same-item, put, put-here, put-there, turn}
-use Rattle.optimality.specs.Condition3.{All, Distinct}
 use Rattle.optimality.proofs.Setters.{Graph, Waits, Assigned, Under, Potential, Free, Unblocked, last, Chain, Reversible}
 
 -- ---- one field set anew

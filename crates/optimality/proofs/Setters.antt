@@ -5,8 +5,8 @@ use mathlib.Core.Bool.{Bool, true}
 use mathlib.Core.List.{List, [], _∷_}
 use mathlib.Core.Logic.{_≢_}
 use native.Mathlib.Nat.{le-trans}
+use Rattle.fieldset.specs.Lists.{Distinct}
 use Rattle.panel.specs.Items.{Item}
-use Rattle.optimality.specs.Condition3.{Distinct}
 
 -- n fields; of an item its level, which fields it may set, and whether it is in force
 pub record Graph : Type 0 where

@@ -1,7 +1,7 @@
 -- A sound state stays sound through Add and Touch: their changes, and a reversal after one.
 use Prim.Native.Nat.{ℕ, _+_, _≤_, _<_}
 use mathlib.Core.Path.{_≡_, refl, sym, ap, _∙_}
-use mathlib.Core.Bool.{Bool, true, false}
+use mathlib.Core.Bool.{Bool, true, false, cond}
 use mathlib.Core.List.{List}
 use mathlib.Core.Logic.{_≢_}
 use native.Mathlib.Nat.{le-of-eq}
@@ -29,7 +29,7 @@ use Rattle.panel.proofs.Setters.{setter-force}
 use Rattle.panel.proofs.Reversal.{blocking, legal-waits, legal-reversed}
 use Rattle.panel.proofs.Changes.{legal-add, legal-but, legal-front}
 use Rattle.panel.proofs.Checks.{newLink, Addable}
-use Rattle.optimality.specs.Condition3.{Store, entered, fed, State}
+use Rattle.optimality.specs.Condition3.{Store, entered}
 use Rattle.optimality.specs.Agreement.{Agrees, Sound}
 use Rattle.optimality.proofs.Setters.{Waits, Free, Unblocked}
 use Rattle.optimality.proofs.Answers.{pick}
@@ -39,17 +39,14 @@ use Rattle.optimality.proofs.Graphs.{graphOf, settersOf, legal-whole, s
 use Rattle.optimality.proofs.Turned.{path-reversible, after-none}
 use Rattle.optimality.proofs.Agreement.{agrees-alike, agrees-link, agrees-front}
 
-abbrev pub state : Panel → Store → State
-state p b = record { panel = p; store = b }
-
--- the state after an answer to a command is sound
+-- panel and store are sound after an answer to a command
 abbrev pub SoundAfter : Store → Command → Answer → Type 0
-SoundAfter b c a = Sound (state (a .panel) (fed b c (isRefusal (a .reply))))
+SoundAfter b c a = Sound (cond (isRefusal (a .reply)) b (entered b c)) (a .panel)
 
 -- ---- a reversal
 
 -- the panel p becomes q, where c is blocked and goes in
-pub turned-sound : (b : Store) (cmd : Command) (p q : Panel) (c : Item) → Sound (state p b) → LegalBut c q → isBlocked q c ≡ true
+pub turned-sound : (b : Store) (cmd : Command) (p q : Panel) (c : Item) → Sound b p → LegalBut c q → isBlocked q c ≡ true
     → Agrees (entered b cmd) q
     → (s : ℕ → ℕ) → Unblocked (graphOf q) (turn (settersOf q) c (pathFor q c)) s → SoundAfter b cmd (turned p q c)
 unfolding turned
@@ -128,7 +125,7 @@ module _ (p : Panel) (h : Legal p) (none : (d : Item) → isBlocked p d ≡ fals
 
 -- ---- Add
 
-module _ (b : Store) (p : Panel) (x : Sound (state p b)) (id level : ℕ) (bytes : List ℕ) (a : Addable p id level bytes) where
+module _ (b : Store) (p : Panel) (x : Sound b p) (id level : ℕ) (bytes : List ℕ) (a : Addable p id level bytes) where
   abbrev added : Panel
   added = withLink p id (newLink level bytes)
 
@@ -166,7 +163,7 @@ module _ (b : Store) (p : Panel) (x : Sound (state p b)) (id level : ℕ) (bytes
 
 -- ---- Touch
 
-module _ (b : Store) (p : Panel) (x : Sound (state p b)) (f : ℕ) (lf : f < p .size) where
+module _ (b : Store) (p : Panel) (x : Sound b p) (f : ℕ) (lf : f < p .size) where
   abbrev front : Panel
   front = toFront p f
 

@@ -5,6 +5,7 @@ use mathlib.Core.Bool.{Bool, true, false}
 use mathlib.Core.List.{List, _∷_}
 use native.Mathlib.Nat.{le-of-lt}
 use native.Mathlib.Omega.{arith}
+use Rattle.fieldset.specs.Lists.{All}
 use Rattle.fieldset.specs.Fields.{member}
 use Rattle.strength.proofs.Paths.{Chain as FieldChain, last, next, Reversible as FieldPath}
 use Rattle.panel.specs.declared.Panel.{Panel}
@@ -15,7 +16,6 @@ use Rattle.panel.proofs.Turn.{turn, reversed-size, reversed-place, reversed-lev
 use Rattle.panel.proofs.Legal.{LegalBut}
 use Rattle.panel.proofs.Setters.{others-out}
 use Rattle.panel.proofs.Reversal.{blocking, startOf, Start, start-of, path-for, Route, route-for, turned-setters}
-use Rattle.optimality.specs.Condition3.{All}
 use Rattle.optimality.proofs.Setters.{Graph, Unblocked, Chain, Reversible}
 use Rattle.optimality.proofs.Graphs.{graphOf, settersOf, legal-whole, strength-potential, unblocked-none}
 
