@@ -9,7 +9,7 @@ use native.Mathlib.Decide.{ℕ-discrete, decLt}
 use native.Mathlib.Omega.{arith}
 use borrow.Author.Tests.{lt-ltb, le-ltb, eq-eqb, ne-eqb}
 use lib.Dec.{eqb, ltb}
-use lib.ListN.{length, getD, set, replicate, length-replicate, getD-replicate, List·getD-eq-default}
+use lib.ListN.{length, set, replicate, length-replicate, getD-replicate, List·getD-eq-default}
 use Rattle.fieldset.specs.Lists.{In, All, place}
 use Rattle.fieldset.proofs.Lists.{all-map, in-tabulate, tabulate-below}
 use Rattle.fieldset.specs.Tables.{at, tabulate}

@@ -9,12 +9,12 @@ use native.Mathlib.Omega.{arith}
 use borrow.Author.Tests.{leb-true, le-leb}
 use lib.Dec.{leb}
 use lib.ListN.{length, length-map}
-use Rattle.fieldset.specs.Lists.{In, All, passing}
+use Rattle.fieldset.specs.Lists.{In, passing}
 use Rattle.fieldset.proofs.Lists.{all-in, in-all, map-all, in-passing, passing-in, passing-map, passing-distinct, distinct-map, pigeonhole, find}
 use Rattle.panel.specs.Items.{Item}
 use Rattle.panel.proofs.Turn.{same-item}
-use Rattle.optimality.specs.Condition3.{Pair, items, fields, countUpTo}
-use Rattle.optimality.proofs.Setters.{Graph, Waits, Unblocked}
+use Rattle.optimality.specs.Condition3.{Pair, countUpTo}
+use Rattle.optimality.proofs.Setters.{Graph, Unblocked}
 use Rattle.optimality.proofs.Matchings.{Fits, Matches}
 
 module _ (G : Graph) (st : ℕ → Item) (s : ℕ → ℕ) (un : Unblocked G st s) (L : ℕ) where

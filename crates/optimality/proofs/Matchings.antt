@@ -1,6 +1,6 @@
 -- Matchings as lists of pairs: what they hold up to a level, and the matching that setters make.
 use Prim.Native.Nat.{ℕ, _≤_, _<_}
-use mathlib.Core.Path.{_≡_, refl, sym, ap, _∙_, subst}
+use mathlib.Core.Path.{_≡_, refl, ap, _∙_}
 use mathlib.Core.Bool.{Bool, true}
 use mathlib.Core.List.{List, _∷_, map, map-id, map-map}
 use mathlib.Core.Logic.{_≢_}
@@ -8,7 +8,7 @@ use borrow.Author.Tests.{leb-true, le-leb}
 use lib.Dec.{leb}
 use lib.ListN.{length, length-map}
 use Rattle.fieldset.specs.Lists.{In, All, Distinct, passing}
-use Rattle.fieldset.proofs.Lists.{all-in, in-all, all-map, in-map, map-in, map-all, in-passing, passing-in, passing-cong, passing-map, passing-distinct, pigeonhole}
+use Rattle.fieldset.proofs.Lists.{all-in, in-all, all-map, map-in, map-all, in-passing, passing-in, passing-cong, passing-map, passing-distinct, pigeonhole}
 use Rattle.panel.specs.Items.{Item}
 use Rattle.optimality.specs.Condition3.{Pair, items, fields, countUpTo}
 use Rattle.optimality.proofs.Setters.{Graph}
