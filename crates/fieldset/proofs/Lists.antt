@@ -230,3 +230,9 @@ place-in f (x ∷ xs) (inr m) = go (ℕ-discrete x f) (place-in f xs m)
     go : Dec (x ≡ f) → place xs f < length xs → place (x ∷ xs) f < length (x ∷ xs)
     go (yes e) l = rw (place-here f x xs e) (omega arith)
     go (no e) l = rw (place-later f x xs e) (omega arith)
+
+-- the place of an entry that does not stand before it
+pub place-at : (f : ℕ) (xs : List ℕ) (i : ℕ) → i < length xs → ((j : ℕ) → j < i → getD xs j 0 ≢ f) → getD xs i 0 ≡ f → place xs f ≡ i
+place-at f [] i l h e = absurd (omega arith)
+place-at f (x ∷ xs) zero l h e = place-here f x xs e
+place-at f (x ∷ xs) (suc i) l h e = place-later f x xs (h 0 (omega arith)) ∙ ap suc (place-at f xs i (omega arith) (λ j k. h (suc j) (omega arith)) e)

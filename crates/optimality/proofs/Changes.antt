@@ -1,10 +1,10 @@
 -- The graph changes around one item: a link is added, or a stay comes to the front. Nothing else becomes blocked.
 use Prim.Native.Nat.{ℕ, suc, _+_, _≤_, _<_}
 use mathlib.Core.Path.{_≡_, sym, _∙_}
-use mathlib.Core.Bool.{Bool, true, cond}
-use mathlib.Core.Logic.{_≢_, _⊎_, inl, inr}
-use native.Mathlib.Nat.{le-trans}
-use native.Mathlib.Decide.{decLt}
+use mathlib.Core.Bool.{Bool, true, false, cond}
+use mathlib.Core.Logic.{_≢_}
+use native.Mathlib.Nat.{le-refl, le-trans}
+use native.Mathlib.Decide.{ℕ-discrete, decLt}
 use native.Mathlib.Omega.{arith}
 use borrow.Author.Tests.{lt-ltb, le-ltb}
 use lib.Dec.{ltb}
@@ -42,38 +42,23 @@ module _ (G : Graph) (st : ℕ → Item) (s : ℕ → ℕ) (un : Unblocked G st 
 abbrev pub pushed : ℕ → ℕ → ℕ
 pushed q L = cond (ltb L 16) L (cond (ltb L (16 + q)) (suc L) L)
 
-abbrev Is : ℕ → ℕ → ℕ → Type 0
-Is q L x = ((L < 16) × (x ≡ L)) ⊎ ((16 ≤ L) × (L < 16 + q) × (x ≡ suc L)) ⊎ ((16 ≤ L) × (16 + q ≤ L) × (x ≡ L))
-
-pushed-is : (q L : ℕ) → Is q L (pushed q L)
-pushed-is q L = go (decLt L 16) (decLt L (16 + q))
+pushed-near : (q L : ℕ) → (L ≤ pushed q L) × (pushed q L ≤ suc L)
+pushed-near q L = go (ltb L 16) (ltb L (16 + q))
   where
-    go : Dec (L < 16) → Dec (L < 16 + q) → Is q L (pushed q L)
-    go (yes h) k = inl (h, rw (lt-ltb L 16 h))
-    go (no h) (yes k) = inr (inl (omega arith, k, rw (le-ltb L 16 (omega arith), lt-ltb L (16 + q) k)))
-    go (no h) (no k) = inr (inr (omega arith, omega arith, rw (le-ltb L 16 (omega arith), le-ltb L (16 + q) (omega arith))))
-
-pub pushed-mono : (q a b : ℕ) → a ≤ b → pushed q a ≤ pushed q b
-pushed-mono q a b h = go (pushed q a) (pushed q b) (pushed-is q a) (pushed-is q b)
-  where
-    go : (x y : ℕ) → Is q a x → Is q b y → x ≤ y
-    go x y (inl i) (inl k) = omega arith
-    go x y (inl i) (inr (inl k)) = omega arith
-    go x y (inl i) (inr (inr k)) = omega arith
-    go x y (inr (inl i)) (inl k) = omega arith
-    go x y (inr (inl i)) (inr (inl k)) = omega arith
-    go x y (inr (inl i)) (inr (inr k)) = omega arith
-    go x y (inr (inr i)) (inl k) = omega arith
-    go x y (inr (inr i)) (inr (inl k)) = omega arith
-    go x y (inr (inr i)) (inr (inr k)) = omega arith
+    go : (a b : Bool) → (L ≤ cond a L (cond b (suc L) L)) × (cond a L (cond b (suc L) L) ≤ suc L)
+    go true b = (omega arith, omega arith)
+    go false true = (omega arith, omega arith)
+    go false false = (omega arith, omega arith)
 
 pub pushed-ge : (q L : ℕ) → L ≤ pushed q L
-pushed-ge q L = go (pushed q L) (pushed-is q L)
+pushed-ge q L = pushed-near q L .0
+
+pub pushed-mono : (q a b : ℕ) → a ≤ b → pushed q a ≤ pushed q b
+pushed-mono q a b h = go (ℕ-discrete a b)
   where
-    go : (x : ℕ) → Is q L x → L ≤ x
-    go x (inl i) = omega arith
-    go x (inr (inl i)) = omega arith
-    go x (inr (inr i)) = omega arith
+    go : Dec (a ≡ b) → pushed q a ≤ pushed q b
+    go (yes e) = rw e (le-refl (pushed q b))
+    go (no e) = le-trans (pushed-near q a .1) (le-trans (omega arith) (pushed-near q b .0))
 
 -- a link keeps its level
 pub pushed-link : (q L : ℕ) → L < 16 → pushed q L ≡ L

@@ -32,7 +32,7 @@ use Rattle.optimality.proofs.Turned.{path-reversible}
 use Rattle.optimality.proofs.Answers.{pick, checked-step, turned-no-conflict}
 use Rattle.optimality.proofs.Steps.{add-idle, add-legal, add-agrees, add-none}
 use Rattle.optimality.proofs.Runs.{after-sound}
-use Rattle.optimality.proofs.States.{entry-used}
+use Rattle.optimality.proofs.States.{required-used}
 
 -- ---- required links of the store and of the panel
 
@@ -44,7 +44,7 @@ module _ {b : Store} {p : Panel} (a : Agrees b p) (xs : List Pair) where
   required-all h (stay f) u z = absurd (omega arith)
 
   all-required : HoldsAll (graphOf p) xs → HoldsRequired b xs
-  all-required h i e q z = let (u, l) = entry-used (linkAt (p .links) i) e (sym (a .links i) ∙ q) in h (link i) u (l ∙ z)
+  all-required h i e q z = let (u, l) = required-used a i e q z in h (link i) u l
 
 -- ---- a new link of level 0
 

@@ -28,24 +28,7 @@ use Rattle.optimality.proofs.Matchings.{Fits, Matches, count-cong, pair
 use Rattle.optimality.proofs.Required.{pairs-match, pairs-most}
 use Rattle.optimality.proofs.Graphs.{graphOf, settersOf, legal-whole, assigned, none-unblocked}
 use Rattle.optimality.proofs.Held.{plan-whole, held-pairs}
-
--- ---- links in the store
-
-output-used : (l : Link) (f : ℕ) → IsOutput (entryOf l) f → (l .used ≡ true) × (member (l .outputs) f ≡ true)
-output-used l f m = go (l .used) refl m
-  where
-    go : (b : Bool) → l .used ≡ b → IsOutput (cond b (some (record { level = l .level; covered = l .covered; outputs = l .outputs })) none) f
-        → (l .used ≡ true) × (member (l .outputs) f ≡ true)
-    go true e m = (e, m)
-    go false e m = absurd m
-
-covered-used : (l : Link) (f : ℕ) → IsCovered (entryOf l) f → (l .used ≡ true) × (member (l .covered) f ≡ true)
-covered-used l f m = go (l .used) refl m
-  where
-    go : (b : Bool) → l .used ≡ b → IsCovered (cond b (some (record { level = l .level; covered = l .covered; outputs = l .outputs })) none) f
-        → (l .used ≡ true) × (member (l .covered) f ≡ true)
-    go true e m = (e, m)
-    go false e m = absurd m
+use Rattle.optimality.proofs.Agreement.{entry-used}
 
 -- ---- matchings over the store
 
@@ -55,7 +38,7 @@ module _ {b : Store} {p : Panel} {o : Item} (h : Carrying o p) (a : Agrees b p) 
 
   may-fits : (c : Item) (f : ℕ) → MaySet b c f → Fits (graphOf p) (record { item = c; field = f })
   may-fits (link i) f m =
-      let (u, k) = output-used (linkAt (p .links) i) f (rw (a .links i) at m) in
+      let (u, k) = entry-used (λ e. IsOutput e f) (λ n. n) (linkAt (p .links) i) (rw (a .links i) at m) in
       let l : f < 64 = member-lt (linkAt (p .links) i .outputs) (formed i u .outputs-small) f k in
       record { force = u; below = outputs-inside (p .size) (p .links) (h .filled) (link i) f u l k; may = k }
   may-fits (stay g) f m =
@@ -100,7 +83,7 @@ module _ {b : Store} {p : Panel} {o : Item} (h : Carrying o p) (a : Agrees b p) 
 
   read-field : (f g : ℕ) (c : Item) → g < p .size → settersOf p g ≡ c → Reads b c g f → FieldRead (setterReads p) (p .size) f g
   read-field f g (link i) l e r =
-      let (u, k) = covered-used (linkAt (p .links) i) f (rw (a .links i) at (r .0)) in
+      let (u, k) = entry-used (λ e. IsCovered e f) (λ n. n) (linkAt (p .links) i) (rw (a .links i) at (r .0)) in
       let lf : f < 64 = member-lt (linkAt (p .links) i .covered) (formed i u .small) f k in
       let m : member (setterReads p g) f ≡ true = rw e (member-without-other (linkAt (p .links) i .covered) g f lf (r .1) ∙ k) in
       record { from = setter-reads-inside p o h .inside g f l lf m; to = l; reads-it = m }

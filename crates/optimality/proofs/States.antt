@@ -15,22 +15,21 @@ use Rattle.panel.specs.Solution.{planOf}
 use Rattle.panel.specs.Commands.{planning, performed}
 use Rattle.panel.proofs.Turn.{link-not-stay}
 use Rattle.optimality.specs.Condition3.{Entry, Store, levelOf, levelIn, items, countUpTo, held, Optimal, AfterEveryList, panels, start}
-use Rattle.optimality.specs.Agreement.{entryOf, Sound}
+use Rattle.optimality.specs.Agreement.{Agrees, Sound}
 use Rattle.optimality.specs.States.{HoldsRequired, Settled, NothingBlocked, NothingBetter}
 use Rattle.optimality.proofs.Matchings.{holds-more, pairOf, pair-setter}
 use Rattle.optimality.proofs.Required.{pairs-hold}
 use Rattle.optimality.proofs.Graphs.{graphOf, settersOf, legal-whole, required-holds}
 use Rattle.optimality.proofs.Held.{plan-whole, held-pairs}
+use Rattle.optimality.proofs.Agreement.{entry-used}
 use Rattle.optimality.proofs.Runs.{after-sound, condition-3}
 
 -- an entry of the store is a link in use
-pub entry-used : (l : Link) (e : Entry) → entryOf l ≡ some e → (l .used ≡ true) × (l .level ≡ e .level)
-entry-used l e q = go (l .used) refl q
-  where
-    go : (u : Bool) → l .used ≡ u → cond u (some (record { level = l .level; covered = l .covered; outputs = l .outputs })) none ≡ some e
-        → (l .used ≡ true) × (l .level ≡ e .level)
-    go true h q = (h, ap levelOf q)
-    go false h q = let z : _≡_ {A = ℕ} 0 1 = cc in absurd (omega arith)
+pub required-used : {b : Store} {p : Panel} → Agrees b p → (i : ℕ) (e : Entry) → b .links i ≡ some e → e .level ≡ 0
+    → (linkAt (p .links) i .used ≡ true) × (linkAt (p .links) i .level ≡ 0)
+required-used {b} {p} a i e q z =
+    let (u, d) = entry-used (λ o. o ≡ some e) (λ n. let z : _≡_ {A = ℕ} 0 1 = cc in omega arith) (linkAt (p .links) i) (sym (a .links i) ∙ q) in
+    (u, ap levelOf d ∙ z)
 
 pub sound-settled : {b : Store} {p : Panel} → Sound b p → Settled b (performed p planning .reply)
 sound-settled {b} {p} x =
@@ -49,9 +48,9 @@ sound-settled {b} {p} x =
 
     required : HoldsRequired b (held (performed p planning .reply))
     required i e q z =
-        let (u, l) = entry-used (linkAt (p .links) i) e (sym (x .agrees .links i) ∙ q) in
+        let (u, l) = required-used (x .agrees) i e q z in
         rw (held-pairs p (x .legal))
-        (pairs-hold (graphOf p) (settersOf p) (planOf p) whole (link i) u (λ w. required-holds (legal-whole p (x .legal)) (link i) w link-not-stay (l ∙ z)))
+        (pairs-hold (graphOf p) (settersOf p) (planOf p) whole (link i) u (λ w. required-holds (legal-whole p (x .legal)) (link i) w link-not-stay l))
 
 -- ---- Better
 
