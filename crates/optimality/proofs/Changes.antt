@@ -15,26 +15,29 @@ use Rattle.optimality.proofs.Setters.{Graph, Waits, Potential, Free, Un
 pub free-le : (G : Graph) (s t : ℕ → ℕ) (c : Item) → ((f : ℕ) → f < G .n → t f ≤ s f) → Free G s c → Free G t c
 free-le G s t c le fr u lu ou = le-trans (le u lu) (fr u lu ou)
 
--- levels, outputs and what is in force change; but for c, levels change by ρ, which keeps their order, and c sets nothing or its level falls
-module _ (G : Graph) (st : ℕ → Item) (s : ℕ → ℕ) (un : Unblocked G st s) (lev′ : Item → ℕ) (out′ : Item → ℕ → Bool) (F : Item → Bool) (c : Item) (ρ : ℕ → ℕ)
-    (mono : (a b : ℕ) → a ≤ b → ρ a ≤ ρ b)
-    (lev-st : (f : ℕ) → f < G .n → lev′ (st f) ≤ ρ (G .lev (st f)))
-    (out-st : (f u : ℕ) → f < G .n → out′ (st f) u ≡ true → G .out (st f) u ≡ true)
-    (others : (w : Item) → F w ≡ true → w ≢ c → (G .force w ≡ true) × (lev′ w ≡ ρ (G .lev w)) × ((u : ℕ) → out′ w u ≡ G .out w u)) where
-  abbrev pub changed : Graph
-  changed = record { n = G .n; lev = lev′; out = out′; force = F }
+-- H is G with other levels, outputs and items in force: but for c, levels change by ρ, which keeps their order, and c sets nothing or its level
+-- falls
+pub record Change (G H : Graph) (st : ℕ → Item) (c : Item) (ρ : ℕ → ℕ) : Type 0 where
+  pub size : H .n ≡ G .n
+  pub mono : (a b : ℕ) → a ≤ b → ρ a ≤ ρ b
+  pub level : (f : ℕ) → f < G .n → H .lev (st f) ≤ ρ (G .lev (st f))
+  pub outs : (f u : ℕ) → f < G .n → H .out (st f) u ≡ true → G .out (st f) u ≡ true
+  pub others : (w : Item) → H .force w ≡ true → w ≢ c
+      → (G .force w ≡ true) × (H .lev w ≡ ρ (G .lev w)) × ((u : ℕ) → H .out w u ≡ true → G .out w u ≡ true)
 
-  pub changed-potential : Potential changed st (λ f. ρ (s f))
+module _ {G H : Graph} {st : ℕ → Item} {s ρ : ℕ → ℕ} {c : Item} (un : Unblocked G st s) (ch : Change G H st c ρ) where
+  pub changed-potential : Potential H st (λ f. ρ (s f))
   changed-potential f l =
+      let k : f < G .n = rw (ch .size) at l in
       record {
-        level = le-trans (lev-st f l) (mono _ _ (un .potential f l .level));
-        outs = λ u lu ou. mono _ _ (un .potential f l .outs u lu (out-st f u l ou));
+        level = le-trans (ch .level f k) (ch .mono _ _ (un .potential f k .level));
+        outs = λ u lu ou. ch .mono _ _ (un .potential f k .outs u (rw (ch .size) at lu) (ch .outs f u k ou));
       }
 
-  pub changed-free : (w : Item) → Waits changed st w → w ≢ c → Free changed (λ f. ρ (s f)) w
+  pub changed-free : (w : Item) → Waits H st w → w ≢ c → Free H (λ f. ρ (s f)) w
   changed-free w h ne u lu ou =
-      let (a, b, o) = others w (h .force) ne in
-      rw b (mono _ _ (un .free w (record { force = a; idle = h .idle }) u lu (sym (o u) ∙ ou)))
+      let (a, b, o) = ch .others w (h .force) ne in
+      rw b (ch .mono _ _ (un .free w (record { force = a; idle = λ f l. h .idle f (rw (ch .size) l) }) u (rw (ch .size) at lu) (o u ou)))
 
 -- ---- a stay comes to the front
 

@@ -1,9 +1,8 @@
 -- A sound state is optimal: matchings over the store are matchings of the panel's graph, and what the panel holds is the greatest.
 use Prim.Native.Nat.{ℕ, _+_, _≤_, _<_}
 use mathlib.Core.Path.{_≡_, refl, sym, ap, _∙_}
-use mathlib.Core.Bool.{Bool, true, false, cond}
+use mathlib.Core.Bool.{true, false}
 use mathlib.Core.List.{List}
-use mathlib.Core.Option.{none, some}
 use native.Mathlib.Omega.{arith}
 use borrow.Author.Tests.{lt-ltb, ltb-true, eq-eqb, eqb-true}
 use Rattle.fieldset.proofs.Lists.{all-in, all-map, Whole}
@@ -13,7 +12,6 @@ use Rattle.fieldset.proofs.Numbers.{clash}
 use Rattle.fieldset.proofs.Fields.{member-lt, member-only, member-without-other}
 use Rattle.ordering.specs.Walks.{Read as FieldRead, Walk as FieldWalk, one as fieldOne, more as fieldMore}
 use Rattle.ordering.proofs.Loops.{walk-loop}
-use Rattle.panel.specs.declared.Link.{Link}
 use Rattle.panel.specs.declared.Panel.{Panel}
 use Rattle.panel.specs.Items.{Item, link, stay, linkAt, inForce}
 use Rattle.panel.specs.Solution.{level, setterReads, planOf, isLooped, strengthOf}
@@ -22,7 +20,7 @@ use Rattle.panel.specs.Legal.{Formed}
 use Rattle.panel.proofs.Legal.{Carrying, LegalBut, used-small}
 use Rattle.panel.proofs.Setters.{outputs-inside, setter-reads-inside}
 use Rattle.optimality.specs.Condition3.{Store, levelIn, Pair, IsOutput, MaySet, Matching, countUpTo, held, IsCovered, Reads, Read, Walk, one, more, Loop, Optimal}
-use Rattle.optimality.specs.Agreement.{entryOf, Agrees, Sound}
+use Rattle.optimality.specs.Agreement.{Agrees, Sound}
 use Rattle.optimality.proofs.Setters.{Graph}
 use Rattle.optimality.proofs.Matchings.{Fits, Matches, count-cong, pairs, pair-setter}
 use Rattle.optimality.proofs.Required.{pairs-match, pairs-most}
