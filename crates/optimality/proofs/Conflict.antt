@@ -28,7 +28,7 @@ use Rattle.optimality.proofs.Required.{HoldsAll, required-impossible, r
 use Rattle.optimality.proofs.Graphs.{graphOf, settersOf, assigned, none-unblocked, required-holds}
 use Rattle.optimality.proofs.Held.{plan-whole}
 use Rattle.optimality.proofs.Optimum.{matching-matches, matches-matching}
-use Rattle.optimality.proofs.Turned.{path-reversible}
+use Rattle.optimality.proofs.Paths.{path-reversible}
 use Rattle.optimality.proofs.Answers.{pick, checked-step, turned-no-conflict}
 use Rattle.optimality.proofs.Steps.{add-idle, add-legal, add-agrees, add-none}
 use Rattle.optimality.proofs.Runs.{after-sound}

@@ -9,7 +9,7 @@ pub mod Required
 pub mod Graphs
 pub mod Held
 pub mod Optimum
-pub mod Turned
+pub mod Paths
 pub mod Agreement
 pub mod Least
 pub mod Answers

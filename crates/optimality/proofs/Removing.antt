@@ -34,7 +34,7 @@ use Rattle.optimality.proofs.Setters.{Graph, Waits, Free, Unblocked}
 use Rattle.optimality.proofs.Changes.{Change, changed-potential, changed-free}
 use Rattle.optimality.proofs.Removal.{struck-potential, removal-unblocked}
 use Rattle.optimality.proofs.Graphs.{graphOf, settersOf, legal-whole, strength-least, none-unblocked, free-unblocked, unblocked-free, blocked-waits}
-use Rattle.optimality.proofs.Turned.{path-start, path-reversible}
+use Rattle.optimality.proofs.Paths.{path-start, path-reversible}
 use Rattle.optimality.proofs.Agreement.{agrees-link}
 use Rattle.optimality.proofs.Least.{Least, least-blocked, item-listed}
 use Rattle.optimality.proofs.Steps.{SoundAfter, turned-sound, there, link-none}

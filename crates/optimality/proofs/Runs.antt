@@ -80,7 +80,7 @@ performed-sound b p planning x = checked-answer (SoundAfter b planning) p (planC
 -- ---- lists of commands
 
 -- what every command keeps holds after every list of them
-kept-after : (S : System) (P : Run S → Type 0) → ((r : Run S) (c : S .Command) → P r → P (stepped S r c)) → (r : Run S) → P r
+pub kept-after : (S : System) (P : Run S → Type 0) → ((r : Run S) (c : S .Command) → P r → P (stepped S r c)) → (r : Run S) → P r
     → AfterEveryList S r P
 unfolding after
 kept-after S P kept r h [] = h
@@ -89,23 +89,21 @@ kept-after S P kept r h (c ∷ cs) = kept-after S P kept (stepped S r c) (kept r
 pub every-system : EverySystem
 every-system S Good kept optimal r h commands = optimal (after S r commands) (kept-after S Good kept r h commands)
 
-SoundRun : Run panels → Type 0
+abbrev SoundRun : Run panels → Type 0
 SoundRun r = Sound (r .store) (r .state)
 
 sound-kept : (r : Run panels) (c : Command) → SoundRun r → SoundRun (stepped panels r c)
-unfolding stepped SoundRun
+unfolding stepped
 sound-kept r c x = performed-sound (r .store) (r .state) c x
 
 start-sound : Sound empty (opened 0)
 unfolding tabulate
 start-sound = opened-sound empty 0 zero-le (λ i. refl)
 
-pub after-sound : AfterEveryList panels start (λ r. Sound (r .store) (r .state))
-unfolding SoundRun
+pub after-sound : AfterEveryList panels start SoundRun
 after-sound = kept-after panels SoundRun sound-kept start start-sound
 
 pub every-start : EveryStart
-unfolding SoundRun
 every-start = every-system panels SoundRun sound-kept (λ r x. sound-optimal x)
 
 pub condition-3 : Condition3

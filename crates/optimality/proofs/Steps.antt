@@ -10,7 +10,6 @@ use borrow.Author.Tests.{eq-eqb, ne-eqb, eqb-false, ltb-true}
 use lib.Dec.{eqb}
 use lib.ListN.{set}
 use Rattle.fieldset.specs.Tables.{at, tabulate}
-use Rattle.fieldset.specs.Fields.{member}
 use Rattle.fieldset.proofs.Numbers.{clash}
 use Rattle.fieldset.proofs.Tables.{getD-tabulate}
 use Rattle.panel.specs.declared.Link.{Link}
@@ -36,7 +35,7 @@ use Rattle.optimality.proofs.Answers.{pick}
 use Rattle.optimality.proofs.Changes.{free-le, Change, changed-potential, changed-free, pushed, pushed-mono, pushed-ge, pushed-link, pushed-stay}
 use Rattle.optimality.proofs.Reversal.{reversal-unblocked}
 use Rattle.optimality.proofs.Graphs.{graphOf, settersOf, legal-whole, strength-least, none-unblocked, free-unblocked}
-use Rattle.optimality.proofs.Turned.{path-reversible, after-none}
+use Rattle.optimality.proofs.Paths.{path-reversible, after-none}
 use Rattle.optimality.proofs.Agreement.{agrees-alike, agrees-link, agrees-front}
 
 -- panel and store are sound after an answer to a command

@@ -69,13 +69,13 @@ pub record Reversal : Type 0 where
   pub before : Panel
   pub item : Item
 
-abbrev pub turning : Bool → Panel → Item → Option Reversal
-turning true q c = some (record { before = q; item = c })
-turning false q c = none
+abbrev pub reversing : Bool → Panel → Item → Option Reversal
+reversing true q c = some (record { before = q; item = c })
+reversing false q c = none
 
 abbrev pub settling : Panel → Option Item → Option Reversal
 settling q none = none
-settling q (some c) = turning true q c
+settling q (some c) = reversing true q c
 
 abbrev pub dropping : Panel → ℕ → Standing → Option Reversal
 dropping p id Waiting = none
@@ -89,19 +89,19 @@ unfoldable pub reversal : Panel → Command → Option Reversal
 reversal p (opening n) = none
 reversal p (adding id level bytes) =
     let q = withLink p id (record { covered = coveredIn bytes; outputs = outputsIn bytes; level = level; used = true; standing = Waiting }) in
-    turning (isBlocked q (link id)) q (link id)
+    reversing (isBlocked q (link id)) q (link id)
 reversal p (removing id) = dropping p id (linkAt (p .links) id .standing)
-reversal p (touching f) = let q = toFront p f in turning (isBlocked q (stay f)) q (stay f)
+reversal p (touching f) = let q = toFront p f in reversing (isBlocked q (stay f)) q (stay f)
 reversal p planning = none
 
-unfoldable pub turnedPanel : Reversal → Panel
-turnedPanel r = reversed (r .before) (r .item) (pathFor (r .before) (r .item))
+unfoldable pub reversedPanel : Reversal → Panel
+reversedPanel r = reversed (r .before) (r .item) (pathFor (r .before) (r .item))
 
 -- a reversal is made, and the state with the path reversed has a closed walk of reads
 pub record Loops (r : Option Reversal) : Type 0 where
   pub made : Reversal
   pub is-made : r ≡ some made
-  pub loop : ClosedWalk (setterReads (turnedPanel made)) (turnedPanel made .size)
+  pub loop : ClosedWalk (setterReads (reversedPanel made)) (reversedPanel made .size)
 
 -- "If the result has a loop, refuse with Loop": a command that passes its checks meets Loop exactly then
 abbrev pub LoopExactly : Panel → Type 0
