@@ -51,11 +51,6 @@ under-trans G s a b c h un = record { level = le-trans (un .level) h; outs = λ 
 
 -- ---- paths
 
--- what waits when the path is reversed: the setter of the last field
-unfoldable pub last : (ℕ → Item) → Item → List ℕ → Item
-last st c [] = c
-last st c (v ∷ vs) = last st (st v) vs
-
 -- c may set v, where s is K, and is below K
 pub record Step (G : Graph) (s : ℕ → ℕ) (K : ℕ) (c : Item) (v : ℕ) : Type 0 where
   pub below : v < G .n
