@@ -24,11 +24,11 @@ use Rattle.optimality.specs.States.{HoldsRequired}
 use Rattle.optimality.specs.Refusals.{Possible, ConflictExactly}
 use Rattle.optimality.proofs.Matchings.{pairs}
 use Rattle.optimality.proofs.Setters.{Waits}
-use Rattle.optimality.proofs.Required.{HoldsAll, required-impossible, reversal-holds, reversal-matches}
+use Rattle.optimality.proofs.Required.{HoldsAll, required-impossible, pairs-match, reversal-holds}
 use Rattle.optimality.proofs.Graphs.{graphOf, settersOf, assigned, none-unblocked, required-holds}
 use Rattle.optimality.proofs.Held.{plan-whole}
 use Rattle.optimality.proofs.Optimum.{matching-matches, matches-matching}
-use Rattle.optimality.proofs.Paths.{path-reversible}
+use Rattle.optimality.proofs.Paths.{path-reversible, after-assigned}
 use Rattle.optimality.proofs.Answers.{pick, checked-step, turned-no-conflict}
 use Rattle.optimality.proofs.Steps.{add-idle, add-legal, add-agrees, add-none}
 use Rattle.optimality.proofs.Runs.{after-sound}
@@ -69,7 +69,7 @@ module _ (b : Store) (p : Panel) (x : Sound b p) (id : ℕ) (bytes : List ℕ) (
 
   impossible : isBlocked q (link id) ≡ false → Possible (entered b (adding id 0 bytes)) → ⊥
   impossible e h =
-      required-impossible (graphOf q) (settersOf q) (planOf q) whole (strengthOf q) (assigned k)
+      required-impossible (graphOf q) (settersOf q) (planOf q) whole (strengthOf q) (assigned (k .carrying))
       (none-unblocked k (add-none b p x id 0 bytes a e)) (link id) new-waits (ap (λ (l : Link). l .level) here) (h .choice)
       (matching-matches (k .carrying) agrees (h .choice) (h .matching)) (required-all agrees (h .choice) (h .required))
 
@@ -77,7 +77,7 @@ module _ (b : Store) (p : Panel) (x : Sound b p) (id : ℕ) (bytes : List ℕ) (
   possible e =
       record {
         choice = xs;
-        matching = matches-matching (k .carrying) agrees xs (reversal-matches (path-reversible k e) (planOf q) whole (assigned k) new-waits);
+        matching = matches-matching (k .carrying) agrees xs (pairs-match (graphOf q) _ (planOf q) whole (after-assigned k e));
         required = all-required agrees xs (reversal-holds (path-reversible k e) (planOf q) whole (required-holds k));
       }
     where

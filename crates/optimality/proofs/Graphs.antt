@@ -21,7 +21,7 @@ use Rattle.panel.specs.Items.{Item, link, stay, linkAt, setterOf, outputsOf, in
 use Rattle.panel.specs.Solution.{level, setterLevel, setterOthers, setterReads, strengthOf, isBlocked}
 use Rattle.panel.specs.Legal.{Legal}
 use Rattle.panel.proofs.Turn.{same-item, setter-stay}
-use Rattle.panel.proofs.Legal.{Rests, LegalBut, used-small}
+use Rattle.panel.proofs.Legal.{Rests, Carrying, LegalBut, used-small}
 use Rattle.panel.proofs.Setters.{whole, outputs-inside, setter-force, setter-output, setter-single, others-out, others-inside, setter-ranked, setter-falls, waits-idle, waits-or-sets, waits-force, rests-waiting}
 use Rattle.optimality.proofs.Setters.{Graph, Waits, Assigned, Potential, Free, Unblocked}
 
@@ -35,10 +35,10 @@ settersOf p = setterOf (p .setter)
 pub legal-whole : (p : Panel) → Legal p → LegalBut (stay (p .size)) p
 legal-whole p h = record { carrying = whole p h; rests = tt; loopless = h .loopless }
 
-module _ {p : Panel} {c : Item} (h : LegalBut c p) where
-  pub assigned : Assigned (graphOf p) (settersOf p)
-  assigned = record { force = setter-force p c (h .carrying); may = setter-output p c (h .carrying); single = setter-single p c (h .carrying) }
+pub assigned : {p : Panel} {c : Item} → Carrying c p → Assigned (graphOf p) (settersOf p)
+assigned {p} {c} h = record { force = setter-force p c h; may = setter-output p c h; single = setter-single p c h }
 
+module _ {p : Panel} {c : Item} (h : LegalBut c p) where
   -- ---- strengths
 
   -- no potential is below the strengths

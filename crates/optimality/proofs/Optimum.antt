@@ -123,7 +123,7 @@ module _ {b : Store} {p : Panel} (x : Sound b p) where
       }
     where
       matches : Matches G (pairs (settersOf p) (planOf p))
-      matches = pairs-match G (settersOf p) (planOf p) whole (assigned k)
+      matches = pairs-match G (settersOf p) (planOf p) whole (assigned (k .carrying))
 
       most : (L : ℕ) (ys : List Pair) → Matching b ys → countUpTo (levelIn b) L ys ≤ countUpTo (levelIn b) L (held (performed p planning .reply))
       most L ys m =

@@ -14,7 +14,7 @@ use Rattle.optimality.specs.Condition3.{Pair, items, countUpTo}
 use Rattle.optimality.proofs.Setters.{Graph, Waits, Assigned, Under, Unblocked, Reversible}
 use Rattle.optimality.proofs.Matchings.{Fits, Matches, holds-more, pairOf, pairs, pairs-items, pairs-fields, pairs-count, item-pairs}
 use Rattle.optimality.proofs.Counting.{matching-count}
-use Rattle.optimality.proofs.Reversal.{reversal-waits, reversal-assigned}
+use Rattle.optimality.proofs.Reversal.{reversal-waits}
 
 -- all items of level 0 are held
 abbrev pub HoldsAll : Graph → List Pair → Type 0
@@ -75,6 +75,3 @@ module _ {G : Graph} {st : ℕ → Item} {s : ℕ → ℕ} {K : ℕ} {c : Item} 
       go : ((G .lev d ≡ K) × Under G s K d) ⊎ (Waits G st d × (d ≢ c)) → ⊥
       go (inl (e, un)) = omega (arith, r .over)
       go (inr (h, ne)) = held d h ne ld
-
-  pub reversal-matches : Assigned G st → Waits G st c → Matches G (pairs (turn st c vs) fs)
-  reversal-matches a wc = pairs-match G (turn st c vs) fs w (reversal-assigned r a wc)
