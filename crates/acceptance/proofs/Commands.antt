@@ -7,7 +7,7 @@ use Rattle.panel.specs.declared.Panel.{Panel}
 use Rattle.panel.specs.Answers.{isRefusal}
 use Rattle.panel.specs.Panels.{opened}
 use Rattle.panel.specs.Commands.{Command}
-use Rattle.optimality.specs.Condition3.{Store, empty, next, after}
+use Rattle.optimality.specs.Condition3.{Store, empty, stepped, after, panels}
 use Rattle.optimality.proofs.Answers.{refused-unchanged}
 use Rattle.optimality.proofs.Runs.{condition-3}
 use Rattle.frames.specs.Frames.{lineAnswer, answered, frameOf, commandOf}
@@ -15,12 +15,12 @@ use Rattle.frames.specs.Texts.{linesOf, panelAfter}
 use Rattle.acceptance.specs.Lines.{commandsOf, LinesAsCommands, AfterEveryText, RefusedLineUnchanged}
 
 pub lines-as-commands : LinesAsCommands
-unfolding panelAfter lineAnswer commandsOf filterMap after next
+unfolding panelAfter lineAnswer commandsOf filterMap after stepped
 lines-as-commands p b [] = refl
 lines-as-commands p b (l ∷ ls) = go (commandOf (frameOf l)) (λ q d. lines-as-commands q d ls) where
-  go : (c : Option Command) → ((q : Panel) (d : Store) → panelAfter q ls ≡ after (record { panel = q; store = d }) (commandsOf ls) .panel)
+  go : (c : Option Command) → ((q : Panel) (d : Store) → panelAfter q ls ≡ after panels (record { state = q; store = d }) (commandsOf ls) .state)
       → panelAfter (answered p (frameOf l) c .panel) ls
-      ≡ after (record { panel = p; store = b }) (Option·elim c (commandsOf ls) (λ x. x ∷ commandsOf ls)) .panel
+      ≡ after panels (record { state = p; store = b }) (Option·elim c (commandsOf ls) (λ x. x ∷ commandsOf ls)) .state
   go none rest = rest p b
   go (some c) rest = rest _ _
 

@@ -8,7 +8,7 @@ use Rattle.panel.specs.declared.Panel.{Panel}
 use Rattle.panel.specs.Answers.{isRefusal}
 use Rattle.panel.specs.Panels.{opened}
 use Rattle.panel.specs.Commands.{Command}
-use Rattle.optimality.specs.Condition3.{Store, State, start, after, Optimal}
+use Rattle.optimality.specs.Condition3.{Store, Optimal, Run, after, panels, start}
 use Rattle.hex.specs.Hex.{hexOf}
 use Rattle.tally.specs.Tallies.{noTally, tallyBytes}
 use Rattle.frames.specs.Frames.{frameOf, commandOf, lineAnswer}
@@ -50,16 +50,16 @@ commandsOf lines = filterMap (λ line. commandOf (frameOf line)) lines
 -- such a line "leaves the panel as it stood": the panel after lines is the panel after their commands
 abbrev pub LinesAsCommands : Type 0
 LinesAsCommands =
-    (p : Panel) (b : Store) (lines : List (List ℕ)) → panelAfter p lines ≡ after (record { panel = p; store = b }) (commandsOf lines) .panel
+    (p : Panel) (b : Store) (lines : List (List ℕ)) → panelAfter p lines ≡ after panels (record { state = p; store = b }) (commandsOf lines) .state
 
--- the state after a text's commands; the first one "meets an unopened panel"
-abbrev pub stateAfter : List ℕ → State
-stateAfter text = after start (commandsOf (linesOf text))
+-- panel and store after a text's commands; the first one "meets an unopened panel"
+abbrev pub runAfter : List ℕ → Run panels
+runAfter text = after panels start (commandsOf (linesOf text))
 
 -- "so what holds after commands holds after lines": condition 3 after a text, about the panel that its lines leave
 pub record AfterText (text : List ℕ) : Type 0 where
-  pub optimal : Optimal (stateAfter text)
-  pub panel : stateAfter text .panel ≡ panelAfter (opened 0) (linesOf text)
+  pub optimal : Optimal (runAfter text .store) (panels .plan (runAfter text .state))
+  pub panel : runAfter text .state ≡ panelAfter (opened 0) (linesOf text)
 
 -- a text of any length: "The list of commands may have any length"
 abbrev pub AfterEveryText : Type 0

@@ -9,13 +9,13 @@ use mathlib.Core.List.{List, [], _∷_, _++_, map}
 use lib.Dec.{ltb}
 use Rattle.fieldset.specs.Numbers.{any}
 use Rattle.fieldset.specs.Tables.{at}
+use Rattle.fieldset.specs.Lists.{All}
 use Rattle.panel.specs.declared.Panel.{Panel}
 use Rattle.panel.specs.declared.Standing.the-variants.{Waiting}
 use Rattle.panel.specs.declared.Refusal.the-variants.{BadFrame, TextTooLong}
 use Rattle.panel.specs.Items.{linkAt}
 use Rattle.panel.specs.Answers.{Answer, isRefusal, refused, refusalBytes}
 use Rattle.panel.specs.Panels.{opened, standing}
-use Rattle.optimality.specs.Condition3.{All}
 use Rattle.hex.specs.Hex.{lineOf}
 use Rattle.tally.specs.Tallies.{noTally, tallyBytes}
 use Rattle.frames.specs.Frames.{frameOf, lineAnswer}

@@ -4,3 +4,4 @@ pub mod Numbers
 pub mod Fields
 pub mod Bits
 pub mod Tables
+pub mod Lists

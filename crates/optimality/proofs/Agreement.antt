@@ -1,15 +1,17 @@
 -- A store and a panel that agree still do after each change of a command.
-use Prim.Native.Nat.{ℕ, zero, suc, _+_, _≤_, _<_, zero-le}
+use Prim.Native.Nat.{ℕ, suc, _+_, _≤_, _<_, zero-le}
 use mathlib.Core.Path.{_≡_, refl, sym, ap, _∙_}
 use mathlib.Core.Bool.{Bool, true, false, cond}
-use mathlib.Core.List.{List, [], _∷_, _++_}
-use mathlib.Core.Option.{none}
+use mathlib.Core.List.{List, [], _∷_}
+use mathlib.Core.Option.{Option, none, some}
 use mathlib.Core.Logic.{_≢_, inl, inr}
 use native.Mathlib.Decide.{ℕ-discrete, decLt}
 use native.Mathlib.Omega.{arith}
 use borrow.Author.Tests.{lt-ltb, le-ltb, eq-eqb, ne-eqb}
 use lib.Dec.{eqb, ltb}
-use lib.ListN.{length, getD, set, replicate, length-replicate, getD-replicate, List·getD-eq-default}
+use lib.ListN.{length, set, replicate, length-replicate, getD-replicate, List·getD-eq-default}
+use Rattle.fieldset.specs.Lists.{In, All, place}
+use Rattle.fieldset.proofs.Lists.{in-tabulate, tabulate-below, place-at}
 use Rattle.fieldset.specs.Tables.{at, tabulate}
 use Rattle.fieldset.proofs.Tables.{getD-tabulate, length-tabulate}
 use Rattle.panel.specs.declared.Link.{Link}
@@ -18,10 +20,20 @@ use Rattle.panel.specs.Items.{noLink, linkAt}
 use Rattle.panel.specs.Panels.{opened, withLink, toFront, placeAfter}
 use Rattle.panel.specs.Commands.{opening, touching}
 use Rattle.panel.proofs.Turn.{AllAlike, link-here, link-there}
-use Rattle.optimality.specs.Condition3.{In, All, place, strike, Store, entry, entered}
+use Rattle.optimality.specs.Condition3.{Entry, strike, Store, entry, entered}
 use Rattle.optimality.specs.Agreement.{entryOf, Agrees}
-use Rattle.optimality.proofs.Lists.{all-map, in-tabulate}
-use Rattle.optimality.proofs.Held.{getD-all}
+
+-- ---- links in the store
+
+-- what does not hold of no entry, and holds of a link's, holds of a link in use
+pub entry-used : (P : Option Entry → Type 0) → (P none → ⊥) → (l : Link) → P (entryOf l)
+    → (l .used ≡ true) × P (some (record { level = l .level; covered = l .covered; outputs = l .outputs }))
+entry-used P never l = go (l .used) refl
+  where
+    go : (u : Bool) → l .used ≡ u → P (cond u (some (record { level = l .level; covered = l .covered; outputs = l .outputs })) none)
+        → (l .used ≡ true) × P (some (record { level = l .level; covered = l .covered; outputs = l .outputs }))
+    go true e h = (e, h)
+    go false e h = absurd (never h)
 
 -- ---- only standings and setters change
 
@@ -113,37 +125,10 @@ agrees-front b p f few lf a =
 
 -- ---- opening
 
-place-left : (f : ℕ) (xs ys : List ℕ) → In f xs → place (xs ++ ys) f ≡ place xs f
-unfolding place
-place-left f (x ∷ xs) ys m = go (ℕ-discrete x f) m (place-left f xs ys)
-  where
-    go : Dec (x ≡ f) → In f (x ∷ xs) → (In f xs → place (xs ++ ys) f ≡ place xs f)
-        → cond (eqb x f) 0 (suc (place (xs ++ ys) f)) ≡ cond (eqb x f) 0 (suc (place xs f))
-    go (yes d) m ih = rw (eq-eqb x f d)
-    go (no d) (inl e) ih = absurd (d (sym e))
-    go (no d) (inr m) ih = rw (ih m)
-
-place-right : (f : ℕ) (xs ys : List ℕ) → All (λ x. x ≢ f) xs → place (xs ++ ys) f ≡ length xs + place ys f
-unfolding place
-place-right f [] ys a = omega arith
-place-right f (x ∷ xs) ys a = rw (ne-eqb x f (a .0)) (omega (arith, place-right f xs ys (a .1)))
-
-below-tabulate : (n : ℕ) → All (λ f. f < n) (tabulate (λ k. k) n)
-below-tabulate n = getD-all (λ f. f < n) 0 (tabulate (λ k. k) n) below
-  where
-    below : (i : ℕ) → i < length (tabulate (λ k. k) n) → getD (tabulate (λ k. k) n) i 0 < n
-    below i l = let k : i < n = rw (length-tabulate (λ k. k) n) at l in rw (getD-tabulate (λ k. k) n i 0 k) k
-
 place-tabulate : (n f : ℕ) → f < n → place (tabulate (λ k. k) n) f ≡ f
-unfolding tabulate place
-place-tabulate zero f l = absurd (omega arith)
-place-tabulate (suc n) f l = go (ℕ-discrete f n) (place-tabulate n f)
-  where
-    go : Dec (f ≡ n) → (f < n → place (tabulate (λ k. k) n) f ≡ f) → place (tabulate (λ k. k) n ++ (n ∷ [])) f ≡ f
-    go (yes d) ih =
-        place-right f (tabulate (λ k. k) n) (n ∷ []) (all-map (λ x. x < n) (λ x. x ≢ f) (λ x h e. omega arith) (tabulate (λ k. k) n) (below-tabulate n))
-        ∙ rw (eq-eqb n f (sym d), length-tabulate (λ (k : ℕ). k) n) (omega arith)
-    go (no d) ih = place-left f (tabulate (λ k. k) n) (n ∷ []) (in-tabulate n f (omega arith)) ∙ ih (omega arith)
+place-tabulate n f l =
+    place-at f (tabulate (λ k. k) n) f (rw (length-tabulate (λ (k : ℕ). k) n) l) (λ j k. rw (getD-tabulate (λ (k : ℕ). k) n j 0 (omega arith)) (omega arith))
+    (getD-tabulate (λ (k : ℕ). k) n f 0 l)
 
 -- at opening no number is in use
 pub default-link : (i : ℕ) → linkAt (replicate 128 noLink) i ≡ noLink
@@ -162,6 +147,6 @@ agrees-opened b n few empty =
     record {
       links = λ i. empty i ∙ sym (ap entryOf (default-link i));
       stays = λ f l. in-tabulate n f l;
-      below = below-tabulate n;
+      below = tabulate-below n;
       places = λ f l. place-tabulate n f l ∙ sym (getD-tabulate (λ (k : ℕ). k) 64 f 0 (omega arith));
     }

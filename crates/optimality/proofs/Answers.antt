@@ -1,16 +1,16 @@
 -- Which answers a command may have: a refusal that leaves the panel, or a reply that begins with 00.
-use Prim.Native.Nat.{ℕ, _<_}
+use Prim.Native.Nat.{ℕ, _≤_}
 use mathlib.Core.Path.{_≡_, refl, ap}
-use mathlib.Core.Bool.{Bool, true, false, not}
+use mathlib.Core.Bool.{Bool, true, false}
 use mathlib.Core.List.{List, [], _∷_}
 use mathlib.Core.Option.{Option, none, some}
 use mathlib.Core.Logic.{_≢_}
 use native.Mathlib.Omega.{arith}
-use borrow.Author.Tests.{eqb-true, not-true}
+use borrow.Author.Tests.{eqb-true}
 use lib.Dec.{eqb}
 use lib.ListN.{getD, drop}
+use Rattle.fieldset.specs.Lists.{All}
 use Rattle.fieldset.proofs.Numbers.{clash}
-use Rattle.fieldset.proofs.Tests.{and-left, and-right}
 use Rattle.panel.specs.declared.Standing.{Standing}
 use Rattle.panel.specs.declared.Standing.the-variants.{Waiting, Holding}
 use Rattle.panel.specs.declared.Panel.{Panel}
@@ -23,8 +23,7 @@ use Rattle.panel.specs.Steps.{accepted, turned, openStep, addStep, settled, rem
 use Rattle.panel.specs.Commands.{Command, opening, adding, removing, touching, planning, performed, Check, checked, openChecks, addChecks, removeChecks, touchChecks, planChecks, coveredIn, outputsIn}
 use Rattle.panel.proofs.Answers.{refusals-apart}
 use Rattle.panel.proofs.Checks.{NoneApply}
-use Rattle.optimality.specs.Condition3.{All}
-use Rattle.optimality.specs.Others.{passes, WeakerNeverConflict, TouchNeverConflict, RemoveNeverConflict, RefusedUnchanged}
+use Rattle.optimality.specs.Refusals.{WeakerNeverConflict, TouchNeverConflict, RemoveNeverConflict, RefusedUnchanged}
 
 -- ---- checks
 
@@ -38,11 +37,6 @@ checked-answer P p (c ∷ cs) step a h = go (c .applies) refl (λ e. checked-ans
     go : (b : Bool) → c .applies ≡ b → (c .applies ≡ false → P (checked p cs step)) → P (checked p (c ∷ cs) step)
     go true e ih = rw e (a .0)
     go false e ih = rw e (ih e)
-
-pub passes-none : (cs : List Check) → passes cs ≡ true → NoneApply cs
-unfolding passes
-passes-none [] e = tt
-passes-none (c ∷ cs) e = (not-true (c .applies) (and-left (not (c .applies)) (passes cs) e), passes-none cs (and-right (not (c .applies)) (passes cs) e))
 
 -- where no check applies the step is carried out
 pub checked-step : (p : Panel) (cs : List Check) (step : Answer) → NoneApply cs → checked p cs step ≡ step
@@ -99,42 +93,36 @@ module _ (R : Refusal → Type 0) (p : Panel) where
       go q true = turned-outcome q (stay f) l
       go q false = yes _ _
 
-  -- the refusals of the checks
-  pub record Early : Type 0 where
-    pub already-open : R AlreadyOpen
-    pub not-open : R NotOpen
-    pub bad-size : R BadSize
-    pub bad-link : R BadLink
-    pub no-such-field : R NoSuchField
-    pub link-taken : R LinkTaken
-    pub no-such-link : R NoSuchLink
+  -- the refusals of the checks are 3 to 9
+  module _ (early : (r : Refusal) → getD (refusalBytes r) 0 0 ≤ 9 → R r) (l : R Loop) where
+    given : (r : Refusal) → getD (refusalBytes r) 0 0 ≤ 9 → Outcome R p (refused p r)
+    given r h = no r (early r h)
 
-  module _ (early : Early) (l : R Loop) where
     pub adding-outcome : (id level : ℕ) (bytes : List ℕ) → (level ≡ 0 → R Conflict) → Outcome R p (performed p (adding id level bytes))
     adding-outcome id level bytes k =
         checked-answer (Outcome R p) p (addChecks p id level bytes) (addStep p id level (coveredIn bytes) (outputsIn bytes))
-        (no NotOpen (early .not-open), (no BadLink (early .bad-link), (no NoSuchField (early .no-such-field), (no LinkTaken (early .link-taken), tt))))
+        (given NotOpen (omega arith), (given BadLink (omega arith), (given NoSuchField (omega arith), (given LinkTaken (omega arith), tt))))
         (λ n. add-outcome id level (coveredIn bytes) (outputsIn bytes) l k)
 
     pub removing-outcome : (id : ℕ) → Outcome R p (performed p (removing id))
     removing-outcome id =
         checked-answer (Outcome R p) p (removeChecks p id) (removeStep p id)
-        (no NotOpen (early .not-open), (no BadLink (early .bad-link), (no NoSuchLink (early .no-such-link), tt))) (λ n. remove-outcome id l)
+        (given NotOpen (omega arith), (given BadLink (omega arith), (given NoSuchLink (omega arith), tt))) (λ n. remove-outcome id l)
 
     pub touching-outcome : (f : ℕ) → Outcome R p (performed p (touching f))
     touching-outcome f =
         checked-answer (Outcome R p) p (touchChecks p f) (touchStep p f)
-        (no NotOpen (early .not-open), (no NoSuchField (early .no-such-field), tt)) (λ n. touch-outcome f l)
+        (given NotOpen (omega arith), (given NoSuchField (omega arith), tt)) (λ n. touch-outcome f l)
 
     pub performed-outcome : R Conflict → (c : Command) → Outcome R p (performed p c)
     unfolding planStep
     performed-outcome k (opening n) =
         checked-answer (Outcome R p) p (openChecks p n) (openStep n)
-        (no AlreadyOpen (early .already-open), (no BadSize (early .bad-size), tt)) (λ n. yes _ _)
+        (given AlreadyOpen (omega arith), (given BadSize (omega arith), tt)) (λ n. yes _ _)
     performed-outcome k (adding id level bytes) = adding-outcome id level bytes (λ e. k)
     performed-outcome k (removing id) = removing-outcome id
     performed-outcome k (touching f) = touching-outcome f
-    performed-outcome k planning = checked-answer (Outcome R p) p (planChecks p) (planStep p) (no NotOpen (early .not-open), tt) (λ n. yes _ _)
+    performed-outcome k planning = checked-answer (Outcome R p) p (planChecks p) (planStep p) (given NotOpen (omega arith), tt) (λ n. yes _ _)
 
 -- ---- what follows
 
@@ -148,27 +136,11 @@ unchanged R p a (no r h) e = refl
 unchanged R p a (yes q bytes) e = absurd (clash e refl)
 
 pub refused-unchanged : RefusedUnchanged
-refused-unchanged p c = unchanged (λ r. Unit {0}) p (performed p c) (performed-outcome (λ r. Unit {0}) p any tt tt c)
-  where
-    any : Early (λ r. Unit {0}) p
-    any = record { already-open = tt; not-open = tt; bad-size = tt; bad-link = tt; no-such-field = tt; link-taken = tt; no-such-link = tt }
+refused-unchanged p c = unchanged (λ r. Unit {0}) p (performed p c) (performed-outcome (λ r. Unit {0}) p (λ r h. tt) tt tt c)
 
 -- a refusal of another number than n
 abbrev pub Not : ℕ → Refusal → Type 0
 Not n r = getD (refusalBytes r) 0 0 ≢ n
-
--- those of the checks are 3 to 9
-pub early-not : (n : ℕ) → 9 < n → (p : Panel) → Early (Not n) p
-early-not n l p =
-    record {
-      already-open = omega arith;
-      not-open = omega arith;
-      bad-size = omega arith;
-      bad-link = omega arith;
-      no-such-field = omega arith;
-      link-taken = omega arith;
-      no-such-link = omega arith;
-    }
 
 no-conflict : (p : Panel) (a : Answer) → Outcome (Not 10) p a → a .reply ≢ refused p Conflict .reply
 no-conflict p a o = not-given (Not 10) p a o Conflict (λ h. h refl)
@@ -176,13 +148,13 @@ no-conflict p a o = not-given (Not 10) p a o Conflict (λ h. h refl)
 pub weaker-never-conflict : WeakerNeverConflict
 weaker-never-conflict p id level bytes l =
     no-conflict p (performed p (adding id level bytes))
-    (adding-outcome (Not 10) p (early-not 10 (omega arith) p) (omega arith) id level bytes (λ e. absurd (omega arith)))
+    (adding-outcome (Not 10) p (λ r h. omega arith) (omega arith) id level bytes (λ e. absurd (omega arith)))
 
 pub touch-never-conflict : TouchNeverConflict
-touch-never-conflict p f = no-conflict p (performed p (touching f)) (touching-outcome (Not 10) p (early-not 10 (omega arith) p) (omega arith) f)
+touch-never-conflict p f = no-conflict p (performed p (touching f)) (touching-outcome (Not 10) p (λ r h. omega arith) (omega arith) f)
 
 pub remove-never-conflict : RemoveNeverConflict
-remove-never-conflict p id = no-conflict p (performed p (removing id)) (removing-outcome (Not 10) p (early-not 10 (omega arith) p) (omega arith) id)
+remove-never-conflict p id = no-conflict p (performed p (removing id)) (removing-outcome (Not 10) p (λ r h. omega arith) (omega arith) id)
 
 -- a reversal never gives Conflict
 pub turned-no-conflict : (p q : Panel) (c : Item) → turned p q c .reply ≢ refused p Conflict .reply

@@ -1,10 +1,10 @@
 -- The graph changes around one item: a link is added, or a stay comes to the front. Nothing else becomes blocked.
 use Prim.Native.Nat.{ℕ, suc, _+_, _≤_, _<_}
-use mathlib.Core.Path.{_≡_, sym, _∙_}
-use mathlib.Core.Bool.{Bool, true, cond}
-use mathlib.Core.Logic.{_≢_, _⊎_, inl, inr}
-use native.Mathlib.Nat.{le-trans}
-use native.Mathlib.Decide.{decLt}
+use mathlib.Core.Path.{_≡_}
+use mathlib.Core.Bool.{Bool, true, false, cond}
+use mathlib.Core.Logic.{_≢_}
+use native.Mathlib.Nat.{le-refl, le-trans}
+use native.Mathlib.Decide.{ℕ-discrete, decLt}
 use native.Mathlib.Omega.{arith}
 use borrow.Author.Tests.{lt-ltb, le-ltb}
 use lib.Dec.{ltb}
@@ -15,26 +15,29 @@ use Rattle.optimality.proofs.Setters.{Graph, Waits, Potential, Free, Un
 pub free-le : (G : Graph) (s t : ℕ → ℕ) (c : Item) → ((f : ℕ) → f < G .n → t f ≤ s f) → Free G s c → Free G t c
 free-le G s t c le fr u lu ou = le-trans (le u lu) (fr u lu ou)
 
--- levels, outputs and what is in force change; but for c, levels change by ρ, which keeps their order, and c sets nothing or its level falls
-module _ (G : Graph) (st : ℕ → Item) (s : ℕ → ℕ) (un : Unblocked G st s) (lev′ : Item → ℕ) (out′ : Item → ℕ → Bool) (F : Item → Bool) (c : Item) (ρ : ℕ → ℕ)
-    (mono : (a b : ℕ) → a ≤ b → ρ a ≤ ρ b)
-    (lev-st : (f : ℕ) → f < G .n → lev′ (st f) ≤ ρ (G .lev (st f)))
-    (out-st : (f u : ℕ) → f < G .n → out′ (st f) u ≡ true → G .out (st f) u ≡ true)
-    (others : (w : Item) → F w ≡ true → w ≢ c → (G .force w ≡ true) × (lev′ w ≡ ρ (G .lev w)) × ((u : ℕ) → out′ w u ≡ G .out w u)) where
-  abbrev pub changed : Graph
-  changed = record { n = G .n; lev = lev′; out = out′; force = F }
+-- H is G with other levels, outputs and items in force: but for c, levels change by ρ, which keeps their order, and c sets nothing or its level
+-- falls
+pub record Change (G H : Graph) (st : ℕ → Item) (c : Item) (ρ : ℕ → ℕ) : Type 0 where
+  pub size : H .n ≡ G .n
+  pub mono : (a b : ℕ) → a ≤ b → ρ a ≤ ρ b
+  pub level : (f : ℕ) → f < G .n → H .lev (st f) ≤ ρ (G .lev (st f))
+  pub outs : (f u : ℕ) → f < G .n → H .out (st f) u ≡ true → G .out (st f) u ≡ true
+  pub others : (w : Item) → H .force w ≡ true → w ≢ c
+      → (G .force w ≡ true) × (H .lev w ≡ ρ (G .lev w)) × ((u : ℕ) → H .out w u ≡ true → G .out w u ≡ true)
 
-  pub changed-potential : Potential changed st (λ f. ρ (s f))
+module _ {G H : Graph} {st : ℕ → Item} {s ρ : ℕ → ℕ} {c : Item} (un : Unblocked G st s) (ch : Change G H st c ρ) where
+  pub changed-potential : Potential H st (λ f. ρ (s f))
   changed-potential f l =
+      let k : f < G .n = rw (ch .size) at l in
       record {
-        level = le-trans (lev-st f l) (mono _ _ (un .potential f l .level));
-        outs = λ u lu ou. mono _ _ (un .potential f l .outs u lu (out-st f u l ou));
+        level = le-trans (ch .level f k) (ch .mono _ _ (un .potential f k .level));
+        outs = λ u lu ou. ch .mono _ _ (un .potential f k .outs u (rw (ch .size) at lu) (ch .outs f u k ou));
       }
 
-  pub changed-free : (w : Item) → Waits changed st w → w ≢ c → Free changed (λ f. ρ (s f)) w
+  pub changed-free : (w : Item) → Waits H st w → w ≢ c → Free H (λ f. ρ (s f)) w
   changed-free w h ne u lu ou =
-      let (a, b, o) = others w (h .force) ne in
-      rw b (mono _ _ (un .free w (record { force = a; idle = h .idle }) u lu (sym (o u) ∙ ou)))
+      let (a, b, o) = ch .others w (h .force) ne in
+      rw b (ch .mono _ _ (un .free w (record { force = a; idle = λ f l. h .idle f (rw (ch .size) l) }) u (rw (ch .size) at lu) (o u ou)))
 
 -- ---- a stay comes to the front
 
@@ -42,38 +45,23 @@ module _ (G : Graph) (st : ℕ → Item) (s : ℕ → ℕ) (un : Unblocked G st 
 abbrev pub pushed : ℕ → ℕ → ℕ
 pushed q L = cond (ltb L 16) L (cond (ltb L (16 + q)) (suc L) L)
 
-abbrev Is : ℕ → ℕ → ℕ → Type 0
-Is q L x = ((L < 16) × (x ≡ L)) ⊎ ((16 ≤ L) × (L < 16 + q) × (x ≡ suc L)) ⊎ ((16 ≤ L) × (16 + q ≤ L) × (x ≡ L))
-
-pushed-is : (q L : ℕ) → Is q L (pushed q L)
-pushed-is q L = go (decLt L 16) (decLt L (16 + q))
+pushed-near : (q L : ℕ) → (L ≤ pushed q L) × (pushed q L ≤ suc L)
+pushed-near q L = go (ltb L 16) (ltb L (16 + q))
   where
-    go : Dec (L < 16) → Dec (L < 16 + q) → Is q L (pushed q L)
-    go (yes h) k = inl (h, rw (lt-ltb L 16 h))
-    go (no h) (yes k) = inr (inl (omega arith, k, rw (le-ltb L 16 (omega arith), lt-ltb L (16 + q) k)))
-    go (no h) (no k) = inr (inr (omega arith, omega arith, rw (le-ltb L 16 (omega arith), le-ltb L (16 + q) (omega arith))))
-
-pub pushed-mono : (q a b : ℕ) → a ≤ b → pushed q a ≤ pushed q b
-pushed-mono q a b h = go (pushed q a) (pushed q b) (pushed-is q a) (pushed-is q b)
-  where
-    go : (x y : ℕ) → Is q a x → Is q b y → x ≤ y
-    go x y (inl i) (inl k) = omega arith
-    go x y (inl i) (inr (inl k)) = omega arith
-    go x y (inl i) (inr (inr k)) = omega arith
-    go x y (inr (inl i)) (inl k) = omega arith
-    go x y (inr (inl i)) (inr (inl k)) = omega arith
-    go x y (inr (inl i)) (inr (inr k)) = omega arith
-    go x y (inr (inr i)) (inl k) = omega arith
-    go x y (inr (inr i)) (inr (inl k)) = omega arith
-    go x y (inr (inr i)) (inr (inr k)) = omega arith
+    go : (a b : Bool) → (L ≤ cond a L (cond b (suc L) L)) × (cond a L (cond b (suc L) L) ≤ suc L)
+    go true b = (omega arith, omega arith)
+    go false true = (omega arith, omega arith)
+    go false false = (omega arith, omega arith)
 
 pub pushed-ge : (q L : ℕ) → L ≤ pushed q L
-pushed-ge q L = go (pushed q L) (pushed-is q L)
+pushed-ge q L = pushed-near q L .0
+
+pub pushed-mono : (q a b : ℕ) → a ≤ b → pushed q a ≤ pushed q b
+pushed-mono q a b h = go (ℕ-discrete a b)
   where
-    go : (x : ℕ) → Is q L x → L ≤ x
-    go x (inl i) = omega arith
-    go x (inr (inl i)) = omega arith
-    go x (inr (inr i)) = omega arith
+    go : Dec (a ≡ b) → pushed q a ≤ pushed q b
+    go (yes e) = rw e (le-refl (pushed q b))
+    go (no e) = le-trans (pushed-near q a .1) (le-trans (omega arith) (pushed-near q b .0))
 
 -- a link keeps its level
 pub pushed-link : (q L : ℕ) → L < 16 → pushed q L ≡ L

@@ -2,7 +2,7 @@
 use Prim.Native.Nat.{ℕ, _≤_, _<_}
 use mathlib.Core.Path.{_≡_, refl, _∙_}
 use mathlib.Core.Bool.{Bool, true, false, _&&_}
-use mathlib.Core.Logic.{_⊎_, inl, inr}
+use mathlib.Core.Logic.{_≢_, _⊎_, inl, inr}
 use native.Mathlib.Nat.{le-refl, le-trans}
 use native.Mathlib.Decide.{ℕ-discrete, decLt}
 use native.Mathlib.Omega.{arith}
@@ -14,15 +14,15 @@ use Rattle.fieldset.specs.Fields.{member}
 use Rattle.fieldset.proofs.Numbers.{any-false, any-none}
 use Rattle.fieldset.proofs.Fields.{member-without-other}
 use Rattle.strength.proofs.Depth.{strength-level, strength-bound-in, strength-other}
-use Rattle.fieldset.proofs.Tests.{and-left}
+use Rattle.fieldset.proofs.Tests.{and-left, and-right}
 use Rattle.ordering.proofs.Plan.{rankOf}
 use Rattle.panel.specs.declared.Panel.{Panel}
-use Rattle.panel.specs.Items.{Item, link, stay, setterOf, outputsOf, inForce, waits}
+use Rattle.panel.specs.Items.{Item, link, stay, linkAt, setterOf, outputsOf, inForce, waits}
 use Rattle.panel.specs.Solution.{level, setterLevel, setterOthers, setterReads, strengthOf, isBlocked}
 use Rattle.panel.specs.Legal.{Legal}
 use Rattle.panel.proofs.Turn.{same-item, setter-stay}
-use Rattle.panel.proofs.Legal.{Rests, LegalBut}
-use Rattle.panel.proofs.Setters.{whole, outputs-inside, setter-force, setter-output, setter-single, others-out, others-inside, setter-ranked, setter-falls, waits-idle, waits-or-sets, waits-force}
+use Rattle.panel.proofs.Legal.{Rests, Carrying, LegalBut, used-small}
+use Rattle.panel.proofs.Setters.{whole, outputs-inside, setter-force, setter-output, setter-single, others-out, others-inside, setter-ranked, setter-falls, waits-idle, waits-or-sets, waits-force, rests-waiting}
 use Rattle.optimality.proofs.Setters.{Graph, Waits, Assigned, Potential, Free, Unblocked}
 
 abbrev pub graphOf : Panel → Graph
@@ -35,10 +35,10 @@ settersOf p = setterOf (p .setter)
 pub legal-whole : (p : Panel) → Legal p → LegalBut (stay (p .size)) p
 legal-whole p h = record { carrying = whole p h; rests = tt; loopless = h .loopless }
 
-module _ {p : Panel} {c : Item} (h : LegalBut c p) where
-  pub assigned : Assigned (graphOf p) (settersOf p)
-  assigned = record { force = setter-force p c (h .carrying); may = setter-output p c (h .carrying); single = setter-single p c (h .carrying) }
+pub assigned : {p : Panel} {c : Item} → Carrying c p → Assigned (graphOf p) (settersOf p)
+assigned {p} {c} h = record { force = setter-force p c h; may = setter-output p c h; single = setter-single p c h }
 
+module _ {p : Panel} {c : Item} (h : LegalBut c p) where
   -- ---- strengths
 
   -- no potential is below the strengths
@@ -101,6 +101,13 @@ module _ {p : Panel} {c : Item} (h : LegalBut c p) where
       go : Dec (d ≡ c) → waits (p .size) (p .links) (p .setter) d ≡ true
       go (yes q) = open-waits d (rw q (h .rests)) w
       go (no q) = sets (waits-or-sets c (p .size) (p .links) (p .setter) (h .carrying .held) d q (h .carrying .filled .full) (w .force))
+
+  -- a required link does not wait, if it is not left open
+  pub required-holds : (d : Item) → Waits (graphOf p) (settersOf p) d → d ≢ c → level p d ≢ 0
+  required-holds (link i) w ne z =
+      h .carrying .held .required i (used-small (p .links) i (h .carrying .filled .full) (w .force)) ne (w .force) z
+      (rests-waiting (linkAt (p .links) i .standing) (and-right (linkAt (p .links) i .used) _ (true-waits (link i) w)))
+  required-holds (stay f) w ne z = omega arith
 
   -- ---- blocked items
 

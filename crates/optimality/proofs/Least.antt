@@ -8,6 +8,8 @@ use native.Mathlib.Nat.{le-refl, le-trans}
 use native.Mathlib.Omega.{arith}
 use borrow.Author.Tests.{leb-true, leb-false, ltb-true}
 use lib.Dec.{leb}
+use Rattle.fieldset.specs.Lists.{In, All}
+use Rattle.fieldset.proofs.Lists.{all-map, in-left, in-right, in-map, in-tabulate}
 use Rattle.fieldset.specs.Tables.{tabulate}
 use Rattle.fieldset.proofs.Numbers.{clash}
 use Rattle.panel.specs.declared.Panel.{Panel}
@@ -15,8 +17,6 @@ use Rattle.panel.specs.Items.{Item, link, stay, inForce, itemsOf}
 use Rattle.panel.specs.Solution.{level, isBlocked, lesser, least, leastBlocked}
 use Rattle.panel.specs.Legal.{Legal}
 use Rattle.panel.proofs.Legal.{used-small}
-use Rattle.optimality.specs.Condition3.{In, All}
-use Rattle.optimality.proofs.Lists.{all-map, in-left, in-right, in-map, in-tabulate}
 
 -- ---- all items
 

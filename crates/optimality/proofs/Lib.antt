@@ -1,6 +1,4 @@
 -- The laws of this crate: the argument over a constraint graph; a panel as a graph; each command; the theorems.
-pub mod Tests
-pub mod Lists
 pub mod Setters
 pub mod Matchings
 pub mod Counting
@@ -11,7 +9,7 @@ pub mod Required
 pub mod Graphs
 pub mod Held
 pub mod Optimum
-pub mod Turned
+pub mod Paths
 pub mod Agreement
 pub mod Least
 pub mod Answers

@@ -27,12 +27,12 @@ use Rattle.panel.proofs.Setters.{setter-reads-inside}
 use Rattle.panel.proofs.Reversal.{blocking, route-for, turned-carrying, legal-waits}
 use Rattle.panel.proofs.Changes.{legal-add, legal-free, legal-front}
 use Rattle.panel.proofs.Checks.{NoneApply, newLink, addable, removable, touchable}
-use Rattle.optimality.specs.Condition3.{State, start, after}
-use Rattle.optimality.specs.Others.{AfterEveryList, checksOf, Reversal, turning, settling, dropping, reversal, turnedPanel, Loops, LoopExactly}
+use Rattle.optimality.specs.Condition3.{AfterEveryList, panels, start}
+use Rattle.optimality.specs.Refusals.{checksOf, Reversal, reversing, settling, dropping, reversal, reversedPanel, Loops, LoopExactly}
 use Rattle.optimality.proofs.Graphs.{settersOf}
 use Rattle.optimality.proofs.Least.{Least, least-blocked}
-use Rattle.optimality.proofs.Answers.{pick, Outcome, no, yes, Not, not-given, passes-none, checked-step}
-use Rattle.optimality.proofs.Runs.{after-sound, start-sound}
+use Rattle.optimality.proofs.Answers.{pick, Outcome, no, yes, Not, not-given, checked-step}
+use Rattle.optimality.proofs.Runs.{after-sound}
 
 -- the answer is Loop exactly where the reversal has a loop
 abbrev Exactly : Panel → Answer → Option Reversal → Type 0
@@ -47,7 +47,7 @@ still p a o = (λ e. absurd (not-given (Not 11) p a o Loop (λ h. h refl) e), λ
 
 -- a reversal
 turned-exactly : (p q : Panel) (c : Item) → LegalBut c q → isBlocked q c ≡ true → Exactly p (turned p q c) (some (record { before = q; item = c }))
-unfolding turned turnedPanel isLooped
+unfolding turned reversedPanel isLooped
 turned-exactly p q c k b = go (isLooped r) refl
   where
     r : Panel
@@ -61,7 +61,7 @@ turned-exactly p q c k b = go (isLooped r) refl
     this l =
         let e : some (record { before = q; item = c }) ≡ some (l .made) = l .is-made in
         let d : record { before = q; item = c } ≡ l .made = cc in
-        subst (λ (m : Reversal). ClosedWalk (setterReads (turnedPanel m)) (turnedPanel m .size)) (sym d) (l .loop)
+        subst (λ (m : Reversal). ClosedWalk (setterReads (reversedPanel m)) (reversedPanel m .size)) (sym d) (l .loop)
 
     go : (t : Bool) → isLooped r ≡ t
         → (pick t (refused p Loop) (accepted p r) .reply ≡ refused p Loop .reply) ↔ Loops (some (record { before = q; item = c }))
@@ -86,7 +86,7 @@ module _ (p : Panel) (h : Legal p) where
       q = withLink p id (newLink level bytes)
 
       go : (t : Bool) → isBlocked q (link id) ≡ t → (z : Bool)
-          → Exactly p (pick t (turned p q (link id)) (pick z (refused p Conflict) (accepted p q))) (turning t q (link id))
+          → Exactly p (pick t (turned p q (link id)) (pick z (refused p Conflict) (accepted p q))) (reversing t q (link id))
       go true e z = turned-exactly p q (link id) k e
       go false e true = still p (refused p Conflict) (no Conflict (omega arith))
       go false e false = still p (accepted p q) (yes _ _)
@@ -98,7 +98,7 @@ module _ (p : Panel) (h : Legal p) where
       q : Panel
       q = toFront p f
 
-      go : (t : Bool) → isBlocked q (stay f) ≡ t → Exactly p (pick t (turned p q (stay f)) (accepted p q)) (turning t q (stay f))
+      go : (t : Bool) → isBlocked q (stay f) ≡ t → Exactly p (pick t (turned p q (stay f)) (accepted p q)) (reversing t q (stay f))
       go true e = turned-exactly p q (stay f) (legal-waits q (stay f) (legal-front p f h l) (blocking q (stay f) e .waits-now)) e
       go false e = still p (accepted p q) (yes _ _)
 
@@ -128,8 +128,5 @@ module _ (p : Panel) (h : Legal p) where
   command-exactly (touching f) n = rw (checked-step p (checksOf p (touching f)) (touchStep p f) n) (touch-exactly f (touchable p f n))
   command-exactly planning n = rw (checked-step p (checksOf p planning) (planStep p) n) (still p (planStep p) (yes _ _))
 
-pub legal-loop-exactly : (s : State) → Legal (s .panel) → LoopExactly s
-legal-loop-exactly s l c h = command-exactly (s .panel) l c (passes-none (checksOf (s .panel) c) h)
-
-pub loop-exactly : AfterEveryList LoopExactly
-loop-exactly commands = legal-loop-exactly (after start commands) (after-sound commands start start-sound .legal)
+pub loop-exactly : AfterEveryList panels start (λ r. LoopExactly (r .state))
+loop-exactly commands = command-exactly _ (after-sound commands .legal)

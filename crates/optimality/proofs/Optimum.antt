@@ -1,51 +1,32 @@
 -- A sound state is optimal: matchings over the store are matchings of the panel's graph, and what the panel holds is the greatest.
 use Prim.Native.Nat.{ℕ, _+_, _≤_, _<_}
 use mathlib.Core.Path.{_≡_, refl, sym, ap, _∙_}
-use mathlib.Core.Bool.{Bool, true, false, cond}
+use mathlib.Core.Bool.{true, false}
 use mathlib.Core.List.{List}
-use mathlib.Core.Option.{none, some}
 use native.Mathlib.Omega.{arith}
 use borrow.Author.Tests.{lt-ltb, ltb-true, eq-eqb, eqb-true}
+use Rattle.fieldset.proofs.Lists.{all-in, all-map, Whole}
 use Rattle.fieldset.specs.Tables.{at}
 use Rattle.fieldset.specs.Fields.{member}
 use Rattle.fieldset.proofs.Numbers.{clash}
 use Rattle.fieldset.proofs.Fields.{member-lt, member-only, member-without-other}
 use Rattle.ordering.specs.Walks.{Read as FieldRead, Walk as FieldWalk, one as fieldOne, more as fieldMore}
 use Rattle.ordering.proofs.Loops.{walk-loop}
-use Rattle.panel.specs.declared.Link.{Link}
 use Rattle.panel.specs.declared.Panel.{Panel}
 use Rattle.panel.specs.Items.{Item, link, stay, linkAt, inForce}
 use Rattle.panel.specs.Solution.{level, setterReads, planOf, isLooped, strengthOf}
+use Rattle.panel.specs.Commands.{planning, performed}
 use Rattle.panel.specs.Legal.{Formed}
 use Rattle.panel.proofs.Legal.{Carrying, LegalBut, used-small}
 use Rattle.panel.proofs.Setters.{outputs-inside, setter-reads-inside}
-use Rattle.optimality.specs.Condition3.{Store, levelIn, Pair, IsOutput, MaySet, Matching, upTo, held, IsCovered, Reads, Read, Walk, one, more, Loop, State, Optimal}
-use Rattle.optimality.specs.Agreement.{entryOf, Agrees, Sound}
-use Rattle.optimality.proofs.Lists.{all-in, all-map, Whole}
+use Rattle.optimality.specs.Condition3.{Store, levelIn, Pair, IsOutput, MaySet, Matching, countUpTo, held, IsCovered, Reads, Read, Walk, one, more, Loop, Optimal}
+use Rattle.optimality.specs.Agreement.{Agrees, Sound}
 use Rattle.optimality.proofs.Setters.{Graph}
-use Rattle.optimality.proofs.Matchings.{upTo-cong, pairs, pair-setter}
-use Rattle.optimality.proofs.Counting.{Fits}
-use Rattle.optimality.proofs.Required.{Matches, pairs-match, pairs-most}
+use Rattle.optimality.proofs.Matchings.{Fits, Matches, count-cong, pairs, pair-setter}
+use Rattle.optimality.proofs.Required.{pairs-match, pairs-most}
 use Rattle.optimality.proofs.Graphs.{graphOf, settersOf, legal-whole, assigned, none-unblocked}
 use Rattle.optimality.proofs.Held.{plan-whole, held-pairs}
-
--- ---- links in the store
-
-output-used : (l : Link) (f : ℕ) → IsOutput (entryOf l) f → (l .used ≡ true) × (member (l .outputs) f ≡ true)
-output-used l f m = go (l .used) refl m
-  where
-    go : (b : Bool) → l .used ≡ b → IsOutput (cond b (some (record { level = l .level; covered = l .covered; outputs = l .outputs })) none) f
-        → (l .used ≡ true) × (member (l .outputs) f ≡ true)
-    go true e m = (e, m)
-    go false e m = absurd m
-
-covered-used : (l : Link) (f : ℕ) → IsCovered (entryOf l) f → (l .used ≡ true) × (member (l .covered) f ≡ true)
-covered-used l f m = go (l .used) refl m
-  where
-    go : (b : Bool) → l .used ≡ b → IsCovered (cond b (some (record { level = l .level; covered = l .covered; outputs = l .outputs })) none) f
-        → (l .used ≡ true) × (member (l .covered) f ≡ true)
-    go true e m = (e, m)
-    go false e m = absurd m
+use Rattle.optimality.proofs.Agreement.{entry-used}
 
 -- ---- matchings over the store
 
@@ -55,7 +36,7 @@ module _ {b : Store} {p : Panel} {o : Item} (h : Carrying o p) (a : Agrees b p) 
 
   may-fits : (c : Item) (f : ℕ) → MaySet b c f → Fits (graphOf p) (record { item = c; field = f })
   may-fits (link i) f m =
-      let (u, k) = output-used (linkAt (p .links) i) f (rw (a .links i) at m) in
+      let (u, k) = entry-used (λ e. IsOutput e f) (λ n. n) (linkAt (p .links) i) (rw (a .links i) at m) in
       let l : f < 64 = member-lt (linkAt (p .links) i .outputs) (formed i u .outputs-small) f k in
       record { force = u; below = outputs-inside (p .size) (p .links) (h .filled) (link i) f u l k; may = k }
   may-fits (stay g) f m =
@@ -91,16 +72,16 @@ module _ {b : Store} {p : Panel} {o : Item} (h : Carrying o p) (a : Agrees b p) 
   level-agrees (link i) u = rw (a .links i, u)
   level-agrees (stay f) u = ap (λ (k : ℕ). 16 + k) (a .places f (ltb-true f (p .size) u))
 
-  pub upTo-agrees : (L : ℕ) (xs : List Pair) → Matches (graphOf p) xs → upTo (levelIn b) L xs ≡ upTo (level p) L xs
-  upTo-agrees L xs m =
-      upTo-cong (levelIn b) (level p) L xs
+  pub count-agrees : (L : ℕ) (xs : List Pair) → Matches (graphOf p) xs → countUpTo (levelIn b) L xs ≡ countUpTo (level p) L xs
+  count-agrees L xs m =
+      count-cong (levelIn b) (level p) L xs
       (all-map (Fits (graphOf p)) (λ x. levelIn b (x .item) ≡ level p (x .item)) (λ x fits. level-agrees (x .item) (fits .force)) xs (m .fits))
 
   -- ---- reads
 
   read-field : (f g : ℕ) (c : Item) → g < p .size → settersOf p g ≡ c → Reads b c g f → FieldRead (setterReads p) (p .size) f g
   read-field f g (link i) l e r =
-      let (u, k) = covered-used (linkAt (p .links) i) f (rw (a .links i) at (r .0)) in
+      let (u, k) = entry-used (λ e. IsCovered e f) (λ n. n) (linkAt (p .links) i) (rw (a .links i) at (r .0)) in
       let lf : f < 64 = member-lt (linkAt (p .links) i .covered) (formed i u .small) f k in
       let m : member (setterReads p g) f ≡ true = rw e (member-without-other (linkAt (p .links) i .covered) g f lf (r .1) ∙ k) in
       record { from = setter-reads-inside p o h .inside g f l lf m; to = l; reads-it = m }
@@ -121,38 +102,31 @@ module _ {b : Store} {p : Panel} {o : Item} (h : Carrying o p) (a : Agrees b p) 
     no-loop loopless x =
         clash (walk-loop (setterReads p) (p .size) (h .few) (record { field = x .field; walk = walk-of (x .field) (x .field) (x .walk) })) loopless
 
--- ---- a sound state
+-- ---- a sound panel
 
-module _ (s : State) (x : Sound s) where
-  abbrev p : Panel
-  p = s .panel
-
+module _ {b : Store} {p : Panel} (x : Sound b p) where
   abbrev G : Graph
   G = graphOf p
 
   k : LegalBut (stay (p .size)) p
   k = legal-whole p (x .legal)
 
-  sound-matches : Matches G (held p)
-  sound-matches = rw (held-pairs p (x .legal)) (pairs-match G (settersOf p) (planOf p) (plan-whole p (x .legal)) (assigned k))
+  whole : Whole (p .size) (planOf p)
+  whole = plan-whole p (x .legal .few) (x .legal .loopless)
 
-  sound-most : (L : ℕ) (xs : List Pair) → Matches G xs → upTo (G .lev) L xs ≤ upTo (G .lev) L (held p)
-  sound-most L xs m =
-      rw (held-pairs p (x .legal))
-      (pairs-most G (settersOf p) (planOf p) (plan-whole p (x .legal)) (strengthOf p) (none-unblocked k (x .unblocked)) L xs m)
-
-  pub sound-optimal : Optimal s
+  pub sound-optimal : Optimal b (performed p planning .reply)
   sound-optimal =
       record {
         most = most;
-        matching = matches-matching (k .carrying) (x .agrees) (held p) sound-matches;
-        loopless = rw (held-pairs p (x .legal)) (no-loop (k .carrying) (x .agrees) (planOf p) (plan-whole p (x .legal)) (x .legal .loopless));
+        matching = rw (held-pairs p (x .legal)) (matches-matching (k .carrying) (x .agrees) (pairs (settersOf p) (planOf p)) matches);
+        loopless = rw (held-pairs p (x .legal)) (no-loop (k .carrying) (x .agrees) (planOf p) whole (x .legal .loopless));
       }
     where
-      same : (L : ℕ) (xs : List Pair) → Matches G xs → upTo (levelIn (s .store)) L xs ≡ upTo (G .lev) L xs
-      same = upTo-agrees (k .carrying) (x .agrees)
+      matches : Matches G (pairs (settersOf p) (planOf p))
+      matches = pairs-match G (settersOf p) (planOf p) whole (assigned (k .carrying))
 
-      most : (L : ℕ) (xs : List Pair) → Matching (s .store) xs → upTo (levelIn (s .store)) L xs ≤ upTo (levelIn (s .store)) L (held p)
-      most L xs m =
-          let n = matching-matches (k .carrying) (x .agrees) xs m in
-          rw (same L xs n, same L (held p) sound-matches) (sound-most L xs n)
+      most : (L : ℕ) (ys : List Pair) → Matching b ys → countUpTo (levelIn b) L ys ≤ countUpTo (levelIn b) L (held (performed p planning .reply))
+      most L ys m =
+          let n = matching-matches (k .carrying) (x .agrees) ys m in
+          rw (held-pairs p (x .legal), count-agrees (k .carrying) (x .agrees) L ys n, count-agrees (k .carrying) (x .agrees) L (pairs (settersOf p) (planOf p)) matches)
+          (pairs-most G (settersOf p) (planOf p) whole (strengthOf p) (none-unblocked k (x .unblocked)) L ys n)

@@ -7,9 +7,9 @@ use mathlib.Core.Logic.{_≢_, _⊎_, inl, inr}
 use native.Mathlib.Nat.{le-refl}
 use native.Mathlib.Decide.{ℕ-discrete}
 use native.Mathlib.Omega.{arith}
+use Rattle.fieldset.specs.Lists.{Distinct}
 use Rattle.panel.specs.Items.{Item}
 use Rattle.panel.proofs.Turn.{put, put-here, put-there, turn}
-use Rattle.optimality.specs.Condition3.{Distinct}
 use Rattle.optimality.proofs.Setters.{Graph, Waits, Under, Potential, Free, Unblocked, under-trans, Chain, Reversible}
 use Rattle.optimality.proofs.Reversal.{chain-put, reversal-potential, reversal-waits}
 

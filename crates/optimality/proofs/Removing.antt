@@ -8,6 +8,8 @@ use native.Mathlib.Nat.{le-of-eq}
 use native.Mathlib.Omega.{arith}
 use borrow.Author.Tests.{eqb-true}
 use lib.ListN.{set}
+use Rattle.fieldset.specs.Lists.{All}
+use Rattle.fieldset.proofs.Lists.{all-in}
 use Rattle.fieldset.specs.Fields.{member, only}
 use Rattle.fieldset.proofs.Numbers.{clash}
 use Rattle.fieldset.proofs.Fields.{member-only, member-empty}
@@ -26,19 +28,18 @@ use Rattle.panel.proofs.Legal.{LegalBut}
 use Rattle.panel.proofs.Setters.{waits-idle}
 use Rattle.panel.proofs.Reversal.{blocking, startOf, legal-waits}
 use Rattle.panel.proofs.Changes.{legal-drop, legal-free}
-use Rattle.optimality.specs.Condition3.{All, Store, entered}
+use Rattle.optimality.specs.Condition3.{Store, entered}
 use Rattle.optimality.specs.Agreement.{Agrees, Sound}
-use Rattle.optimality.proofs.Lists.{all-in}
 use Rattle.optimality.proofs.Setters.{Graph, Waits, Free, Unblocked}
-use Rattle.optimality.proofs.Changes.{changed-potential, changed-free}
+use Rattle.optimality.proofs.Changes.{Change, changed-potential, changed-free}
 use Rattle.optimality.proofs.Removal.{struck-potential, removal-unblocked}
 use Rattle.optimality.proofs.Graphs.{graphOf, settersOf, legal-whole, strength-least, none-unblocked, free-unblocked, unblocked-free, blocked-waits}
-use Rattle.optimality.proofs.Turned.{path-start, path-reversible}
+use Rattle.optimality.proofs.Paths.{path-start, path-reversible}
 use Rattle.optimality.proofs.Agreement.{agrees-link}
 use Rattle.optimality.proofs.Least.{Least, least-blocked, item-listed}
-use Rattle.optimality.proofs.Steps.{state, SoundAfter, turned-sound, there, link-none}
+use Rattle.optimality.proofs.Steps.{SoundAfter, turned-sound, there, link-none}
 
-module _ (b : Store) (p : Panel) (x : Sound (state p b)) (id : ℕ) (lt : id < 128) (used : linkAt (p .links) id .used ≡ true) where
+module _ (b : Store) (p : Panel) (x : Sound b p) (id : ℕ) (lt : id < 128) (used : linkAt (p .links) id .used ≡ true) where
   gone : linkAt (set (p .links) id noLink) id ≡ noLink
   gone = link-here (p .links) id noLink (omega (arith, x .legal .links-length))
 
@@ -46,7 +47,7 @@ module _ (b : Store) (p : Panel) (x : Sound (state p b)) (id : ℕ) (lt : id < 1
   drop-agrees = agrees-link b p id noLink (omega (arith, x .legal .links-length)) (x .agrees)
 
   -- the link waits
-  drop-sound : linkAt (p .links) id .standing ≡ Waiting → Sound (state (withLink p id noLink) (entered b (removing id)))
+  drop-sound : linkAt (p .links) id .standing ≡ Waiting → Sound (entered b (removing id)) (withLink p id noLink)
   drop-sound e =
       record {
         legal = k;
@@ -89,42 +90,32 @@ module _ (b : Store) (p : Panel) (x : Sound (state p b)) (id : ℕ) (lt : id < 1
 
     -- ---- the graph with the link still in force, but without outputs
 
-    un₀ : Unblocked (graphOf p) (settersOf p) (strengthOf p)
-    un₀ = none-unblocked (legal-whole p (x .legal)) (x .unblocked)
-
-    lev-st : (f : ℕ) → f < p .size → level q (settersOf p f) ≤ level p (settersOf p f)
-    lev-st f l = go (same-item (settersOf p f) (link id))
-      where
-        go : Dec (settersOf p f ≡ link id) → level q (settersOf p f) ≤ level p (settersOf p f)
-        go (yes e) = rw e (omega (arith, ap (λ (l : Link). l .level) gone))
-        go (no e) = le-of-eq (there p id noLink (settersOf p f) e .1)
-
-    out-st : (f u : ℕ) → f < p .size → member (outputsOf (q .links) (settersOf p f)) u ≡ true → member (outputsOf (p .links) (settersOf p f)) u ≡ true
-    out-st f u l o = go (same-item (settersOf p f) (link id))
-      where
-        go : Dec (settersOf p f ≡ link id) → member (outputsOf (p .links) (settersOf p f)) u ≡ true
-        go (yes e) = absurd (clash (rw e at o) (ap (λ (l : Link). member (l .outputs) u) gone ∙ member-empty u))
-        go (no e) = rw (there p id noLink (settersOf p f) e .2) at o
-
-    others : (w : Item) → inForce (p .size) (p .links) w ≡ true → w ≢ link id
-        → (inForce (p .size) (p .links) w ≡ true)
-        × (level q w ≡ level p w)
-        × ((u : ℕ) → member (outputsOf (q .links) w) u ≡ member (outputsOf (p .links) w) u)
-    others w u ne = (u, there p id noLink w ne .1, λ v. ap (λ (m : ℕ). member m v) (there p id noLink w ne .2))
-
     abbrev before : Graph
     before = record { n = p .size; lev = level q; out = graphOf q .out; force = inForce (p .size) (p .links) }
 
-    un : Unblocked before (settersOf p) (strengthOf p)
-    un =
+    change : Change (graphOf p) before (settersOf p) (link id) (λ n. n)
+    change =
         record {
-          potential =
-              changed-potential (graphOf p) (settersOf p) (strengthOf p) un₀ (level q) (graphOf q .out) (inForce (p .size) (p .links)) (link id)
-              (λ n. n) (λ a b le. le) lev-st out-st others;
-          free = λ w h.
-              changed-free (graphOf p) (settersOf p) (strengthOf p) un₀ (level q) (graphOf q .out) (inForce (p .size) (p .links)) (link id)
-              (λ n. n) (λ a b le. le) lev-st out-st others w h (λ e. h .idle v v-below (v-setter ∙ sym e));
+          size = refl;
+          mono = λ a b le. le;
+          level = λ f l. lev-st (settersOf p f) (same-item (settersOf p f) (link id));
+          outs = λ f u l o. out-st (settersOf p f) u o (same-item (settersOf p f) (link id));
+          others = λ w u ne. (u, there p id noLink w ne .1, λ v o. rw (there p id noLink w ne .2) at o);
         }
+      where
+        lev-st : (w : Item) → Dec (w ≡ link id) → level q w ≤ level p w
+        lev-st w (yes e) = rw e (omega (arith, ap (λ (l : Link). l .level) gone))
+        lev-st w (no e) = le-of-eq (there p id noLink w e .1)
+
+        out-st : (w : Item) (u : ℕ) → member (outputsOf (q .links) w) u ≡ true → Dec (w ≡ link id) → member (outputsOf (p .links) w) u ≡ true
+        out-st w u o (yes e) = absurd (clash (rw e at o) (ap (λ (l : Link). member (l .outputs) u) gone ∙ member-empty u))
+        out-st w u o (no e) = rw (there p id noLink w e .2) at o
+
+    un : Unblocked before (settersOf p) (strengthOf p)
+    un = record { potential = changed-potential un₀ change; free = λ w h. changed-free un₀ change w h (λ e. h .idle v v-below (v-setter ∙ sym e)) }
+      where
+        un₀ : Unblocked (graphOf p) (settersOf p) (strengthOf p)
+        un₀ = none-unblocked (legal-whole p (x .legal)) (x .unblocked)
 
     stay-only : (u : ℕ) → u < p .size → member (only v) u ≡ true → u ≡ v
     stay-only u l o = eqb-true u v (sym (member-only v u (omega (arith, few))) ∙ o)

@@ -1,14 +1,13 @@
 -- A reversible path reversed: a potential stays one, what waits afterwards, and nothing is blocked.
 use Prim.Native.Nat.{ℕ, _<_}
-use mathlib.Core.Path.{_≡_, refl, sym, ap, _∙_}
-use mathlib.Core.Bool.{true}
+use mathlib.Core.Path.{_≡_, sym, ap, _∙_}
 use mathlib.Core.List.{List, [], _∷_}
 use mathlib.Core.Logic.{_≢_, _⊎_, inl, inr}
 use native.Mathlib.Decide.{ℕ-discrete}
+use Rattle.fieldset.specs.Lists.{Distinct}
 use Rattle.panel.specs.Items.{Item}
-use Rattle.panel.proofs.Turn.{same-item, put, put-here, put-there, turn}
-use Rattle.optimality.specs.Condition3.{All, Distinct}
-use Rattle.optimality.proofs.Setters.{Graph, Waits, Assigned, Under, Potential, Free, Unblocked, last, Chain, Reversible}
+use Rattle.panel.proofs.Turn.{same-item, put, put-here, put-there, turn, left, Off}
+use Rattle.optimality.proofs.Setters.{Graph, Waits, Under, Potential, Free, Unblocked, Chain, Reversible}
 
 -- ---- one field set anew
 
@@ -28,96 +27,44 @@ module _ (G : Graph) (st : ℕ → Item) (v : ℕ) (c : Item) where
       go f lf e (yes q) = ne (sym e ∙ ap st q)
       go f lf e (no q) = h .idle f lf (put-there st v c f q ∙ e)
 
-  put-assigned : Assigned G st → G .force c ≡ true → G .out c v ≡ true → ((f : ℕ) → f < G .n → st f ≢ c) → Assigned G (put st v c)
-  put-assigned a fc oc nc =
-      record {
-        force = λ f l. force f l (ℕ-discrete f v);
-        may = λ f l. may f l (ℕ-discrete f v);
-        single = λ f g lf lg e. single f g lf lg e (ℕ-discrete f v) (ℕ-discrete g v);
-      }
-    where
-      force : (f : ℕ) → f < G .n → Dec (f ≡ v) → G .force (put st v c f) ≡ true
-      force f l (yes q) = rw (q, put-here st v c) fc
-      force f l (no q) = rw (put-there st v c f q) (a .force f l)
-
-      may : (f : ℕ) → f < G .n → Dec (f ≡ v) → G .out (put st v c f) f ≡ true
-      may f l (yes q) = rw (q, put-here st v c) oc
-      may f l (no q) = rw (put-there st v c f q) (a .may f l)
-
-      single : (f g : ℕ) → f < G .n → g < G .n → put st v c f ≡ put st v c g → Dec (f ≡ v) → Dec (g ≡ v) → f ≡ g
-      single f g lf lg e (yes p) (yes q) = p ∙ sym q
-      single f g lf lg e (yes p) (no q) = absurd (nc g lg (sym (put-there st v c g q) ∙ sym e ∙ ap (put st v c) p ∙ put-here st v c))
-      single f g lf lg e (no p) (yes q) = absurd (nc f lf (sym (put-there st v c f p) ∙ e ∙ ap (put st v c) q ∙ put-here st v c))
-      single f g lf lg e (no p) (no q) = a .single f g lf lg (sym (put-there st v c f p) ∙ e ∙ put-there st v c g q)
-
-  -- where c waited, what stood at v is idle afterwards
-  put-idle : Assigned G st → v < G .n → ((f : ℕ) → f < G .n → st f ≢ c) → (f : ℕ) → f < G .n → put st v c f ≢ st v
-  put-idle a l nc f lf e = go (ℕ-discrete f v)
-    where
-      go : Dec (f ≡ v) → ⊥
-      go (yes q) = nc v l (sym e ∙ ap (put st v c) q ∙ put-here st v c)
-      go (no q) = q (a .single f v lf l (sym (put-there st v c f q) ∙ e))
-
 -- ---- along a path
 
 module _ (G : Graph) (s : ℕ → ℕ) (K : ℕ) where
   -- a path that does not meet v is one also when v is set anew
-  pub chain-put : (st : ℕ → Item) (v : ℕ) (d c : Item) (vs : List ℕ) → All (λ x. v ≢ x) vs → Chain G s K st c vs → Chain G s K (put st v d) c vs
+  pub chain-put : (st : ℕ → Item) (v : ℕ) (d c : Item) (vs : List ℕ) → Off v vs → Chain G s K st c vs → Chain G s K (put st v d) c vs
   unfolding Chain
   chain-put st v d c [] a ch = ch
   chain-put st v d c (x ∷ xs) a ch = (ch .0, rw (put-there st v d x (λ e. a .0 (sym e))) (chain-put st v d (st x) xs (a .1) (ch .1)))
 
-  last-put : (st : ℕ → Item) (v : ℕ) (d c : Item) (vs : List ℕ) → All (λ x. v ≢ x) vs → last (put st v d) c vs ≡ last st c vs
-  unfolding last
-  last-put st v d c [] a = refl
-  last-put st v d c (x ∷ xs) a = rw (put-there st v d x (λ e. a .0 (sym e))) (last-put st v d (st x) xs (a .1))
-
+  -- a potential stays one, and what is left over has level K, and outputs that are at most K
   turn-potential : (vs : List ℕ) (st : ℕ → Item) (c : Item) → Distinct vs → Chain G s K st c vs → Potential G st s → Under G s K c
-      → Potential G (turn st c vs) s
-  unfolding turn Chain
-  turn-potential [] st c d ch po un = po
+      → Potential G (turn st c vs) s × Under G s K (left st c vs) × (G .lev (left st c vs) ≡ K)
+  unfolding turn left Chain
+  turn-potential [] st c d ch po un = (po, un, ch)
   turn-potential (v ∷ vs) st c d ch po un =
       turn-potential vs (put st v c) (st v) (d .1) (chain-put st v c (st v) vs (d .0) (ch .1))
       (put-potential G st v c s po (rw (ch .0 .at-top) un)) (rw (← ch .0 .at-top) (po v (ch .0 .below)))
 
-  -- what waits at the end has level K, and its outputs are at most K
-  last-under : (vs : List ℕ) (st : ℕ → Item) (c : Item) → Chain G s K st c vs → Potential G st s → Under G s K c
-      → Under G s K (last st c vs) × (G .lev (last st c vs) ≡ K)
-  unfolding last Chain
-  last-under [] st c ch po un = (un, ch)
-  last-under (v ∷ vs) st c ch po un = last-under vs st (st v) (ch .1) po (rw (← ch .0 .at-top) (po v (ch .0 .below)))
-
   -- anything else that waits afterwards waited before and is not c
   turn-waits : (vs : List ℕ) (st : ℕ → Item) (c : Item) → Distinct vs → Chain G s K st c vs → (w : Item) → Waits G (turn st c vs) w
-      → w ≢ last st c vs → Waits G st w × (w ≢ c)
-  unfolding turn last Chain
+      → w ≢ left st c vs → Waits G st w × (w ≢ c)
+  unfolding turn left Chain
   turn-waits [] st c d ch w h ne = (h, ne)
   turn-waits (v ∷ vs) st c d ch w h ne =
-      let (a, b) = turn-waits vs (put st v c) (st v) (d .1) (chain-put st v c (st v) vs (d .0) (ch .1)) w h (λ e. ne (e ∙ last-put st v c (st v) vs (d .0))) in
+      let (a, b) = turn-waits vs (put st v c) (st v) (d .1) (chain-put st v c (st v) vs (d .0) (ch .1)) w h ne in
       put-waits G st v c w (ch .0 .below) a b
-
-  turn-assigned : (vs : List ℕ) (st : ℕ → Item) (c : Item) → Distinct vs → Chain G s K st c vs → Assigned G st → G .force c ≡ true
-      → ((f : ℕ) → f < G .n → st f ≢ c) → Assigned G (turn st c vs)
-  unfolding turn Chain
-  turn-assigned [] st c d ch a fc nc = a
-  turn-assigned (v ∷ vs) st c d ch a fc nc =
-      turn-assigned vs (put st v c) (st v) (d .1) (chain-put st v c (st v) vs (d .0) (ch .1))
-      (put-assigned G st v c a fc (ch .0 .may) nc) (a .force v (ch .0 .below)) (put-idle G st v c a (ch .0 .below) nc)
 
 module _ {G : Graph} {st : ℕ → Item} {s : ℕ → ℕ} {K : ℕ} {c : Item} {vs : List ℕ} (r : Reversible G st s K c vs) where
   -- what waits afterwards: the setter of the last field, which has level K and outputs that are at most K, or what waited before and is not c
   pub reversal-waits : (w : Item) → Waits G (turn st c vs) w → ((G .lev w ≡ K) × Under G s K w) ⊎ (Waits G st w × (w ≢ c))
-  reversal-waits w h = go (same-item w (last st c vs))
+  reversal-waits w h = go (same-item w (left st c vs))
     where
-      go : Dec (w ≡ last st c vs) → ((G .lev w ≡ K) × Under G s K w) ⊎ (Waits G st w × (w ≢ c))
-      go (yes e) = let (a, b) = last-under G s K vs st c (r .chain) (r .potential) (r .under) in inl (rw e (b, a))
+      go : Dec (w ≡ left st c vs) → ((G .lev w ≡ K) × Under G s K w) ⊎ (Waits G st w × (w ≢ c))
+      go (yes e) = let (p, a, b) = turn-potential G s K vs st c (r .distinct) (r .chain) (r .potential) (r .under) in inl (rw e (b, a))
       go (no e) = inr (turn-waits G s K vs st c (r .distinct) (r .chain) w h e)
 
   pub reversal-potential : Potential G (turn st c vs) s
-  reversal-potential = turn-potential G s K vs st c (r .distinct) (r .chain) (r .potential) (r .under)
-
-  pub reversal-assigned : Assigned G st → Waits G st c → Assigned G (turn st c vs)
-  reversal-assigned a w = turn-assigned G s K vs st c (r .distinct) (r .chain) a (w .force) (w .idle)
+  reversal-potential = turn-potential G s K vs st c (r .distinct) (r .chain) (r .potential) (r .under) .0
 
   -- nothing but c was blocked: nothing is blocked
   pub reversal-unblocked : ((w : Item) → Waits G st w → w ≢ c → Free G s w) → Unblocked G (turn st c vs) s

@@ -2,7 +2,7 @@
 use Prim.Native.Nat.{ℕ, _≤_, _<_, zero-le}
 use mathlib.Core.Path.{_≡_, refl, ap, _∙_}
 use mathlib.Core.Bool.{Bool, true, false}
-use mathlib.Core.List.{List, [], _∷_}
+use mathlib.Core.List.{[], _∷_}
 use mathlib.Core.Option.{none}
 use native.Mathlib.Omega.{arith}
 use borrow.Author.Tests.{ltb-true}
@@ -20,14 +20,14 @@ use Rattle.panel.proofs.Turn.{setter-stay}
 use Rattle.panel.proofs.Legal.{used-small}
 use Rattle.panel.proofs.Changes.{legal-opened}
 use Rattle.panel.proofs.Checks.{openable, addable, removable, touchable}
-use Rattle.optimality.specs.Condition3.{Store, empty, entered, State, start, next, after, Condition3}
-use Rattle.optimality.specs.Agreement.{entryOf, Sound, EveryStart}
+use Rattle.optimality.specs.Condition3.{Store, empty, entered, System, Run, stepped, after, AfterEveryList, panels, start, Condition3}
+use Rattle.optimality.specs.Agreement.{entryOf, EverySystem, Sound, EveryStart}
 use Rattle.optimality.proofs.Setters.{Waits}
 use Rattle.optimality.proofs.Graphs.{graphOf, settersOf, legal-whole, free-unblocked}
 use Rattle.optimality.proofs.Answers.{checked-answer}
 use Rattle.optimality.proofs.Optimum.{sound-optimal}
 use Rattle.optimality.proofs.Agreement.{agrees-opened, default-link}
-use Rattle.optimality.proofs.Steps.{state, SoundAfter, add-sound, touch-sound}
+use Rattle.optimality.proofs.Steps.{SoundAfter, add-sound, touch-sound}
 use Rattle.optimality.proofs.Removing.{remove-sound}
 
 -- ---- opening
@@ -40,7 +40,7 @@ opened-idle n few (stay f) w =
     let l : f < n = ltb-true f n (w .force) in
     w .idle f l (setter-stay (replicate 64 128) f (omega (arith, getD-replicate {A = ℕ} 64 f 128 0 (omega arith))))
 
-opened-sound : (b : Store) (n : ℕ) → n ≤ 64 → ((i : ℕ) → b .links i ≡ none) → Sound (state (opened n) (entered b (opening n)))
+opened-sound : (b : Store) (n : ℕ) → n ≤ 64 → ((i : ℕ) → b .links i ≡ none) → Sound (entered b (opening n)) (opened n)
 opened-sound b n few no-links =
     record {
       legal = legal-opened n few;
@@ -49,7 +49,7 @@ opened-sound b n few no-links =
     }
 
 -- an unopened panel has no links
-no-links : (b : Store) (p : Panel) → Sound (state p b) → p .size ≡ 0 → (i : ℕ) → b .links i ≡ none
+no-links : (b : Store) (p : Panel) → Sound b p → p .size ≡ 0 → (i : ℕ) → b .links i ≡ none
 no-links b p x e i = x .agrees .links i ∙ go (linkAt (p .links) i .used) refl
   where
     go : (u : Bool) → linkAt (p .links) i .used ≡ u → entryOf (linkAt (p .links) i) ≡ none
@@ -62,7 +62,7 @@ no-links b p x e i = x .agrees .links i ∙ go (linkAt (p .links) i .used) refl
 
 -- ---- the commands
 
-pub performed-sound : (b : Store) (p : Panel) (c : Command) → Sound (state p b) → SoundAfter b c (performed p c)
+pub performed-sound : (b : Store) (p : Panel) (c : Command) → Sound b p → SoundAfter b c (performed p c)
 unfolding planStep
 performed-sound b p (opening n) x =
     checked-answer (SoundAfter b (opening n)) p (openChecks p n) (openStep n) (x, (x, tt))
@@ -79,17 +79,32 @@ performed-sound b p planning x = checked-answer (SoundAfter b planning) p (planC
 
 -- ---- lists of commands
 
-pub after-sound : (commands : List Command) (s : State) → Sound s → Sound (after s commands)
-unfolding after next
-after-sound [] s x = x
-after-sound (c ∷ cs) s x = after-sound cs (next s c) (performed-sound (s .store) (s .panel) c x)
+-- what every command keeps holds after every list of them
+pub kept-after : (S : System) (P : Run S → Type 0) → ((r : Run S) (c : S .Command) → P r → P (stepped S r c)) → (r : Run S) → P r
+    → AfterEveryList S r P
+unfolding after
+kept-after S P kept r h [] = h
+kept-after S P kept r h (c ∷ cs) = kept-after S P kept (stepped S r c) (kept r c h) cs
 
-pub start-sound : Sound start
+pub every-system : EverySystem
+every-system S Good kept optimal r h commands = optimal (after S r commands) (kept-after S Good kept r h commands)
+
+abbrev SoundRun : Run panels → Type 0
+SoundRun r = Sound (r .store) (r .state)
+
+sound-kept : (r : Run panels) (c : Command) → SoundRun r → SoundRun (stepped panels r c)
+unfolding stepped
+sound-kept r c x = performed-sound (r .store) (r .state) c x
+
+start-sound : Sound empty (opened 0)
 unfolding tabulate
 start-sound = opened-sound empty 0 zero-le (λ i. refl)
 
+pub after-sound : AfterEveryList panels start SoundRun
+after-sound = kept-after panels SoundRun sound-kept start start-sound
+
 pub every-start : EveryStart
-every-start s x commands = sound-optimal (after s commands) (after-sound commands s x)
+every-start = every-system panels SoundRun sound-kept (λ r x. sound-optimal x)
 
 pub condition-3 : Condition3
-condition-3 commands = every-start start start-sound commands
+condition-3 = every-start start start-sound

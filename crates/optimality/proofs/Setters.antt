@@ -5,8 +5,8 @@ use mathlib.Core.Bool.{Bool, true}
 use mathlib.Core.List.{List, [], _∷_}
 use mathlib.Core.Logic.{_≢_}
 use native.Mathlib.Nat.{le-trans}
+use Rattle.fieldset.specs.Lists.{Distinct}
 use Rattle.panel.specs.Items.{Item}
-use Rattle.optimality.specs.Condition3.{Distinct}
 
 -- n fields; of an item its level, which fields it may set, and whether it is in force
 pub record Graph : Type 0 where
@@ -50,11 +50,6 @@ pub under-trans : (G : Graph) (s : ℕ → ℕ) (a b : ℕ) (c : Item) → a ≤
 under-trans G s a b c h un = record { level = le-trans (un .level) h; outs = λ u lu ou. le-trans (un .outs u lu ou) h }
 
 -- ---- paths
-
--- what waits when the path is reversed: the setter of the last field
-unfoldable pub last : (ℕ → Item) → Item → List ℕ → Item
-last st c [] = c
-last st c (v ∷ vs) = last st (st v) vs
 
 -- c may set v, where s is K, and is below K
 pub record Step (G : Graph) (s : ℕ → ℕ) (K : ℕ) (c : Item) (v : ℕ) : Type 0 where

@@ -1,7 +1,7 @@
 -- A sound state stays sound through Add and Touch: their changes, and a reversal after one.
 use Prim.Native.Nat.{ℕ, _+_, _≤_, _<_}
 use mathlib.Core.Path.{_≡_, refl, sym, ap, _∙_}
-use mathlib.Core.Bool.{Bool, true, false}
+use mathlib.Core.Bool.{Bool, true, false, cond}
 use mathlib.Core.List.{List}
 use mathlib.Core.Logic.{_≢_}
 use native.Mathlib.Nat.{le-of-eq}
@@ -10,7 +10,6 @@ use borrow.Author.Tests.{eq-eqb, ne-eqb, eqb-false, ltb-true}
 use lib.Dec.{eqb}
 use lib.ListN.{set}
 use Rattle.fieldset.specs.Tables.{at, tabulate}
-use Rattle.fieldset.specs.Fields.{member}
 use Rattle.fieldset.proofs.Numbers.{clash}
 use Rattle.fieldset.proofs.Tables.{getD-tabulate}
 use Rattle.panel.specs.declared.Link.{Link}
@@ -29,27 +28,24 @@ use Rattle.panel.proofs.Setters.{setter-force}
 use Rattle.panel.proofs.Reversal.{blocking, legal-waits, legal-reversed}
 use Rattle.panel.proofs.Changes.{legal-add, legal-but, legal-front}
 use Rattle.panel.proofs.Checks.{newLink, Addable}
-use Rattle.optimality.specs.Condition3.{Store, entered, fed, State}
+use Rattle.optimality.specs.Condition3.{Store, entered}
 use Rattle.optimality.specs.Agreement.{Agrees, Sound}
 use Rattle.optimality.proofs.Setters.{Waits, Free, Unblocked}
 use Rattle.optimality.proofs.Answers.{pick}
-use Rattle.optimality.proofs.Changes.{free-le, changed-potential, changed-free, pushed, pushed-mono, pushed-ge, pushed-link, pushed-stay}
+use Rattle.optimality.proofs.Changes.{free-le, Change, changed-potential, changed-free, pushed, pushed-mono, pushed-ge, pushed-link, pushed-stay}
 use Rattle.optimality.proofs.Reversal.{reversal-unblocked}
 use Rattle.optimality.proofs.Graphs.{graphOf, settersOf, legal-whole, strength-least, none-unblocked, free-unblocked}
-use Rattle.optimality.proofs.Turned.{path-reversible, after-none}
+use Rattle.optimality.proofs.Paths.{path-reversible, after-none}
 use Rattle.optimality.proofs.Agreement.{agrees-alike, agrees-link, agrees-front}
 
-abbrev pub state : Panel → Store → State
-state p b = record { panel = p; store = b }
-
--- the state after an answer to a command is sound
+-- panel and store are sound after an answer to a command
 abbrev pub SoundAfter : Store → Command → Answer → Type 0
-SoundAfter b c a = Sound (state (a .panel) (fed b c (isRefusal (a .reply))))
+SoundAfter b c a = Sound (cond (isRefusal (a .reply)) b (entered b c)) (a .panel)
 
 -- ---- a reversal
 
 -- the panel p becomes q, where c is blocked and goes in
-pub turned-sound : (b : Store) (cmd : Command) (p q : Panel) (c : Item) → Sound (state p b) → LegalBut c q → isBlocked q c ≡ true
+pub turned-sound : (b : Store) (cmd : Command) (p q : Panel) (c : Item) → Sound b p → LegalBut c q → isBlocked q c ≡ true
     → Agrees (entered b cmd) q
     → (s : ℕ → ℕ) → Unblocked (graphOf q) (turn (settersOf q) c (pathFor q c)) s → SoundAfter b cmd (turned p q c)
 unfolding turned
@@ -71,27 +67,15 @@ turned-sound b cmd p q c x k bl a s un = go (isLooped r) refl
 
 -- ---- links and places change around c
 
-module _ (p : Panel) (h : Legal p) (none : (d : Item) → isBlocked p d ≡ false) (L : List Link) (P : List ℕ) (c : Item) (ρ : ℕ → ℕ)
-    (mono : (a b : ℕ) → a ≤ b → ρ a ≤ ρ b)
-    (lev-st : (f : ℕ) → f < p .size → levelOf L P (settersOf p f) ≤ ρ (level p (settersOf p f)))
-    (out-st : (f u : ℕ) → f < p .size → member (outputsOf L (settersOf p f)) u ≡ true → member (outputsOf (p .links) (settersOf p f)) u ≡ true)
-    (others : (w : Item) → inForce (p .size) L w ≡ true → w ≢ c
-    → (inForce (p .size) (p .links) w ≡ true)
-    × (levelOf L P w ≡ ρ (level p w))
-    × ((u : ℕ) → member (outputsOf L w) u ≡ member (outputsOf (p .links) w) u)) where
-  abbrev q : Panel
-  q = record { size = p .size; links = L; place = P; setter = p .setter }
-
-  un : Unblocked (graphOf p) (settersOf p) (strengthOf p)
-  un = none-unblocked (legal-whole p h) none
-
-  -- nothing but c is blocked
-  pub change-free : {d : Item} → LegalBut d q → (w : Item) → Waits (graphOf q) (settersOf q) w → w ≢ c → Free (graphOf q) (strengthOf q) w
-  change-free k w hw ne =
-      free-le (graphOf q) (λ f. ρ (strengthOf p f)) (strengthOf q) w
-      (strength-least k (λ f. ρ (strengthOf p f))
-      (changed-potential (graphOf p) (settersOf p) (strengthOf p) un (level q) (graphOf q .out) (graphOf q .force) c ρ mono lev-st out-st others))
-      (changed-free (graphOf p) (settersOf p) (strengthOf p) un (level q) (graphOf q .out) (graphOf q .force) c ρ mono lev-st out-st others w hw ne)
+-- nothing but c is blocked
+pub change-free : {p q : Panel} {c d : Item} {ρ : ℕ → ℕ} → Legal p → ((d : Item) → isBlocked p d ≡ false)
+    → Change (graphOf p) (graphOf q) (settersOf q) c ρ → settersOf q ≡ settersOf p → LegalBut d q
+    → (w : Item) → Waits (graphOf q) (settersOf q) w → w ≢ c → Free (graphOf q) (strengthOf q) w
+change-free {p} {q} {c} {d} {ρ} h none ch same k w hw ne =
+    free-le (graphOf q) (λ f. ρ (strengthOf p f)) (strengthOf q) w (strength-least k (λ f. ρ (strengthOf p f)) (changed-potential un ch)) (changed-free un ch w hw ne)
+  where
+    un : Unblocked (graphOf p) (settersOf q) (strengthOf p)
+    un = rw same (none-unblocked (legal-whole p h) none)
 
 -- ---- the link of a number changes
 
@@ -111,11 +95,17 @@ module _ (p : Panel) (h : Legal p) (none : (d : Item) → isBlocked p d ≡ fals
     (idle : (f : ℕ) → f < p .size → settersOf p f ≢ link id) where
   pub link-free : {d : Item} → LegalBut d (withLink p id l) → (w : Item) → Waits (graphOf (withLink p id l)) (settersOf p) w → w ≢ link id
       → Free (graphOf (withLink p id l)) (strengthOf (withLink p id l)) w
-  link-free =
-      change-free p h none (set (p .links) id l) (p .place) (link id) (λ x. x) (λ a b le. le)
-      (λ f lf. le-of-eq (there p id l (settersOf p f) (idle f lf) .1))
-      (λ f u lf o. rw (there p id l (settersOf p f) (idle f lf) .2) at o)
-      (λ w u ne. (sym (there p id l w ne .0) ∙ u, there p id l w ne .1, λ v. ap (λ (m : ℕ). member m v) (there p id l w ne .2)))
+  link-free = change-free h none change refl
+    where
+      change : Change (graphOf p) (graphOf (withLink p id l)) (settersOf p) (link id) (λ x. x)
+      change =
+          record {
+            size = refl;
+            mono = λ a b le. le;
+            level = λ f lf. le-of-eq (there p id l (settersOf p f) (idle f lf) .1);
+            outs = λ f u lf o. rw (there p id l (settersOf p f) (idle f lf) .2) at o;
+            others = λ w u ne. (sym (there p id l w ne .0) ∙ u, there p id l w ne .1, λ v o. rw (there p id l w ne .2) at o);
+          }
 
   -- nothing is blocked where the new link is not
   pub link-none : {d : Item} → LegalBut d (withLink p id l) → isBlocked (withLink p id l) (link id) ≡ false → (w : Item)
@@ -128,7 +118,7 @@ module _ (p : Panel) (h : Legal p) (none : (d : Item) → isBlocked p d ≡ fals
 
 -- ---- Add
 
-module _ (b : Store) (p : Panel) (x : Sound (state p b)) (id level : ℕ) (bytes : List ℕ) (a : Addable p id level bytes) where
+module _ (b : Store) (p : Panel) (x : Sound b p) (id level : ℕ) (bytes : List ℕ) (a : Addable p id level bytes) where
   abbrev added : Panel
   added = withLink p id (newLink level bytes)
 
@@ -166,7 +156,7 @@ module _ (b : Store) (p : Panel) (x : Sound (state p b)) (id level : ℕ) (bytes
 
 -- ---- Touch
 
-module _ (b : Store) (p : Panel) (x : Sound (state p b)) (f : ℕ) (lf : f < p .size) where
+module _ (b : Store) (p : Panel) (x : Sound b p) (f : ℕ) (lf : f < p .size) where
   abbrev front : Panel
   front = toFront p f
 
@@ -201,11 +191,17 @@ module _ (b : Store) (p : Panel) (x : Sound (state p b)) (f : ℕ) (lf : f < p .
   front-free : {d : Item} → LegalBut d front → (w : Item) → Waits (graphOf front) (settersOf front) w → w ≢ stay f
       → Free (graphOf front) (strengthOf front) w
   unfolding toFront
-  front-free =
-      change-free p (x .legal) (x .unblocked) (p .links) (tabulate (placeAfter (p .place) f) 64) (stay f) (pushed q₀) (pushed-mono q₀)
-      (λ g l. front-le (settersOf p g) (setter-force p (stay (p .size)) (legal-whole p (x .legal) .carrying) g l))
-      (λ g u l o. o)
-      (λ w u ne. (u, front-level w u ne, λ v. refl))
+  front-free = change-free (x .legal) (x .unblocked) change refl
+    where
+      change : Change (graphOf p) (graphOf front) (settersOf p) (stay f) (pushed q₀)
+      change =
+          record {
+            size = refl;
+            mono = pushed-mono q₀;
+            level = λ g l. front-le (settersOf p g) (setter-force p (stay (p .size)) (legal-whole p (x .legal) .carrying) g l);
+            outs = λ g u l o. o;
+            others = λ w u ne. (u, front-level w u ne, λ v o. o);
+          }
 
   pub touch-sound : SoundAfter b (touching f) (touchStep p f)
   unfolding touchStep

@@ -1,48 +1,22 @@
 -- Condition 3 of the tender: after every list of commands nobody can hold more than the panel. Quotations are of document 01 ("What condition 3
 -- compares", if not of its other parts), or of the tender where that is said. The panel is met only through its replies: nothing here depends on
 -- strengths, on what a legal panel is or on the panel's own record.
-use Prim.Native.Nat.{ℕ, suc, _+_, _≤_}
+use Prim.Native.Nat.{ℕ, _+_, _≤_}
 use mathlib.Core.Path.{_≡_}
-use mathlib.Core.Logic.{_≢_, _⊎_}
-use mathlib.Core.Bool.{Bool, true, false, cond}
-use mathlib.Core.List.{List, [], _∷_}
+use mathlib.Core.Logic.{_≢_}
+use mathlib.Core.Bool.{true, cond}
+use mathlib.Core.List.{List, [], _∷_, map}
 use mathlib.Core.Option.{Option, none, some}
 use lib.Dec.{eqb, leb}
-use lib.ListN.{drop}
+use lib.ListN.{length, drop}
 use Rattle.fieldset.specs.Tables.{tabulate}
+use Rattle.fieldset.specs.Lists.{In, All, Distinct, passing, place}
 use Rattle.fieldset.specs.Fields.{member}
 use Rattle.panel.specs.declared.Panel.{Panel}
 use Rattle.panel.specs.Items.{Item, link, stay}
 use Rattle.panel.specs.Answers.{isRefusal}
 use Rattle.panel.specs.Panels.{opened}
 use Rattle.panel.specs.Commands.{Command, opening, adding, removing, touching, planning, performed, coveredIn, outputsIn}
-
--- ---- lists
-
--- x stands in the list
-abbrev pub In : {A : Type 0} → A → List A → Type 0
-In x [] = ⊥
-In x (y ∷ ys) = (x ≡ y) ⊎ In x ys
-
--- every entry of the list has the property
-abbrev pub All : {A : Type 0} → (A → Type 0) → List A → Type 0
-All P [] = Unit {0}
-All P (x ∷ xs) = P x × All P xs
-
--- no entry stands twice
-abbrev pub Distinct : {A : Type 0} → List A → Type 0
-Distinct [] = Unit {0}
-Distinct (x ∷ xs) = All (λ y. x ≢ y) xs × Distinct xs
-
--- the list with the first f in it struck out
-unfoldable pub strike : ℕ → List ℕ → List ℕ
-strike f [] = []
-strike f (g ∷ gs) = cond (eqb g f) gs (g ∷ strike f gs)
-
--- the place of f in the list, from 0
-unfoldable pub place : List ℕ → ℕ → ℕ
-place [] f = 0
-place (g ∷ gs) f = cond (eqb g f) 0 (suc (place gs f))
 
 -- ---- the constraint store (document 01's book)
 
@@ -65,6 +39,12 @@ empty = record { stays = []; links = λ i. none }
 abbrev pub entry : Store → ℕ → Option Entry → Store
 entry b id e = record { stays = b .stays; links = λ i. cond (eqb i id) e (b .links i) }
 
+-- the list with the first f in it struck out
+unfoldable pub strike : ℕ → List ℕ → List ℕ
+strike f [] = []
+strike f (g ∷ gs) = cond (eqb g f) gs (g ∷ strike f gs)
+
+-- what a command that is not refused changes in the store
 abbrev pub entered : Store → Command → Store
 -- "Opening enters the stays of fields 0 to n - 1, in that order"
 entered b (opening n) = record { stays = tabulate (λ f. f) n; links = b .links }
@@ -76,11 +56,6 @@ entered b (removing id) = entry b id none
 entered b (touching f) = record { stays = f ∷ strike f (b .stays); links = b .links }
 -- "A refused command and a plan change nothing in it"
 entered b planning = b
-
--- "It is fed the commands and, for each, whether it was refused"
-abbrev pub fed : Store → Command → Bool → Store
-fed b c true = b
-fed b c false = entered b c
 
 abbrev pub levelOf : Option Entry → ℕ
 levelOf none = 0
@@ -99,12 +74,10 @@ pub record Pair : Type 0 where
   pub field : ℕ
 
 abbrev pub items : List Pair → List Item
-items [] = []
-items (x ∷ xs) = x .item ∷ items xs
+items = map (λ x. x .item)
 
 abbrev pub fields : List Pair → List ℕ
-fields [] = []
-fields (x ∷ xs) = x .field ∷ fields xs
+fields = map (λ x. x .field)
 
 abbrev pub IsOutput : Option Entry → ℕ → Type 0
 IsOutput none f = ⊥
@@ -122,11 +95,10 @@ pub record Matching (b : Store) (xs : List Pair) : Type 0 where
   pub fields-once : Distinct (fields xs)
 
 -- "Its count up to level L is the number of those taken whose level in the book is at most L"
-unfoldable pub upTo : (Item → ℕ) → ℕ → List Pair → ℕ
-upTo level L [] = 0
-upTo level L (x ∷ xs) = cond (leb (level (x .item)) L) (suc (upTo level L xs)) (upTo level L xs)
+unfoldable pub countUpTo : (Item → ℕ) → ℕ → List Pair → ℕ
+countUpTo level L xs = length (passing (λ c. leb (level c) L) (items xs))
 
--- ---- what the panel holds
+-- ---- what is held
 
 -- "n times field, setter (link number, or 80 for the stay), strength"
 unfoldable pub rows : List ℕ → List Pair
@@ -136,11 +108,9 @@ rows (f ∷ c ∷ []) = []
 rows (f ∷ c ∷ s ∷ rest) = record { item = cond (eqb c 0x80) (stay f) (link c); field = f } ∷ rows rest
 
 -- "What the panel holds is read from what Plan answers right after the list, each setter with its field; while unopened it holds nothing":
--- the reply is a refusal, or 00 n and the rows
-unfoldable pub held : Panel → List Pair
-held p =
-    let reply = performed p planning .reply in
-    cond (isRefusal reply) [] (rows (drop 2 reply))
+-- the answer is a refusal, or 00 n and the rows
+unfoldable pub held : List ℕ → List Pair
+held plan = cond (isRefusal plan) [] (rows (drop 2 plan))
 
 -- ---- loops
 
@@ -169,37 +139,67 @@ pub record Loop (b : Store) (xs : List Pair) : Type 0 where
   pub field : ℕ
   pub walk : Walk b xs field field
 
+-- ---- nobody can hold more
+
+-- of a store, and of what Plan answers
+pub record Optimal (b : Store) (plan : List ℕ) : Type 0 where
+  -- "whoever chooses by hand .. holds at most as many of them up to that level, counting it and all stronger ones together, as the panel does,
+  -- also when loops are tolerated in that choice" (tender)
+  pub most : (L : ℕ) (xs : List Pair) → Matching b xs → countUpTo (levelIn b) L xs ≤ countUpTo (levelIn b) L (held plan)
+  -- "and what the panel holds is itself such a choice, without a loop" (tender)
+  pub matching : Matching b (held plan)
+  pub loopless : Loop b (held plan) → ⊥
+
 -- ---- lists of commands
 
--- a panel and the store that belongs to the commands which led to it
-pub record State : Type 0 where
-  pub panel : Panel
+-- what takes commands: the state that a command leaves and the reply to it, and what Plan answers in a state; with it, what a command that is
+-- not refused changes in the store
+pub record System : Type 1 where
+  pub State : Type 0
+  pub Command : Type 0
+  pub step : State → Command → State
+  pub reply : State → Command → List ℕ
+  pub plan : State → List ℕ
+  pub entered : Store → Command → Store
+
+-- a state, and the store that belongs to the commands which led to it
+pub record Run (S : System) : Type 0 where
+  pub state : S .State
   pub store : Store
 
--- "Its first command meets an unopened panel"
-abbrev pub start : State
-start = record { panel = opened 0; store = empty }
+-- a command meets "the panel that the one before left"; the store "is fed the commands and, for each, whether it was refused"
+unfoldable pub stepped : (S : System) → Run S → S .Command → Run S
+stepped S r c =
+    record {
+      state = S .step (r .state) c;
+      store = cond (isRefusal (S .reply (r .state) c)) (r .store) (S .entered (r .store) c);
+    }
 
--- "each later one the panel that the one before left"; the store is fed the command and whether the reply is a refusal
-unfoldable pub next : State → Command → State
-next s c =
-    let answer = performed (s .panel) c in
-    record { panel = answer .panel; store = fed (s .store) c (isRefusal (answer .reply)) }
+unfoldable pub after : (S : System) → Run S → List (S .Command) → Run S
+after S r [] = r
+after S r (c ∷ cs) = after S (stepped S r c) cs
 
-unfoldable pub after : State → List Command → State
-after s [] = s
-after s (c ∷ cs) = after (next s c) cs
+-- what holds after every list of commands from r
+abbrev pub AfterEveryList : (S : System) → Run S → (Run S → Type 0) → Type 0
+AfterEveryList S r P = (commands : List (S .Command)) → P (after S r commands)
 
 -- ---- condition 3
 
-pub record Optimal (s : State) : Type 0 where
-  -- "whoever chooses by hand .. holds at most as many of them up to that level, counting it and all stronger ones together, as the panel does,
-  -- also when loops are tolerated in that choice" (tender)
-  pub most : (L : ℕ) (xs : List Pair) → Matching (s .store) xs → upTo (levelIn (s .store)) L xs ≤ upTo (levelIn (s .store)) L (held (s .panel))
-  -- "and what the panel holds is itself such a choice, without a loop" (tender)
-  pub matching : Matching (s .store) (held (s .panel))
-  pub loopless : Loop (s .store) (held (s .panel)) → ⊥
+abbrev pub panels : System
+panels =
+    record {
+      State = Panel;
+      Command = Command;
+      step = λ p c. performed p c .panel;
+      reply = λ p c. performed p c .reply;
+      plan = λ p. performed p planning .reply;
+      entered = entered;
+    }
+
+-- "Its first command meets an unopened panel"; the store "starts empty"
+abbrev pub start : Run panels
+start = record { state = opened 0; store = empty }
 
 -- "For every list of commands (opening, add, remove, touch, plan, refused ones included) from an unopened panel" (tender)
 abbrev pub Condition3 : Type 0
-Condition3 = (commands : List Command) → Optimal (after start commands)
+Condition3 = AfterEveryList panels start (λ r. Optimal (r .store) (panels .plan (r .state)))

@@ -1,3 +1,4 @@
 pub mod Condition3
 pub mod Agreement
-pub mod Others
+pub mod States
+pub mod Refusals

@@ -1,18 +1,20 @@
 -- Laws of the plan: what it lists, in which order, and that it goes by the reads alone.
-use Prim.Native.Nat.{ℕ, zero, suc, _≤_, _<_, zero-le}
+use Prim.Native.Nat.{ℕ, zero, suc, _≤_, _<_}
 use mathlib.Core.Path.{_≡_, refl, sym, ap, _∙_, subst}
-use mathlib.Core.Bool.{Bool, true, false, not, _&&_, _||_, cond}
+use mathlib.Core.Bool.{Bool, true, false, not, _&&_, _||_}
 use mathlib.Core.List.{List, [], _∷_}
 use mathlib.Core.Logic.{_⊎_, inl, inr, _≢_}
-use native.Mathlib.Nat.{le-refl, not-suc-le-zero}
+use native.Mathlib.Nat.{le-refl}
 use native.Mathlib.Decide.{ℕ-discrete}
 use native.Mathlib.Omega.{arith}
-use borrow.Author.Tests.{lt-ltb, le-ltb, eq-eqb, ne-eqb, eqb-true, not-true, not-false}
+use borrow.Author.Tests.{lt-ltb, le-ltb, eq-eqb, eqb-true, not-true, not-false}
 use lib.Dec.{eqb, ltb}
-use lib.ListN.{length, getD}
+use lib.ListN.{length}
 use Rattle.fieldset.specs.Numbers.{count}
+use Rattle.fieldset.specs.Lists.{In, All, Distinct, place}
 use Rattle.fieldset.specs.Fields.{member, with, within}
-use Rattle.fieldset.proofs.Numbers.{clash, but, count-cong, count-but, count-pos, count-all, Lowest, lowest-is, lowest-cong}
+use Rattle.fieldset.proofs.Numbers.{clash, but, count-cong, count-but, count-all, Lowest, lowest-is, lowest-cong}
+use Rattle.fieldset.proofs.Lists.{all-map, Whole, whole-in, place-here, place-later, place-in}
 use Rattle.fieldset.proofs.Fields.{member-empty, member-with, member-with-same, member-with-other, within-member}
 use Rattle.ordering.specs.Order.{next, following, order, hasLoop}
 use Rattle.ordering.specs.Walks.{Ranked}
@@ -71,34 +73,6 @@ step reads n k L = go (next reads n L) refl (lowest-is (able reads L) n n)
         )
     go f e (inr h) = inr (record { none = h .1; is = following-none reads n (suc k) L (e ∙ h .0) })
 
--- ---- places in a list
-
--- the place of f in a list; the list's length where f is not in it
-unfoldable pub placeOf : ℕ → List ℕ → ℕ
-placeOf f [] = 0
-placeOf f (x ∷ xs) = cond (eqb x f) 0 (suc (placeOf f xs))
-
-place-here : (f x : ℕ) (xs : List ℕ) → x ≡ f → placeOf f (x ∷ xs) ≡ 0
-unfolding placeOf
-place-here f x xs e = rw (eq-eqb x f e)
-
-place-later : (f x : ℕ) (xs : List ℕ) → x ≢ f → placeOf f (x ∷ xs) ≡ suc (placeOf f xs)
-unfolding placeOf
-place-later f x xs e = rw (ne-eqb x f e)
-
--- f stands at its place
-pub place-at : (f : ℕ) (xs : List ℕ) → placeOf f xs < length xs → getD xs (placeOf f xs) 0 ≡ f
-place-at f [] l = absurd (not-suc-le-zero l)
-place-at f (x ∷ xs) l = go (ℕ-discrete x f) (place-at f xs)
-  where
-    go : Dec (x ≡ f) → (placeOf f xs < length xs → getD xs (placeOf f xs) 0 ≡ f) → getD (x ∷ xs) (placeOf f (x ∷ xs)) 0 ≡ f
-    go (yes e) ih = rw (place-here f x xs e) e
-    go (no e) ih = rw (place-later f x xs e) (ih (omega (arith, rw (place-later f x xs e) at l)))
-
--- no field is listed twice: each stands at its place only
-abbrev pub Once : List ℕ → Type 0
-Once xs = (i : ℕ) → i < length xs → placeOf (getD xs i 0) xs ≡ i
-
 -- ---- what the plan lists
 
 -- unlisted
@@ -114,39 +88,33 @@ with-unlisted L f g l e = (go (ℕ-discrete g f), λ d. clash (rw d (member-with
     go (no d) = sym (member-with-other L f g l d) ∙ e
 
 module _ (reads : ℕ → ℕ) (n : ℕ) (few : n ≤ 64) where
-  -- fields that are below n and unlisted
-  abbrev New : ℕ → List ℕ → Type 0
-  New L xs = (i : ℕ) → i < length xs → (getD xs i 0 < n) × (member L (getD xs i 0) ≡ false)
+  -- below n and unlisted
+  abbrev New : ℕ → ℕ → Type 0
+  New L f = (f < n) × (member L f ≡ false)
 
-  new-cons : (L f : ℕ) (xs : List ℕ) → f < n → member L f ≡ false → New (with L f) xs → New L (f ∷ xs)
-  new-cons L f xs l e h zero k = (l, e)
-  new-cons L f xs l e h (suc i) k =
-      let r = h i (omega arith) in
-      (r .0, with-unlisted L f (getD xs i 0) (omega arith) (r .1) .0)
-
-  following-new : (k L : ℕ) → New L (following reads n k L)
+  following-new : (k L : ℕ) → All (New L) (following reads n k L)
   unfolding following
-  following-new zero L = λ i l. absurd (not-suc-le-zero l)
+  following-new zero L = tt
   following-new (suc k) L = go (step reads n k L) (λ f. following-new k (with L f))
     where
-      go : ((f : ℕ) × Lists reads n k L f) ⊎ Stops reads n k L → ((f : ℕ) → New (with L f) (following reads n k (with L f))) → New L (following reads n (suc k) L)
-      go (inl (f, s)) ih = subst (New L) (sym (s .is)) (new-cons L f (following reads n k (with L f)) (s .low) (s .unlisted) (ih f))
-      go (inr s) ih = subst (New L) (sym (s .is)) (λ i l. absurd (not-suc-le-zero l))
+      go : ((f : ℕ) × Lists reads n k L f) ⊎ Stops reads n k L → ((f : ℕ) → All (New (with L f)) (following reads n k (with L f)))
+          → All (New L) (following reads n (suc k) L)
+      go (inl (f, s)) ih =
+          rw (s .is)
+          ((s .low, s .unlisted), all-map (New (with L f)) (New L) (λ g (l, e). (l, with-unlisted L f g (omega arith) e .0)) (following reads n k (with L f)) (ih f))
+      go (inr s) ih = rw (s .is) tt
 
-  once-cons : (L f : ℕ) (xs : List ℕ) → New (with L f) xs → Once xs → Once (f ∷ xs)
-  once-cons L f xs new once zero l = place-here f f xs refl
-  once-cons L f xs new once (suc i) l =
-      let r = new i (omega arith) in
-      place-later (getD xs i 0) f xs (with-unlisted L f (getD xs i 0) (omega arith) (r .1) .1) ∙ ap suc (once i (omega arith))
-
-  following-once : (k L : ℕ) → Once (following reads n k L)
+  following-once : (k L : ℕ) → Distinct (following reads n k L)
   unfolding following
-  following-once zero L = λ i l. absurd (not-suc-le-zero l)
+  following-once zero L = tt
   following-once (suc k) L = go (step reads n k L) (λ f. following-once k (with L f))
     where
-      go : ((f : ℕ) × Lists reads n k L f) ⊎ Stops reads n k L → ((f : ℕ) → Once (following reads n k (with L f))) → Once (following reads n (suc k) L)
-      go (inl (f, s)) ih = subst Once (sym (s .is)) (once-cons L f (following reads n k (with L f)) (following-new k (with L f)) (ih f))
-      go (inr s) ih = subst Once (sym (s .is)) (λ i l. absurd (not-suc-le-zero l))
+      go : ((f : ℕ) × Lists reads n k L f) ⊎ Stops reads n k L → ((f : ℕ) → Distinct (following reads n k (with L f)))
+          → Distinct (following reads n (suc k) L)
+      go (inl (f, s)) ih =
+          rw (s .is)
+          (all-map (New (with L f)) (λ g. f ≢ g) (λ g (l, e). with-unlisted L f g (omega arith) e .1) (following reads n k (with L f)) (following-new k (with L f)), ih f)
+      go (inr s) ih = rw (s .is) tt
 
   -- a field that is listed is one unlisted field less
   pub unlisted-step : (L f : ℕ) → f < n → member L f ≡ false → count (unlisted? L) n ≡ suc (count (unlisted? (with L f)) n)
@@ -158,63 +126,33 @@ module _ (reads : ℕ → ℕ) (n : ℕ) (few : n ≤ 64) where
       not-or true b = refl
       not-or false b = refl
 
-  following-length : (k L : ℕ) → length (following reads n k L) ≤ count (unlisted? L) n
-  unfolding following
-  following-length zero L = zero-le
-  following-length (suc k) L = go (step reads n k L) (λ f. following-length k (with L f))
-    where
-      go : ((f : ℕ) × Lists reads n k L f) ⊎ Stops reads n k L → ((f : ℕ) → length (following reads n k (with L f)) ≤ count (unlisted? (with L f)) n)
-          → length (following reads n (suc k) L) ≤ count (unlisted? L) n
-      go (inl (f, s)) ih = rw (s .is) (omega (arith, ih f, unlisted-step L f (s .low) (s .unlisted)))
-      go (inr s) ih = rw (s .is) zero-le
-
-  -- a list as long as there are unlisted fields has each of them
-  following-all : (k L f : ℕ) → length (following reads n k L) ≡ count (unlisted? L) n → f < n → member L f ≡ false
-      → placeOf f (following reads n k L) < length (following reads n k L)
-  unfolding following
-  following-all zero L f e l u = absurd (omega (arith, count-pos (unlisted? L) n f l (rw u refl)))
-  following-all (suc k) L f e l u = go (step reads n k L) (λ x. following-all k (with L x) f)
-    where
-      go : ((x : ℕ) × Lists reads n k L x) ⊎ Stops reads n k L
-          → ((x : ℕ) → length (following reads n k (with L x)) ≡ count (unlisted? (with L x)) n → f < n → member (with L x) f ≡ false
-          → placeOf f (following reads n k (with L x)) < length (following reads n k (with L x)))
-          → placeOf f (following reads n (suc k) L) < length (following reads n (suc k) L)
-      go (inl (x, s)) ih = rw (s .is) (here (ℕ-discrete x f))
-        where
-          here : Dec (x ≡ f) → placeOf f (x ∷ following reads n k (with L x)) < length (x ∷ following reads n k (with L x))
-          here (yes d) = rw (place-here f x (following reads n k (with L x)) d) (omega arith)
-          here (no d) =
-              let c = unlisted-step L x (s .low) (s .unlisted) in
-              let h = ih x (omega (arith, rw (s .is) at e)) l (member-with-other L x f (omega arith) (λ q. d (sym q)) ∙ u) in
-              rw (place-later f x (following reads n k (with L x)) d) (omega arith)
-      go (inr s) ih = absurd (omega (arith, count-pos (unlisted? L) n f l (rw u refl), rw (s .is) at e))
-
 -- f was listed before, or stands before g in the list, if g is in it
 abbrev Before : ℕ → ℕ → ℕ → List ℕ → Type 0
-Before f g L xs = placeOf g xs < length xs → (member L f ≡ true) ⊎ (placeOf f xs < placeOf g xs)
+Before f g L xs = In g xs → (member L f ≡ true) ⊎ (place xs f < place xs g)
 
 module _ (reads : ℕ → ℕ) (n g f : ℕ) (l : f < 64) (e : member (reads g) f ≡ true) where
   before-cons : (L x : ℕ) (xs : List ℕ) → within (reads x) L ≡ true → Before f g (with L x) xs → Before f g L (x ∷ xs)
-  before-cons L x xs w ih h = case (ℕ-discrete x g) (ℕ-discrete x f)
+  before-cons L x xs w ih h = case (ℕ-discrete x g) (ℕ-discrete x f) h
     where
-      last : x ≢ g → x ≢ f → (member (with L x) f ≡ true) ⊎ (placeOf f xs < placeOf g xs) → (member L f ≡ true) ⊎ (placeOf f (x ∷ xs) < placeOf g (x ∷ xs))
+      last : x ≢ g → x ≢ f → (member (with L x) f ≡ true) ⊎ (place xs f < place xs g) → (member L f ≡ true) ⊎ (place (x ∷ xs) f < place (x ∷ xs) g)
       last d q (inl m) = inl (sym (member-with-other L x f l (λ p. q (sym p))) ∙ m)
       last d q (inr m) = inr (rw (place-later f x xs q, place-later g x xs d) (omega arith))
 
-      case : Dec (x ≡ g) → Dec (x ≡ f) → (member L f ≡ true) ⊎ (placeOf f (x ∷ xs) < placeOf g (x ∷ xs))
-      case (yes d) q = inl (within-member (reads x) L f w l (rw d e))
-      case (no d) (yes q) = inr (rw (place-here f x xs q, place-later g x xs d) (omega arith))
-      case (no d) (no q) = last d q (ih (omega (arith, rw (place-later g x xs d) at h)))
+      case : Dec (x ≡ g) → Dec (x ≡ f) → In g (x ∷ xs) → (member L f ≡ true) ⊎ (place (x ∷ xs) f < place (x ∷ xs) g)
+      case (yes d) q h = inl (within-member (reads x) L f w l (rw d e))
+      case (no d) (yes q) h = inr (rw (place-here f x xs q, place-later g x xs d) (omega arith))
+      case (no d) (no q) (inl k) = absurd (d (sym k))
+      case (no d) (no q) (inr k) = last d q (ih k)
 
   -- what a listed field reads was listed before, or stands before it
   following-before : (k L : ℕ) → Before f g L (following reads n k L)
   unfolding following
-  following-before zero L = λ h. absurd (not-suc-le-zero h)
+  following-before zero L = λ m. absurd m
   following-before (suc k) L = go (step reads n k L) (λ x. following-before k (with L x))
     where
       go : ((x : ℕ) × Lists reads n k L x) ⊎ Stops reads n k L → ((x : ℕ) → Before f g (with L x) (following reads n k (with L x))) → Before f g L (following reads n (suc k) L)
       go (inl (x, s)) ih = subst (Before f g L) (sym (s .is)) (before-cons L x (following reads n k (with L x)) (s .reads-listed) (ih x))
-      go (inr s) ih = subst (Before f g L) (sym (s .is)) (λ h. absurd (not-suc-le-zero h))
+      go (inr s) ih = subst (Before f g L) (sym (s .is)) (λ m. absurd m)
 
 -- ---- the plan
 
@@ -225,10 +163,10 @@ unlisted-all n = count-cong (unlisted? 0) (λ f. true) n (λ f l. ap not (member
 module _ (reads : ℕ → ℕ) (n : ℕ) where
   -- the place of a field in the plan
   abbrev pub rankOf : ℕ → ℕ
-  rankOf f = placeOf f (order reads n)
+  rankOf = place (order reads n)
 
   -- what a listed field reads stands before it
-  pub order-before : (g f : ℕ) → f < 64 → member (reads g) f ≡ true → rankOf g < length (order reads n) → rankOf f < rankOf g
+  pub order-before : (g f : ℕ) → f < 64 → member (reads g) f ≡ true → In g (order reads n) → rankOf f < rankOf g
   unfolding order
   order-before g f l e h = go (following-before reads n g f l e n 0 h)
     where
@@ -247,32 +185,24 @@ module _ (reads : ℕ → ℕ) (n : ℕ) where
 
   module _ (few : n ≤ 64) where
     -- every listed field is one of the n
-    pub order-low : (i : ℕ) → i < length (order reads n) → getD (order reads n) i 0 < n
+    pub order-low : All (λ f. f < n) (order reads n)
     unfolding order
-    order-low i l = following-new reads n few n 0 i l .0
+    order-low = all-map (New reads n few 0) (λ f. f < n) (λ f h. h .0) (order reads n) (following-new reads n few n 0)
 
     -- none is listed twice
-    pub order-once : Once (order reads n)
+    pub order-once : Distinct (order reads n)
     unfolding order
     order-once = following-once reads n few n 0
 
-    pub order-distinct : (i j : ℕ) → i < length (order reads n) → j < length (order reads n) → getD (order reads n) i 0 ≡ getD (order reads n) j 0 → i ≡ j
-    order-distinct i j li lj e = sym (order-once i li) ∙ ap (λ f. placeOf f (order reads n)) e ∙ order-once j lj
-
-    pub order-length : length (order reads n) ≤ n
-    unfolding order
-    order-length = omega (arith, following-length reads n few n 0, unlisted-all n)
-
     -- with no loop all n fields are listed
-    pub order-all : hasLoop reads n ≡ false → (f : ℕ) → f < n → rankOf f < length (order reads n)
-    unfolding order
-    order-all e f l = following-all reads n few n 0 f (no-loop-length e ∙ sym (unlisted-all n)) l (member-empty f)
+    pub order-whole : hasLoop reads n ≡ false → Whole n (order reads n)
+    order-whole e = record { below = order-low; once = order-once; whole = no-loop-length e }
 
     -- with no loop the places in the plan are ranks
     pub no-loop-ranked : hasLoop reads n ≡ false → Ranked reads n rankOf
     no-loop-ranked e = record {
-      rises = λ f g r. order-before g f (omega arith) (r .reads-it) (order-all e g (r .to));
-      small = λ f l. omega (arith, order-all e f l, order-length);
+      rises = λ f g r. order-before g f (omega arith) (r .reads-it) (whole-in n (order reads n) (order-whole e) g (r .to));
+      small = λ f l. omega (arith, place-in f (order reads n) (whole-in n (order reads n) (order-whole e) f l), no-loop-length e);
     }
 
 -- ---- equal reads

@@ -7,6 +7,7 @@ use native.Mathlib.Omega.{arith}
 use borrow.Author.Tests.{ltb-true, ltb-false, leb-true, leb-false, eqb-true, eqb-false, eq-eqb, not-false}
 use lib.Dec.{eqb, leb, ltb}
 use lib.ListN.{length}
+use Rattle.fieldset.specs.Lists.{All}
 use Rattle.fieldset.specs.Fields.{member, with, without, size}
 use Rattle.fieldset.proofs.Numbers.{clash}
 use Rattle.fieldset.proofs.Fields.{member-with, member-with-same, member-without-same, member-without-other, member-empty, with-lt, size-without, size-mono, size-empty}
@@ -23,8 +24,7 @@ use Rattle.panel.specs.Legal.{Formed}
 -- ---- checks in turn
 
 abbrev pub NoneApply : List Check → Type 0
-NoneApply [] = Unit {0}
-NoneApply (c ∷ cs) = (c .applies ≡ false) × NoneApply cs
+NoneApply = All (λ c. c .applies ≡ false)
 
 -- what holds of the panel before, and of that after the step where no check applies, holds of that after the command
 pub checked-panel : (P : Panel → Type 0) (p : Panel) (cs : List Check) (step : Answer) → P p → (NoneApply cs → P (step .panel))

@@ -1,7 +1,7 @@
 -- What the reversal of a path does: the setters along it move one field on, and of the links only the standings change.
 use Prim.Native.Nat.{ℕ, _≤_, _<_}
 use mathlib.Core.Path.{_≡_, refl, sym, ap, _∙_, fun-ext}
-use mathlib.Core.Bool.{Bool, true, false, cond}
+use mathlib.Core.Bool.{cond}
 use mathlib.Core.List.{List, [], _∷_}
 use mathlib.Core.Logic.{_≢_}
 use native.Mathlib.Decide.{ℕ-discrete, decLt}
@@ -11,8 +11,8 @@ use lib.Dec.{eqb, ltb}
 use lib.ListN.{length, set, length-set}
 use lib.Seq.{getD-set-same, getD-set-other, set-out}
 use Rattle.fieldset.specs.Tables.{at}
+use Rattle.fieldset.specs.Lists.{All, Distinct}
 use Rattle.strength.specs.Filling.{lastOf}
-use Rattle.strength.proofs.Paths.{All, Distinct, all-map}
 use Rattle.panel.specs.declared.Standing.{Standing}
 use Rattle.panel.specs.declared.Standing.the-variants.{Waiting, Holding}
 use Rattle.panel.specs.declared.Link.{Link}
@@ -105,33 +105,6 @@ left st c (v ∷ vs) = left (put st v c) (st v) vs
 -- f is not on the path
 abbrev pub Off : ℕ → List ℕ → Type 0
 Off f vs = All (λ v. f ≢ v) vs
-
--- w comes right after u on the path
-pub data Next : List ℕ → ℕ → ℕ → Type 0 where
-  here : {u w : ℕ} {vs : List ℕ} → Next (u ∷ w ∷ vs) u w
-  there : {u w v : ℕ} {vs : List ℕ} → Next vs u w → Next (v ∷ vs) u w
-
--- a field that is not on the path keeps its setter
-pub turn-off : (st : ℕ → Item) (c : Item) (vs : List ℕ) (f : ℕ) → Off f vs → turn st c vs f ≡ st f
-unfolding turn
-turn-off st c [] f h = refl
-turn-off st c (v ∷ vs) f (a, b) = turn-off (put st v c) (st v) vs f b ∙ put-there st v c f a
-
--- the first field is set by c
-pub turn-first : (st : ℕ → Item) (c : Item) (v : ℕ) (vs : List ℕ) → Off v vs → turn st c (v ∷ vs) v ≡ c
-unfolding turn
-turn-first st c v vs h = turn-off (put st v c) (st v) vs v h ∙ put-here st v c
-
-next-on : (v : ℕ) (vs : List ℕ) (u w : ℕ) → Off v vs → Next vs u w → u ≢ v
-next-on v vs u w h here = λ e. h .0 (sym e)
-next-on v vs u w h (there {vs = xs} n) = next-on v xs u w (h .1) n
-
--- each later one by the setter of the field before it
-pub turn-next : (st : ℕ → Item) (c : Item) (vs : List ℕ) (u w : ℕ) → Distinct vs → Next vs u w → turn st c vs w ≡ st u
-unfolding turn
-turn-next st c vs u w h (here {vs = xs}) = turn-first (put st u c) (st u) w xs (h .1 .0)
-turn-next st c vs u w h (there {v = v} {vs = xs} n) =
-    turn-next (put st v c) (st v) xs u w (h .1) n ∙ put-there st v c u (next-on v xs u w (h .0) n)
 
 -- the last field's setter is left over
 pub left-last : (st : ℕ → Item) (c : Item) (v : ℕ) (vs : List ℕ) → Distinct (v ∷ vs) → left st c (v ∷ vs) ≡ st (lastOf v vs)
@@ -311,28 +284,3 @@ reversed-setters p c [] full h = ap setterOf (waiting-setter p c)
 reversed-setters p c (v ∷ vs) full (l, fit, h) =
     let e = holding-sets p v c full l fit in
     reversed-setters (holding p c v) (setterOf (p .setter) v) vs (holding-full p v c ∙ full) (rw e h) ∙ rw e
-
--- ---- links that are not carried
-
-holding-other : (p : Panel) (v : ℕ) (c : Item) (i : ℕ) → c ≢ link i → linkAt (holding p c v .links) i ≡ linkAt (p .links) i
-holding-other p v (link j) i h = link-there (p .links) j i _ (λ d. h (ap link (sym d)))
-holding-other p v (stay g) i h = refl
-
-waiting-other : (p : Panel) (c : Item) (i : ℕ) → c ≢ link i → linkAt (waiting p c .links) i ≡ linkAt (p .links) i
-waiting-other p (link j) i h = link-there (p .links) j i _ (λ d. h (ap link (sym d)))
-waiting-other p (stay g) i h = refl
-
--- a link that is not c and sets no field of the path is as before
-pub reversed-other : (p : Panel) (c : Item) (vs : List ℕ) (i : ℕ) → length (p .setter) ≡ 64 → Fits (setterOf (p .setter)) c vs
-    → c ≢ link i → All (λ v. setterOf (p .setter) v ≢ link i) vs → linkAt (reversed p c vs .links) i ≡ linkAt (p .links) i
-unfolding reversed
-reversed-other p c [] i full fits h off = waiting-other p c i h
-reversed-other p c (v ∷ vs) i full (l, fit, fits) h (a, off) =
-    let e = holding-sets p v c full l fit in
-    reversed-other (holding p c v) (setterOf (p .setter) v) vs i (holding-full p v c ∙ full) (rw e fits) a
-    (rw e (all-map (λ w k. at-put (eqb w v) k) vs off))
-    ∙ holding-other p v c i h
-  where
-    at-put : {d : Item} (b : Bool) → d ≢ link i → cond b c d ≢ link i
-    at-put true k = h
-    at-put false k = k

@@ -9,6 +9,7 @@ use lib.ListN.{length, take, drop, replicate, List·getD-append}
 use lib.Seq.{sets, length-sets, take-all}
 use Rattle.fieldset.specs.Tables.{at, tabulate}
 use Rattle.fieldset.specs.Fields.{member}
+use Rattle.fieldset.proofs.Lists.{all-at}
 use Rattle.strength.specs.Strength.{strength}
 use Rattle.strength.specs.Filling.{Acyclic}
 use Rattle.ordering.specs.Order.{order}
@@ -61,7 +62,7 @@ module _ (p : Panel) (h : Legal p) (levels others reads : List ℕ)
 
   plan-low : (i : ℕ) → i < p .size → at (planOf p) i < p .size
   unfolding planOf
-  plan-low i l = order-low (setterReads p) (p .size) (h .few) i (omega (arith, plan-long p h))
+  plan-low i l = all-at (λ f. f < p .size) 0 (planOf p) (order-low (setterReads p) (p .size) (h .few)) i (omega (arith, plan-long p h))
 
   pub prepared : (table listed : List ℕ) (count : ℕ)
       → table ≡ tabulate (strength (at levels) (at others) (p .size)) (p .size) ++ drop (p .size) (replicate 64 0)

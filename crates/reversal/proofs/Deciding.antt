@@ -1,9 +1,8 @@
 -- What `decide` answers, from what its callees answer.
 use mathlib.Core.Path.{_≡_, sym, ap, _∙_}
 use mathlib.Core.Bool.{Bool, true}
-use mathlib.Core.List.{List, [], _∷_}
-use Prim.Native.Nat.{ℕ, zero, suc, _^_, _<_}
-use native.Mathlib.Nat.{not-suc-le-zero, le-of-suc-le-suc}
+use mathlib.Core.List.{List}
+use Prim.Native.Nat.{ℕ, _^_, _<_}
 use native.Mathlib.Omega.{arith}
 use borrow.Author.Tests.{ltb-true}
 use lib.ListN.{length, take, drop, length-append, length-drop, List·getD-append}
@@ -11,20 +10,16 @@ use lib.Seq.{take-at}
 use Rattle.fieldset.specs.Tables.{at}
 use Rattle.fieldset.specs.Fields.{member}
 use Rattle.fieldset.proofs.Fields.{some-member, member-below}
+use Rattle.fieldset.proofs.Lists.{all-at}
 use Rattle.strength.specs.Strength.{strength, lowestAt, path}
 use Rattle.strength.specs.Filling.{Walked}
 use Rattle.strength.proofs.Maxima.{greatest-some}
-use Rattle.strength.proofs.Paths.{All, Tie, lowestAt-found, lowestAt-cong, Reversible, path-reversible}
+use Rattle.strength.proofs.Paths.{Tie, lowestAt-found, lowestAt-cong, Reversible, path-reversible}
 use Rattle.ordering.specs.Order.{hasLoop}
 use Rattle.ordering.specs.Walks.{Among}
 use Rattle.tables.specs.Leaves.{PathOf, reversedReads}
 use Rattle.turning.specs.Turns.{Undecided, Decided}
 use Rattle.turning.proofs.Decision.{among-reversed}
-
-all-at : (P : ℕ → Type 0) (vs : List ℕ) → All P vs → (i : ℕ) → i < length vs → P (at vs i)
-all-at P [] h i l = absurd (not-suc-le-zero l)
-all-at P (v ∷ vs) (a, h) zero l = a
-all-at P (v ∷ vs) (a, h) (suc i) l = all-at P vs h i (le-of-suc-le-suc l)
 
 module _ (levels others table : List ℕ) (n known s outputs covered : ℕ) (reads path₀ : List ℕ) (small : outputs < 2 ^ 64)
     (u : Undecided levels others table n known s outputs covered reads path₀) where
@@ -63,7 +58,7 @@ module _ (levels others table : List ℕ) (n known s outputs covered : ℕ) (rea
         few = omega (arith, w .counted, is-reversible .short, u .acyclic .few);
         fields = λ i l.
             let k : i < length (w .fields) = omega (arith, w .counted) in
-            let low : at (w .fields) i < n = all-at (λ f. f < n) (w .fields) (is-reversible .inside) i k in
+            let low : at (w .fields) i < n = all-at (λ f. f < n) 0 (w .fields) (is-reversible .inside) i k in
             let same : at path₁ i ≡ at (w .fields) i =
             ap (λ (x : List ℕ). at x i) (w .stored) ∙ List·getD-append (w .fields) (drop (length (w .fields)) path₀) 0 i k in
             omega (arith, u .acyclic .few);

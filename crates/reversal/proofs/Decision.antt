@@ -12,11 +12,12 @@ use lib.ListN.{length, take, set, replicate, length-set}
 use lib.Seq.{getD-set-same, getD-set-other}
 use Rattle.fieldset.specs.Numbers
 use Rattle.fieldset.specs.Tables.{at}
+use Rattle.fieldset.specs.Lists.{All}
 use Rattle.fieldset.specs.Fields.{member, with, without, below}
 use Rattle.fieldset.proofs.Fields.{member-with, member-below, member-only}
 use Rattle.strength.specs.Strength.{greatest, strength, lowestAt, strongest, path}
 use Rattle.strength.specs.Filling.{Strengths, Within}
-use Rattle.strength.proofs.Paths.{All, strongest-found, lowestAt-cong}
+use Rattle.strength.proofs.Paths.{strongest-found, lowestAt-cong}
 use Rattle.ordering.specs.Order.{hasLoop}
 use Rattle.ordering.specs.Walks.{Among}
 use Rattle.ordering.proofs.Sets.{or-cases, without-cases}

@@ -9,11 +9,11 @@ use borrow.Author.Tests.{eqb-true}
 use lib.ListN.{length, set, length-set}
 use lib.Seq.{getD-set-same, getD-set-other}
 use Rattle.fieldset.specs.Tables.{at}
+use Rattle.fieldset.specs.Lists.{Distinct}
 use Rattle.fieldset.specs.Fields.{member, with, without, only}
 use Rattle.fieldset.proofs.Fields.{ext-member, member-only, member-with-same, member-with-other, member-without-other, only-lt, with-lt}
 use Rattle.panel.specs.declared.Link.{Link}
 use Rattle.panel.specs.Items.{Item, link, stay, linkAt, outputsOf, readsOf}
-use Rattle.strength.proofs.Paths.{Distinct}
 use Rattle.panel.proofs.Turn.{put, put-here, put-there, turn}
 use Rattle.panel.proofs.Reversal.{Leads, leads-put}
 use Rattle.tables.specs.Leaves.{reversedReads}

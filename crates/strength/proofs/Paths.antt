@@ -11,14 +11,16 @@ use borrow.Author.Tests.{eq-eqb, ne-eqb, eqb-true}
 use lib.Dec.{eqb}
 use lib.ListN.{length}
 use Rattle.fieldset.specs.Numbers.{lowest}
+use Rattle.fieldset.specs.Lists.{All, Distinct}
 use Rattle.fieldset.specs.Fields.{member, without}
 use Rattle.fieldset.proofs.Tests.{and-left, and-right}
 use Rattle.fieldset.proofs.Numbers.{lowest-cong, lowest-none, lowest-lt, lowest-true, lowest-unique}
+use Rattle.fieldset.proofs.Lists.{all-map, below-length}
 use Rattle.fieldset.proofs.Fields.{member-empty, member-without-other, lowestOf-before}
 use Rattle.strength.specs.Strength.{greatest, strength, lowestAt, strongest, path}
 use Rattle.strength.specs.Filling.{First, lastOf}
 use Rattle.strength.proofs.Maxima.{greatest-found, greatest-some}
-use Rattle.strength.proofs.Depth.{Falls, strength-cong, strength-fixed}
+use Rattle.strength.proofs.Depth.{Falls, strength-fixed}
 
 -- ---- the lowest-numbered field at a strength
 
@@ -86,10 +88,6 @@ strongest-found str m u l e =
 -- ---- the path
 
 module _ (level others str : ℕ → ℕ) (s : ℕ) where
-  pub path-none : (v : ℕ) → path level others str s 0 v ≡ []
-  unfolding path
-  path-none v = refl
-
   -- it starts at v
   pub path-starts : (k v : ℕ) → 0 < k → (vs : List ℕ) × (path level others str s k v ≡ v ∷ vs)
   unfolding path
@@ -112,27 +110,11 @@ pub data Chain (level others str : ℕ → ℕ) (s : ℕ) : List ℕ → Type 0 
   next : {v u : ℕ} {vs : List ℕ} → v < 64 → str v ≡ s → level v < s → member (others v) u ≡ true → Chain level others str s (u ∷ vs)
       → Chain level others str s (v ∷ u ∷ vs)
 
-abbrev pub All : (ℕ → Type 0) → List ℕ → Type 0
-All P [] = Unit {0}
-All P (v ∷ vs) = P v × All P vs
-
-abbrev pub Distinct : List ℕ → Type 0
-Distinct [] = Unit {0}
-Distinct (v ∷ vs) = All (λ u. v ≢ u) vs × Distinct vs
-
-pub all-map : {P Q : ℕ → Type 0} → ((v : ℕ) → P v → Q v) → (vs : List ℕ) → All P vs → All Q vs
-all-map f [] h = tt
-all-map f (v ∷ vs) (a, b) = (f v a, all-map f vs b)
-
 module _ {level others str : ℕ → ℕ} {s : ℕ} where
   -- the last field's setter has the level s
   pub chain-last : {vs : List ℕ} → Chain level others str s vs → (d : ℕ) → level (lastOf d vs) ≡ s
   chain-last (last l e h) d = h
   chain-last (next {v = v} l e h f c) d = chain-last c v
-
-  pub chain-strong : {vs : List ℕ} → Chain level others str s vs → All (λ v. str v ≡ s) vs
-  chain-strong (last l e h) = (e, tt)
-  chain-strong (next l e h f c) = (e, chain-strong c)
 
   pub chain-fields : {vs : List ℕ} → Chain level others str s vs → All (λ v. v < 64) vs
   chain-fields (last l e h) = (l, tt)
@@ -150,19 +132,12 @@ module _ {level others str : ℕ → ℕ} {s : ℕ} where
     chain-falls (last l e h) = tt
     chain-falls (next {v = v} {u = u} {vs = vs} l e h f c) =
         let b : rank u < rank v = falls v u l (chain-fields c .0) f in
-        let under : (w : ℕ) → rank w < rank u → rank w < rank v = λ w q. omega arith in
-        (b, all-map under vs (chain-falls c))
+        (b, all-map (λ w. rank w < rank u) (λ w. rank w < rank v) (λ w q. omega arith) vs (chain-falls c))
 
     pub chain-distinct : {vs : List ℕ} → Chain level others str s vs → Distinct vs
     chain-distinct (last l e h) = (tt, tt)
     chain-distinct (next {v = v} {u = u} {vs = vs} l e h f c) =
-        let other : (w : ℕ) → rank w < rank v → v ≢ w = λ w q d. omega (arith, ap rank d) in
-        (all-map other (u ∷ vs) (chain-falls (next l e h f c)), chain-distinct c)
-
-    -- there are no more fields than ranks
-    pub chain-short : {v : ℕ} {vs : List ℕ} → Chain level others str s (v ∷ vs) → length vs ≤ rank v
-    chain-short (last l e h) = omega arith
-    chain-short (next {v = v} {u = u} l e h f c) = omega (arith, chain-short c, falls v u l (chain-fields c .0) f)
+        (all-map (λ w. rank w < rank v) (λ w. v ≢ w) (λ w q d. omega (arith, ap rank d)) (u ∷ vs) (chain-falls (next l e h f c)), chain-distinct c)
 
 -- ---- the path at a strength
 
@@ -217,41 +192,13 @@ path-reversible level others rank falls n few closed v l r =
     whole : (p vs : List ℕ) → p ≡ v ∷ vs → Chain level others (strength level others n) (strength level others n v) p → Reversible level others n v p
     whole p vs w c =
         let c′ : Chain level others (strength level others n) (strength level others n v) (v ∷ vs) = rw w at c in
+        let inside : All (λ u. u < n) p = rw w (chain-closed (λ u. u < n) closed c′ l) in
         record {
           chain = c;
           rest = vs;
           starts = w;
           ends = chain-last c v;
-          inside = rw w (chain-closed (λ u. u < n) closed c′ l);
-          short = rw w (omega (arith, chain-short rank falls c′));
+          inside = inside;
+          short = below-length n p inside (chain-distinct rank falls c);
           distinct = chain-distinct rank falls c;
         }
-
--- levels and other outputs that agree below 64 have the same path
-pub path-cong : (level level′ others others′ rank : ℕ → ℕ) → Falls others rank → ((v : ℕ) → v < 64 → level v ≡ level′ v)
-    → ((v : ℕ) → v < 64 → others v ≡ others′ v) → (n s k v : ℕ) → v < 64 → rank v < n → strength level others n v ≡ s
-    → path level others (strength level others n) s k v ≡ path level′ others′ (strength level′ others′ n) s k v
-path-cong level level′ others others′ rank falls hl ho n s zero v l r e =
-    path-none level others (strength level others n) s v ∙ sym (path-none level′ others′ (strength level′ others′ n) s v)
-path-cong level level′ others others′ rank falls hl ho n s (suc k) v l r e =
-    go (ℕ-discrete (level v) s) (path-cong level level′ others others′ rank falls hl ho n s k)
-  where
-    go : Dec (level v ≡ s)
-        → ((u : ℕ) → u < 64 → rank u < n → strength level others n u ≡ s
-        → path level others (strength level others n) s k u ≡ path level′ others′ (strength level′ others′ n) s k u)
-        → path level others (strength level others n) s (suc k) v ≡ path level′ others′ (strength level′ others′ n) s (suc k) v
-    go (yes d) ih =
-        path-stop level others (strength level others n) s k v d
-        ∙ sym (path-stop level′ others′ (strength level′ others′ n) s k v (sym (hl v l) ∙ d))
-    go (no d) ih =
-        let u = lowestAt (strength level others n) s (others v) in
-        let T = path-onto level others rank falls n s v l r e d .1 in
-        let f : rank u < rank v = falls v u l (T .field) (T .is-in) in
-        let same : u ≡ lowestAt (strength level′ others′ n) s (others′ v) =
-        lowestAt-cong (strength level others n) (strength level′ others′ n) s (others v)
-        (λ w h q. strength-cong level level′ others others′ hl ho n w h)
-        ∙ ap (lowestAt (strength level′ others′ n) s) (ho v l) in
-        path-go level others (strength level others n) s k v d
-        ∙ ap (λ (vs : List ℕ). v ∷ vs)
-        (ih u (T .field) (omega arith) (T .strong) ∙ ap (path level′ others′ (strength level′ others′ n) s k) same)
-        ∙ sym (path-go level′ others′ (strength level′ others′ n) s k v (λ q. d (hl v l ∙ q)))

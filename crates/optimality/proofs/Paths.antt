@@ -5,6 +5,7 @@ use mathlib.Core.Bool.{Bool, true, false}
 use mathlib.Core.List.{List, _∷_}
 use native.Mathlib.Nat.{le-of-lt}
 use native.Mathlib.Omega.{arith}
+use Rattle.fieldset.specs.Lists.{All}
 use Rattle.fieldset.specs.Fields.{member}
 use Rattle.strength.proofs.Paths.{Chain as FieldChain, last, next, Reversible as FieldPath}
 use Rattle.panel.specs.declared.Panel.{Panel}
@@ -14,10 +15,9 @@ use Rattle.panel.specs.Legal.{Legal}
 use Rattle.panel.proofs.Turn.{turn, reversed-size, reversed-place, reversed-level, reversed-outputs, reversed-force}
 use Rattle.panel.proofs.Legal.{LegalBut}
 use Rattle.panel.proofs.Setters.{others-out}
-use Rattle.panel.proofs.Reversal.{blocking, startOf, Start, start-of, path-for, Route, route-for, turned-setters}
-use Rattle.optimality.specs.Condition3.{All}
-use Rattle.optimality.proofs.Setters.{Graph, Unblocked, Chain, Reversible}
-use Rattle.optimality.proofs.Graphs.{graphOf, settersOf, legal-whole, strength-potential, unblocked-none}
+use Rattle.panel.proofs.Reversal.{blocking, startOf, Start, start-of, path-for, Route, route-for, turned-carrying, turned-setters}
+use Rattle.optimality.proofs.Setters.{Graph, Assigned, Unblocked, Chain, Reversible}
+use Rattle.optimality.proofs.Graphs.{graphOf, settersOf, legal-whole, assigned, strength-potential, unblocked-none}
 
 -- a chain of fields, from an output of c that is below K, is a path for c
 module _ (G : Graph) (st : ℕ → Item) (lev others s : ℕ → ℕ) (K : ℕ) (few : G .n ≤ 64)
@@ -88,6 +88,9 @@ module _ {p : Panel} {c : Item} (h : LegalBut c p) (b : isBlocked p c ≡ true) 
 
   pub after-setters : settersOf after ≡ turn (settersOf p) c (pathFor p c)
   after-setters = turned-setters p c (pathFor p c) (h .carrying) route
+
+  pub after-assigned : Assigned G (turn (settersOf p) c (pathFor p c))
+  after-assigned = rw (after-graph, after-setters) at (assigned (turned-carrying p c (pathFor p c) (h .carrying) route))
 
   -- nothing is blocked in it where the reversed setters have a potential that blocks nothing
   pub after-none : (s : ℕ → ℕ) → Unblocked G (turn (settersOf p) c (pathFor p c)) s → Legal after → (d : Item) → isBlocked after d ≡ false

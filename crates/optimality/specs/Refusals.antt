@@ -1,11 +1,11 @@
--- Further statements: Conflict, Loop, refusals, what holds in every state, and document 01's Better. Those about a state are proved of every
--- state after a list of commands.
+-- Refusals: what they leave, and when Conflict and Loop are given. What is said of a panel is proved of every panel after a list of commands.
 use Prim.Native.Nat.{ℕ, _<_}
 use mathlib.Core.Path.{_≡_}
 use mathlib.Core.Logic.{_↔_}
-use mathlib.Core.Bool.{Bool, true, false, not, _&&_}
-use mathlib.Core.List.{List, [], _∷_}
+use mathlib.Core.Bool.{Bool, true, false}
+use mathlib.Core.List.{List}
 use mathlib.Core.Option.{Option, none, some}
+use Rattle.fieldset.specs.Lists.{All}
 use Rattle.ordering.specs.Walks.{ClosedWalk}
 use Rattle.panel.specs.declared.Standing.{Standing}
 use Rattle.panel.specs.declared.Standing.the-variants.{Waiting, Holding}
@@ -16,11 +16,8 @@ use Rattle.panel.specs.Answers.{isRefusal, refused}
 use Rattle.panel.specs.Panels.{withLink, withSetter, toFront}
 use Rattle.panel.specs.Solution.{setterReads, isBlocked, pathFor, reversed, leastBlocked}
 use Rattle.panel.specs.Commands.{Command, opening, adding, removing, touching, planning, performed, coveredIn, outputsIn, Check, openChecks, addChecks, removeChecks, touchChecks, planChecks}
-use Rattle.optimality.specs.Condition3.{In, Entry, Store, entered, levelIn, Pair, items, Matching, held, State, start, after}
-
--- "For every list of commands .. from an unopened panel" (tender)
-abbrev pub AfterEveryList : (State → Type 0) → Type 0
-AfterEveryList P = (commands : List Command) → P (after start commands)
+use Rattle.optimality.specs.Condition3.{Store, entered, Pair, Matching}
+use Rattle.optimality.specs.States.{HoldsRequired}
 
 -- ---- checks
 
@@ -33,15 +30,10 @@ checksOf p (touching f) = touchChecks p f
 checksOf p planning = planChecks p
 
 -- none of the checks applies
-unfoldable pub passes : List Check → Bool
-passes [] = true
-passes (c ∷ cs) = not (c .applies) && passes cs
+abbrev pub Passes : List Check → Type 0
+Passes = All (λ c. c .applies ≡ false)
 
 -- ---- Conflict
-
--- every required link of the store is held: "0 is required"
-abbrev pub HoldsRequired : Store → List Pair → Type 0
-HoldsRequired b xs = (i : ℕ) (e : Entry) → b .links i ≡ some e → e .level ≡ 0 → In (link i) (items xs)
 
 -- a "choice, loops tolerated, can hold all required links in force"
 pub record Possible (b : Store) : Type 0 where
@@ -54,10 +46,10 @@ GivesConflict p c = performed p c .reply ≡ refused p Conflict .reply
 
 -- "For a new link of level 0 that passes checks 1 to 9, Conflict is given exactly when no choice, loops tolerated, can hold all required links
 -- in force together with the new one, no field set twice"
-abbrev pub ConflictExactly : State → Type 0
-ConflictExactly s =
-    (id : ℕ) (bytes : List ℕ) → passes (addChecks (s .panel) id 0 bytes) ≡ true
-    → GivesConflict (s .panel) (adding id 0 bytes) ↔ (Possible (entered (s .store) (adding id 0 bytes)) → ⊥)
+abbrev pub ConflictExactly : Store → Panel → Type 0
+ConflictExactly b p =
+    (id : ℕ) (bytes : List ℕ) → Passes (addChecks p id 0 bytes)
+    → GivesConflict p (adding id 0 bytes) ↔ (Possible (entered b (adding id 0 bytes)) → ⊥)
 
 -- "a weaker new link never meets it"
 abbrev pub WeakerNeverConflict : Type 0
@@ -77,13 +69,13 @@ pub record Reversal : Type 0 where
   pub before : Panel
   pub item : Item
 
-abbrev pub turning : Bool → Panel → Item → Option Reversal
-turning true q c = some (record { before = q; item = c })
-turning false q c = none
+abbrev pub reversing : Bool → Panel → Item → Option Reversal
+reversing true q c = some (record { before = q; item = c })
+reversing false q c = none
 
 abbrev pub settling : Panel → Option Item → Option Reversal
 settling q none = none
-settling q (some c) = turning true q c
+settling q (some c) = reversing true q c
 
 abbrev pub dropping : Panel → ℕ → Standing → Option Reversal
 dropping p id Waiting = none
@@ -97,58 +89,27 @@ unfoldable pub reversal : Panel → Command → Option Reversal
 reversal p (opening n) = none
 reversal p (adding id level bytes) =
     let q = withLink p id (record { covered = coveredIn bytes; outputs = outputsIn bytes; level = level; used = true; standing = Waiting }) in
-    turning (isBlocked q (link id)) q (link id)
+    reversing (isBlocked q (link id)) q (link id)
 reversal p (removing id) = dropping p id (linkAt (p .links) id .standing)
-reversal p (touching f) = let q = toFront p f in turning (isBlocked q (stay f)) q (stay f)
+reversal p (touching f) = let q = toFront p f in reversing (isBlocked q (stay f)) q (stay f)
 reversal p planning = none
 
-unfoldable pub turnedPanel : Reversal → Panel
-turnedPanel r = reversed (r .before) (r .item) (pathFor (r .before) (r .item))
+unfoldable pub reversedPanel : Reversal → Panel
+reversedPanel r = reversed (r .before) (r .item) (pathFor (r .before) (r .item))
 
 -- a reversal is made, and the state with the path reversed has a closed walk of reads
 pub record Loops (r : Option Reversal) : Type 0 where
   pub made : Reversal
   pub is-made : r ≡ some made
-  pub loop : ClosedWalk (setterReads (turnedPanel made)) (turnedPanel made .size)
+  pub loop : ClosedWalk (setterReads (reversedPanel made)) (reversedPanel made .size)
 
 -- "If the result has a loop, refuse with Loop": a command that passes its checks meets Loop exactly then
-abbrev pub LoopExactly : State → Type 0
-LoopExactly s =
-    (c : Command) → passes (checksOf (s .panel) c) ≡ true
-    → (performed (s .panel) c .reply ≡ refused (s .panel) LoopRefusal .reply) ↔ Loops (reversal (s .panel) c)
+abbrev pub LoopExactly : Panel → Type 0
+LoopExactly p =
+    (c : Command) → Passes (checksOf p c) → (performed p c .reply ≡ refused p LoopRefusal .reply) ↔ Loops (reversal p c)
 
 -- ---- refusals
 
 -- "a refusal .. leaves links, stay order and setters as they stood" (tender)
 abbrev pub RefusedUnchanged : Type 0
 RefusedUnchanged = (p : Panel) (c : Command) → isRefusal (performed p c .reply) ≡ true → performed p c .panel ≡ p
-
--- ---- every state
-
--- "In every state: each field has exactly one setter (a link holding it, or its stay); every required link in force holds"; and nothing is
--- blocked
-pub record Settled (s : State) : Type 0 where
-  pub setter : (f : ℕ) → In f (s .store .stays) → Item
-  pub sets : (f : ℕ) (h : In f (s .store .stays)) → In (record { item = setter f h; field = f }) (held (s .panel))
-  pub only : (f : ℕ) (h : In f (s .store .stays)) (c : Item) → In (record { item = c; field = f }) (held (s .panel)) → c ≡ setter f h
-  pub required : HoldsRequired (s .store) (held (s .panel))
-  pub unblocked : (c : Item) → isBlocked (s .panel) c ≡ false
-
--- ---- Better
-
--- source 003, definition 9, with the inclusion as document 01 turns it: "the side whose held set contains the other's at the first differing
--- level is better"
-pub record Better (b : Store) (xs ys : List Pair) : Type 0 where
-  -- the first level at which xs and ys hold different items
-  pub level : ℕ
-  pub same : (c : Item) → levelIn b c < level → In c (items xs) ↔ In c (items ys)
-  pub contains : (c : Item) → levelIn b c ≡ level → In c (items ys) → In c (items xs)
-  -- an item of this level that only xs holds
-  pub more : Item
-  pub more-level : levelIn b more ≡ level
-  pub more-held : In more (items xs)
-  pub more-missed : In more (items ys) → ⊥
-
--- "Condition 3 of the tender implies that nothing is better"
-abbrev pub NothingBetter : State → Type 0
-NothingBetter s = (xs : List Pair) → Matching (s .store) xs → Better (s .store) xs (held (s .panel)) → ⊥
