@@ -11,6 +11,7 @@ use panel::unchanged;
 ghost use mathlib.Core.Path.{_≡_};
 ghost use Prim.Native.Nat.{ℕ};
 ghost use mathlib.Core.List.{List};
+ghost use Rattle.panel.specs.Items.{linkAt};
 ghost use Rattle.panel.specs.Panels.{opened};
 ghost use Rattle.panel.specs.Commands.{opening};
 ghost use Rattle.panel.specs.Legal.{Legal};

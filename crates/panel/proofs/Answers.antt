@@ -8,9 +8,6 @@ use Rattle.panel.specs.declared.Refusal.{Refusal}
 use Rattle.panel.specs.declared.Refusal.the-variants.{BadHex, BadFrame, AlreadyOpen, NotOpen, BadSize, BadLink, NoSuchField, LinkTaken, NoSuchLink, Conflict, Loop, TextTooLong}
 use Rattle.panel.specs.declared.Reply.{Reply}
 use Rattle.panel.specs.declared.Reply.the-variants.{Accepted, Refused}
-use Rattle.panel.specs.declared.Blocked.{Blocked}
-use Rattle.panel.specs.declared.Blocked.the-variants.{Nothing, Link, Stay}
-use Rattle.panel.specs.Items.{foundOf}
 use Rattle.panel.specs.Answers.{refusalBytes, replyBytes}
 
 -- the refusal of a number
@@ -40,14 +37,3 @@ replies-apart (Accepted m) (Accepted n) e = cc
 replies-apart (Accepted m) (Refused s) e = let z : _≡_ {A = ℕ} 0 255 = ap (λ (b : List ℕ). getD b 0 0) e in absurd (omega arith)
 replies-apart (Refused r) (Accepted n) e = let z : _≡_ {A = ℕ} 255 0 = ap (λ (b : List ℕ). getD b 0 0) e in absurd (omega arith)
 replies-apart (Refused r) (Refused s) e = ap Refused (refusals-apart r s (ap (λ (b : List ℕ). drop 1 b) e))
-
-pub finds-apart : (a b : Blocked) → foundOf a ≡ foundOf b → a ≡ b
-finds-apart Nothing Nothing e = refl
-finds-apart Nothing (Link j) e = let z : _≡_ {A = ℕ} 0 1 = cc in absurd (omega arith)
-finds-apart Nothing (Stay g) e = let z : _≡_ {A = ℕ} 0 1 = cc in absurd (omega arith)
-finds-apart (Link i) Nothing e = let z : _≡_ {A = ℕ} 0 1 = cc in absurd (omega arith)
-finds-apart (Link i) (Link j) e = cc
-finds-apart (Link i) (Stay g) e = let z : _≡_ {A = ℕ} 0 1 = cc in absurd (omega arith)
-finds-apart (Stay f) Nothing e = let z : _≡_ {A = ℕ} 0 1 = cc in absurd (omega arith)
-finds-apart (Stay f) (Link j) e = let z : _≡_ {A = ℕ} 0 1 = cc in absurd (omega arith)
-finds-apart (Stay f) (Stay g) e = cc

@@ -7,3 +7,4 @@ pub mod Reversal
 pub mod Changes
 pub mod Checks
 pub mod Performed
+pub mod Outcomes

@@ -2,7 +2,6 @@
 use Prim.Native.Nat.{ℕ, _+_}
 use mathlib.Core.Bool.{Bool, true, false, _&&_, cond}
 use mathlib.Core.List.{List, _++_, map}
-use mathlib.Core.Option.{Option, none, some}
 use lib.Dec.{ltb}
 use lib.ListN.{getD}
 use Rattle.fieldset.specs.Tables.{at, tabulate}
@@ -10,8 +9,6 @@ use Rattle.fieldset.specs.Fields.{only, without}
 use Rattle.panel.specs.declared.Standing.{Standing}
 use Rattle.panel.specs.declared.Standing.the-variants.{Waiting, Holding}
 use Rattle.panel.specs.declared.Link.{Link}
-use Rattle.panel.specs.declared.Blocked.{Blocked}
-use Rattle.panel.specs.declared.Blocked.the-variants.{Nothing, Link as ALink, Stay as AStay}
 
 -- what may set a field: the link of a number, or the stay of a field
 pub data Item : Type 0 where
@@ -65,9 +62,3 @@ waits n links setter (stay f) = inForce n links (stay f) && ltb (at setter f) 12
 -- all links and stays that can be in force, links first, by rising number
 unfoldable pub itemsOf : ℕ → List Item
 itemsOf n = map link (tabulate (λ i. i) 128) ++ map stay (tabulate (λ f. f) n)
-
--- what a scan finds, as a link or stay
-abbrev pub foundOf : Blocked → Option Item
-foundOf Nothing = none
-foundOf (ALink i) = some (link i)
-foundOf (AStay f) = some (stay f)

@@ -1,60 +1,54 @@
 -- What an operation promises: the step that it answers, taken, gives the panel and the reply of the command.
-use Prim.Native.Nat.{ℕ, _≤_, _<_}
+use Prim.Native.Nat.{ℕ, _^_, _≤_, _<_}
 use mathlib.Core.Path.{_≡_}
-use mathlib.Core.Bool.{false}
+use mathlib.Core.Bool.{not}
+use mathlib.Core.Logic.{_⊎_}
 use mathlib.Core.List.{List}
-use lib.ListN.{take, drop}
+use lib.Dec.{eqb}
+use lib.ListN.{take, drop, set}
 use lib.Seq.{sets}
 use Rattle.fieldset.specs.Tables.{at}
+use Rattle.fieldset.specs.Fields.{member}
+use Rattle.panel.specs.declared.Standing.the-variants.{Waiting, Holding}
+use Rattle.panel.specs.declared.Link.{Link}
 use Rattle.panel.specs.declared.Panel.{Panel}
 use Rattle.panel.specs.declared.Reply.{Reply}
-use Rattle.panel.specs.declared.Change.{Change}
-use Rattle.panel.specs.declared.Change.the-variants.{Nothing, Open, Enter, Drop, Front}
 use Rattle.panel.specs.declared.Step.{Step}
 use Rattle.panel.specs.Items.{itemOf, linkAt}
 use Rattle.panel.specs.Answers.{Answer, replyBytes}
-use Rattle.panel.specs.Panels.{opened, withLink, dropped, toFront}
+use Rattle.panel.specs.Panels.{freed}
 use Rattle.panel.specs.Solution.{reversed}
 use Rattle.panel.specs.Commands.{Command, performed, planning}
 
--- the step that changes nothing
-abbrev pub onlyReply : Reply → Step
-onlyReply r = record { reply = r; change = Nothing; setter = 128; count = 0 }
+-- the step that leaves these fields, places and this link
+abbrev pub unchanged : ℕ → List ℕ → Link → Reply → Step
+unchanged size place named reply =
+    record { reply = reply; size = size; place = place; link = named; freed = Waiting; setter = 128; count = 0; changed = 0 }
 
--- the panel after a change
-abbrev pub changed : Panel → Change → Panel
-changed p Nothing = p
-changed p (Open n) = opened n
-changed p (Enter id l) = withLink p id l
-changed p (Drop id) = dropped p id
-changed p (Front f) = toFront p f
+-- the panel with the fields, places and the link of number k that a step gives
+abbrev pub altered : Panel → ℕ → Step → Panel
+altered p k s = record { size = s .size; links = set (p .links) k (s .link); place = s .place; setter = p .setter }
 
--- the panel after a step: after its change the path is reversed whose fields stand at the start of the buffer
-unfoldable pub taken : Panel → Step → List ℕ → Panel
-taken p s path = reversed (changed p (s .change)) (itemOf (s .setter) (at path 0)) (take (s .count) path)
-
--- the panel after a step, and its reply
-abbrev pub stepAnswer : Panel → Step → List ℕ → Answer
-stepAnswer p s path = record { panel = taken p s path; reply = replyBytes (s .reply) }
-
--- a change that the panel can take: only an unopened one is opened, and a link is entered where none is in use
-abbrev pub Takes : Panel → Change → Type 0
-Takes p Nothing = Unit {0}
-Takes p (Open n) = (p .size ≡ 0) × (n ≤ 64)
-Takes p (Enter id l) = (id < 128) × (linkAt (p .links) id .used ≡ false)
-Takes p (Drop id) = id < 128
-Takes p (Front f) = f < p .size
+-- the panel after a step: then what a dropped link held is set by its stay, and the path is reversed whose fields stand at the start of the buffer
+unfoldable pub taken : Panel → ℕ → Step → List ℕ → Panel
+taken p k s path = reversed (freed (altered p k s) (s .freed)) (itemOf (s .setter) (at path 0)) (take (s .count) path)
 
 -- a path of so many fields stands at the start of a buffer
 pub record PathOf (path : List ℕ) (count : ℕ) : Type 0 where
   pub few : count ≤ 64
   pub fields : (i : ℕ) → i < count → at path i < 64
 
--- what an operation on a command answers
-pub record Decides (p : Panel) (c : Command) (path : List ℕ) (s : Step) : Type 0 where
-  pub answer : stepAnswer p s path ≡ performed p c
-  pub change : Takes p (s .change)
+-- the step of a command, which names the link of number k
+pub record Decides (p : Panel) (k : ℕ) (c : Command) (path : List ℕ) (s : Step) : Type 0 where
+  -- the panel after it and its reply are the command's
+  pub panel : taken p k s path ≡ performed p c .panel
+  pub reply : replyBytes (s .reply) ≡ performed p c .reply
+  -- the fields that get another setter
+  pub changed : (f : ℕ) → f < 64 → member (s .changed) f ≡ not (eqb (at (p .setter) f) (at (taken p k s path .setter) f))
+  pub still : s .changed ≡ 0 → (s .freed ≡ Waiting) × (s .setter ≡ 128) × (s .count ≡ 0)
   pub path-of : PathOf path (s .count)
+  -- a link that sets a field stays, or gives that field free
+  pub keeps : (f : ℕ) → f < 64 → at (p .setter) f ≡ k → (s .link ≡ linkAt (p .links) k) ⊎ (s .freed ≡ Holding f)
 
 -- a plan: the first two bytes of the answer's reply are the reply's, and the rest of it, the rows, stands at the start of the buffer, whose
 -- bytes behind are as they were

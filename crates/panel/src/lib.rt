@@ -1,5 +1,6 @@
 // The panel: fields, links, stays, and what a command comes to.
 ghost use mathlib.Core.Path.{_≡_};
+ghost use lib.ListN.{length};
 ghost use Rattle.panel.specs.Items.{noLink};
 ghost use Rattle.panel.specs.Outcomes.{unchanged};
 

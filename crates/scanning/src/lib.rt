@@ -6,11 +6,9 @@ use panel::Panel;
 use panel::STAY;
 use panel::Standing;
 ghost use mathlib.Core.Path.{_≡_};
-ghost use Rattle.panel.specs.Items.{foundOf};
-ghost use Rattle.panel.specs.Solution.{leastBlocked};
 ghost use Rattle.panel.specs.Legal.{Legal};
-ghost use Rattle.tables.specs.Leaves.{StrengthsOf};
-ghost use Rattle.scanning.specs.Scan.{isOver, isBlockedLink};
+ghost use Rattle.tables.specs.Tables.{StrengthsOf};
+ghost use Rattle.scanning.specs.Scan.{isOver, isBlockedLink, withSetters, Finds};
 
 // Whether a field of the set has a strength above the level.
 fn is_over(set: u64, level: u8, table: &[u8; 64]) -> bool

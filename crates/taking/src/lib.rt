@@ -8,12 +8,14 @@ use tables::setter_entry;
 ghost use mathlib.Core.Path.{_≡_};
 ghost use mathlib.Core.Bool.{cond};
 ghost use lib.Dec.{ltb};
-ghost use lib.ListN.{length};
-ghost use Rattle.panel.specs.declared.Standing.the-variants.{Holding, Waiting};
-ghost use Rattle.panel.specs.Panels.{standing};
-ghost use Rattle.panel.specs.Legal.{Legal};
-ghost use Rattle.panel.specs.Outcomes.{taken, Takes, PathOf};
-ghost use Rattle.tables.specs.Tables.{Tabled};
+ghost use lib.ListN.{length, take};
+ghost use Rattle.fieldset.specs.Tables.{at};
+ghost use Rattle.panel.specs.Items.{itemOf};
+ghost use Rattle.panel.specs.Panels.{standing, freed};
+ghost use Rattle.panel.specs.Solution.{reversed};
+ghost use Rattle.panel.specs.Outcomes.{PathOf};
+ghost use Rattle.tables.specs.Tables.{Tabled, Places};
+ghost use Rattle.taking.specs.Taking.{TabledBut};
 
 // The link l at another standing, where c is a link's number; a stay has none.
 fn standing_of(c: u8, l: Link, s: Standing) -> Link
@@ -42,7 +44,7 @@ fn number_of(c: u8) -> u8
 // The panel with what a dropped link held set by its stay, and then a path reversed, with its tables.
 pub fn reverse(
     mut p: Panel,
-    freed: Standing,
+    held: Standing,
     setter: u8,
     path: &[u8; 64],
     count: usize,
@@ -50,10 +52,10 @@ pub fn reverse(
     others: &mut [u64; 64],
     reads: &mut [u64; 64],
 ) -> Panel
-    requires { ⌜ PathOf (now path) count × (length (now path) ≡ 64) ⌝ }
-    ensures { λ r. ⌜ (r ≡ reversed (freed p freed) (itemOf setter (at (now (path .entry)) 0)) (take count (now (path .entry)))) × Tabled r (now (levels .exit)) (now (others .exit)) (now (reads .exit)) ⌝ }
+    requires { ⌜ PathOf (now path) count × (length (now path) ≡ 64) × Places (p .place) × TabledBut p held (now levels) (now others) (now reads) ⌝ }
+    ensures { λ r. ⌜ (r ≡ reversed (freed p held) (itemOf setter (at (now (path .entry)) 0)) (take count (now (path .entry)))) × Tabled r (now (levels .exit)) (now (others .exit)) (now (reads .exit)) ⌝ }
 {
-    if let Standing::Holding(v) = freed {
+    if let Standing::Holding(v) = held {
         let f = wide(v);
         p.setter[f] = STAY;
         levels[f] = 16 + p.place[f];

@@ -1,0 +1,65 @@
+-- Steps: what a step leaves as it was, and the step that leaves the panel as it is.
+use Prim.Native.Nat.{ℕ, _≤_, _<_}
+use mathlib.Core.Path.{_≡_, refl, sym, ap, ap₂, _∙_, subst}
+use mathlib.Core.Bool.{not}
+use mathlib.Core.List.{List}
+use mathlib.Core.Logic.{inl}
+use native.Mathlib.Omega.{arith}
+use borrow.Author.Tests.{eq-eqb}
+use lib.Seq.{set-getD}
+use Rattle.fieldset.specs.Tables.{at}
+use Rattle.fieldset.proofs.Fields.{member-empty}
+use Rattle.panel.specs.declared.Standing.{Standing}
+use Rattle.panel.specs.declared.Standing.the-variants.{Waiting, Holding}
+use Rattle.panel.specs.declared.Link.{Link}
+use Rattle.panel.specs.declared.Panel.{Panel}
+use Rattle.panel.specs.declared.Reply.{Reply}
+use Rattle.panel.specs.declared.Step.{Step}
+use Rattle.panel.specs.Items.{noLink, linkAt, itemOf}
+use Rattle.panel.specs.Answers.{Answer, replyBytes}
+use Rattle.panel.specs.Panels.{freed}
+use Rattle.panel.specs.Solution.{reversed}
+use Rattle.panel.specs.Commands.{Command, performed}
+use Rattle.panel.specs.Outcomes.{unchanged, altered, taken, Decides}
+use Rattle.panel.proofs.Turn.{reversed-place}
+
+-- the places are the step's
+pub taken-place : (p : Panel) (k : ℕ) (s : Step) (path : List ℕ) → taken p k s path .place ≡ s .place
+unfolding taken
+taken-place p k s path = reversed-place (freed (altered p k s) (s .freed)) _ _ ∙ free (s .freed)
+  where
+    free : (t : Standing) → freed (altered p k s) t .place ≡ s .place
+    free Waiting = refl
+    free (Holding v) = refl
+
+-- a step that frees no field and reverses no path
+pub taken-still : (p : Panel) (k : ℕ) (s : Step) (path : List ℕ) → s .freed ≡ Waiting → s .setter ≡ 128 → s .count ≡ 0 → taken p k s path ≡ altered p k s
+unfolding taken reversed
+taken-still p k s path ef es ec = rw (ef, es, ec)
+
+-- the link of the number k is as it was
+module _ (p : Panel) (k : ℕ) (named : Link) (reply : Reply) (same : named ≡ linkAt (p .links) k) where
+  pub altered-size : (n : ℕ) → altered p k (unchanged n (p .place) named reply) ≡ record { size = n; links = p .links; place = p .place; setter = p .setter }
+  altered-size n = ap (λ (l : List Link). record { size = n; links = l; place = p .place; setter = p .setter }) (rw same (set-getD (p .links) k noLink))
+
+  -- the panel with so many fields, and no other setter
+  pub decides-size : (c : Command) (path : List ℕ) (n : ℕ) (a : Answer) → performed p c ≡ a
+      → record { size = n; links = p .links; place = p .place; setter = p .setter } ≡ a .panel → replyBytes reply ≡ a .reply
+      → Decides p k c path (unchanged n (p .place) named reply)
+  decides-size c path n a e panel answer =
+      let s = unchanged n (p .place) named reply in
+      let now : taken p k s path ≡ record { size = n; links = p .links; place = p .place; setter = p .setter } =
+      taken-still p k s path refl refl refl ∙ altered-size n in
+      record {
+        panel = now ∙ panel ∙ ap (λ (x : Answer). x .panel) (sym e);
+        reply = answer ∙ ap (λ (x : Answer). x .reply) (sym e);
+        changed = λ f l. member-empty f ∙ sym (rw now (ap not (eq-eqb (at (p .setter) f) (at (p .setter) f) refl)));
+        still = λ z. (refl, refl, refl);
+        path-of = record { few = omega arith; fields = λ i l. absurd (omega arith) };
+        keeps = λ f l e. inl same;
+      }
+
+  -- the panel as it is
+  pub decides-unchanged : (c : Command) (path : List ℕ) (a : Answer) → performed p c ≡ a → p ≡ a .panel → replyBytes reply ≡ a .reply
+      → Decides p k c path (unchanged (p .size) (p .place) named reply)
+  decides-unchanged c path a e panel answer = decides-size c path (p .size) a e panel answer
