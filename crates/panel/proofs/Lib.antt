@@ -8,3 +8,4 @@ pub mod Changes
 pub mod Checks
 pub mod Performed
 pub mod Outcomes
+pub mod Moved

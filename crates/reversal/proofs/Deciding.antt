@@ -1,25 +1,27 @@
 -- What `decide` answers, from what its callees answer.
-use mathlib.Core.Path.{_≡_, sym, ap, _∙_}
+use mathlib.Core.Path.{_≡_, sym, ap, _∙_, subst}
 use mathlib.Core.Bool.{Bool, true}
 use mathlib.Core.List.{List}
 use Prim.Native.Nat.{ℕ, _^_, _<_}
 use native.Mathlib.Omega.{arith}
-use borrow.Author.Tests.{ltb-true}
+use borrow.Author.Tests.{lt-ltb, ltb-true}
 use lib.ListN.{length, take, drop, length-append, length-drop, List·getD-append}
 use lib.Seq.{take-at}
 use Rattle.fieldset.specs.Tables.{at}
 use Rattle.fieldset.specs.Fields.{member}
 use Rattle.fieldset.proofs.Fields.{some-member, member-below}
 use Rattle.fieldset.proofs.Lists.{all-at}
-use Rattle.strength.specs.Strength.{strength, lowestAt, path}
+use Rattle.strength.specs.Strength.{greatest, strength, lowestAt, path}
 use Rattle.strength.specs.Filling.{Walked}
 use Rattle.strength.proofs.Maxima.{greatest-some}
 use Rattle.strength.proofs.Paths.{Tie, lowestAt-found, lowestAt-cong, Reversible, path-reversible}
 use Rattle.ordering.specs.Order.{hasLoop}
 use Rattle.ordering.specs.Walks.{Among}
-use Rattle.tables.specs.Leaves.{PathOf, reversedReads}
-use Rattle.turning.specs.Turns.{Undecided, Decided}
-use Rattle.turning.proofs.Decision.{among-reversed}
+use Rattle.panel.specs.Outcomes.{PathOf}
+use Rattle.reversal.specs.declared.Turn.{Turn}
+use Rattle.reversal.specs.declared.Turn.the-variants.{Free, Looped, Path}
+use Rattle.reversal.specs.Reversals.{reversedReads, Undecided, Found, Decided, Resolved}
+use Rattle.reversal.proofs.ReadFields.{among-reversed}
 
 module _ (levels others table : List ℕ) (n known s outputs covered : ℕ) (reads path₀ : List ℕ) (small : outputs < 2 ^ 64)
     (u : Undecided levels others table n known s outputs covered reads path₀) where
@@ -75,7 +77,7 @@ module _ (levels others table : List ℕ) (n known s outputs covered : ℕ) (rea
           rw fields-taken (among-reversed n (w .fields) reads covered (u .reads-length) (u .among) (u .covered-inside) (is-reversible .inside))
 
       pub decided : (reads₁ : List ℕ) (looped : Bool) → reads₁ ≡ reversedReads reads covered (take count path₁) → looped ≡ hasLoop (at reads₁) n
-          → Decided levels others n s outputs covered reads path₁ count looped
+          → Found levels others n s outputs covered reads path₁ count looped
       decided reads₁ looped rs lp = record {
         fields = path-of;
         full = after-length;
@@ -85,3 +87,13 @@ module _ (levels others table : List ℕ) (n known s outputs covered : ℕ) (rea
             ∙ ap (λ (x : ℕ). path (at levels) (at others) (strength (at levels) (at others) n) s n x) (is ∙ start-same);
         is-looped = lp ∙ ap (λ (x : List ℕ). hasLoop (at x) n) rs;
       }
+
+-- what is decided for a blocked item is what is to be done for it
+pub resolved : (levels others : List ℕ) (n level s outputs covered : ℕ) (reads after : List ℕ) (t : Turn)
+    → s ≡ greatest (member outputs) (strength (at levels) (at others) n) 64 → level < s
+    → Decided levels others n s outputs covered reads after t → Resolved levels others n level outputs covered reads after t
+resolved levels others n level s outputs covered reads after Free e l d = absurd d
+resolved levels others n level s outputs covered reads after Looped e l d =
+    (lt-ltb level _ (rw e at l), subst (λ (x : ℕ). Decided levels others n x outputs covered reads after Looped) e d)
+resolved levels others n level s outputs covered reads after (Path k m) e l d =
+    (lt-ltb level _ (rw e at l), subst (λ (x : ℕ). Decided levels others n x outputs covered reads after (Path k m)) e d)

@@ -1,6 +1,5 @@
-pub mod Tables
-pub mod Reversal
-pub mod Steps
-pub mod Decision
+pub mod Fields
+pub mod Turns
+pub mod ReadFields
 pub mod Deciding
-pub mod Gives
+pub mod Decision

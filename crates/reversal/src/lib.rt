@@ -17,7 +17,7 @@ ghost use mathlib.Core.Path.{_≡_};
 ghost use lib.ListN.{length, take};
 ghost use Rattle.fieldset.specs.Fields.{size};
 ghost use Rattle.panel.specs.Outcomes.{PathOf};
-ghost use Rattle.reversal.specs.Reversals.{reversedReads, fieldsOf, Undecided, Decided, Unresolved, Resolved, stepOf};
+ghost use Rattle.reversal.specs.Reversals.{reversedReads, fieldsOf, Undecided, Decided, Unresolved, Resolved, HeldField, heldField, stepOf};
 
 // What is to be done for an item: nothing where it is not blocked; else its path is reversed, which has so many fields, these, unless
 // there is a loop then.
@@ -109,10 +109,10 @@ pub fn resolve(
     decide(levels, others, &table, n, top.known, s, outputs, covered, reads, path)
 }
 
-// The set of the field that is held.
-fn field_of(s: Standing) -> u64
-    requires { ⌜ Held s ⌝ }
-    ensures { λ r. ⌜ r ≡ fieldOf s ⌝ }
+// The set of the field that an item of this standing holds.
+fn held_field(s: Standing) -> u64
+    requires { ⌜ HeldField s ⌝ }
+    ensures { λ r. ⌜ r ≡ heldField s ⌝ }
 {
     match s {
         Standing::Waiting => 0,
@@ -127,28 +127,29 @@ fn count_of(set: u64) -> u8
     size(set) as u8
 }
 
-// The step that leaves so many fields, these places and this link, and reverses the path for the item of the number c. The fields with another
-// setter are the path's and that of a link that is dropped.
-pub fn step_of(turn: Turn, size: usize, place: &[u8; 64], link: Link, freed: Standing, c: u8) -> Step
-    requires { ⌜ length (now place) ≡ 64 ⌝ }
-    ensures { λ r. ⌜ r ≡ stepOf turn size (now (place .entry)) link freed c ⌝ }
+// The step that leaves so many fields, these places and this link, gives free what a link of this standing held, and reverses the path for the item
+// of the number c. The fields that are given free and those of the path get another setter.
+pub fn step_of(turn: Turn, n: usize, place: &[u8; 64], link: Link, held: Standing, c: u8) -> Step
+    requires { ⌜ (length (now place) ≡ 64) × HeldField held ⌝ }
+    ensures { λ r. ⌜ r ≡ stepOf turn n (now (place .entry)) link held c ⌝ }
 {
     let mut setter = STAY;
     let mut count: usize = 0;
-    let mut changed = field_of(freed);
+    let mut fields = 0u64;
     if let Turn::Path(k, set) = turn {
         setter = c;
         count = k;
-        changed = union(set, changed);
+        fields = set;
     }
     let places = *place;
+    let changed = union(fields, held_field(held));
     let m = count_of(changed);
     Step {
         reply: Reply::Accepted(m),
-        size: size,
+        size: n,
         place: places,
         link: link,
-        freed: freed,
+        freed: held,
         setter: setter,
         count: count,
         changed: changed,

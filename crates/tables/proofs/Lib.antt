@@ -1,3 +1,4 @@
 pub mod Maps
+pub mod Rest
 pub mod Settings
 pub mod Tables

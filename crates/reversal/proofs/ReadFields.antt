@@ -1,23 +1,28 @@
 -- The table of read fields after a path is reversed is that of the reversed panel.
 use mathlib.Core.Path.{_≡_, refl, sym, ap, _∙_, subst}
+use mathlib.Core.Logic.{⊎-elim}
 use mathlib.Core.Bool.{true}
 use mathlib.Core.List.{List, [], _∷_}
 use Prim.Native.Nat.{ℕ, _^_, _≤_, _<_}
 use native.Mathlib.Decide.{ℕ-discrete}
 use native.Mathlib.Omega.{arith}
-use borrow.Author.Tests.{eqb-true}
+use borrow.Author.Tests.{eqb-true, ltb-true, lt-ltb}
+use lib.Dec.{eqb}
 use lib.ListN.{length, set, length-set}
 use lib.Seq.{getD-set-same, getD-set-other}
 use Rattle.fieldset.specs.Tables.{at}
-use Rattle.fieldset.specs.Lists.{Distinct}
-use Rattle.fieldset.specs.Fields.{member, with, without, only}
-use Rattle.fieldset.proofs.Fields.{ext-member, member-only, member-with-same, member-with-other, member-without-other, only-lt, with-lt}
+use Rattle.fieldset.specs.Lists.{All, Distinct}
+use Rattle.fieldset.specs.Fields.{member, with, without, only, below}
+use Rattle.fieldset.proofs.Fields.{ext-member, member-only, member-below, member-with, member-with-same, member-with-other, member-without-other, only-lt, with-lt}
+use Rattle.strength.specs.Filling.{Within}
+use Rattle.ordering.specs.Walks.{Among}
+use Rattle.ordering.proofs.Sets.{or-cases, without-cases}
 use Rattle.panel.specs.declared.Link.{Link}
 use Rattle.panel.specs.Items.{Item, link, stay, linkAt, outputsOf, readsOf}
 use Rattle.panel.proofs.Turn.{put, put-here, put-there, turn}
 use Rattle.panel.proofs.Reversal.{Leads, leads-put}
-use Rattle.tables.specs.Leaves.{reversedReads}
-use Rattle.tables.proofs.Filling.{stay-others}
+use Rattle.tables.proofs.Settings.{stay-others}
+use Rattle.reversal.specs.Reversals.{reversedReads}
 
 -- the covered fields of an item
 abbrev pub coverOf : List Link → Item → ℕ
@@ -91,3 +96,21 @@ module _ (n : ℕ) (links : List Link) (few : n ≤ 64) (Ok : Item → Type 0)
       ap (λ (x : ℕ). with x v) (h .reads v l) ∙ covers (st v) v (h .ok v l) l (h .output v l) .adds in
       reversed-reads (put st v c) (st v) vs (set r v (without m v)) (with (at r v) v)
       (rw e (reading-step st r c v h ok l out)) (h .ok v l) next (leads-put n (outputsOf links) st v c (st v) vs off leads) dis
+
+-- ---- the read fields after a reversal are fields of the panel
+
+pub among-reversed : (n : ℕ) (vs : List ℕ) (r : List ℕ) (m : ℕ) → length r ≡ 64 → Among r n → Within m (below n) → All (λ v. v < n) vs → Among (reversedReads r m vs) n
+unfolding reversedReads
+among-reversed n [] r m full h w all = h
+among-reversed n (v ∷ vs) r m full h w (l, all) =
+    among-reversed n vs (set r v (without m v)) (with (at r v) v) (length-set r v (without m v) ∙ full)
+    (record { few = h .few; inside = λ g f lg lf e. inside g f lg lf e (ℕ-discrete g v) })
+    (λ u k e. member-below n u k ∙ lt-ltb u n (⊎-elim (λ a. h .inside v u l k a) (λ a. rw (eqb-true u v a) l) (or-cases (member (at r v) u) (eqb u v) (sym (member-with (at r v) v u k) ∙ e))))
+    all
+  where
+    inside : (g f : ℕ) → g < n → f < 64 → member (at (set r v (without m v)) g) f ≡ true → Dec (g ≡ v) → f < n
+    inside g f lg lf e (yes d) =
+        let here : at (set r v (without m v)) g ≡ without m v =
+        ap (λ (x : ℕ). at (set r v (without m v)) x) d ∙ getD-set-same r v (without m v) 0 (omega (arith, h .few)) in
+        ltb-true f n (sym (member-below n f lf) ∙ w f lf (without-cases m v f lf (rw here at e) .0))
+    inside g f lg lf e (no d) = h .inside g f lg lf (rw (getD-set-other r v g (without m v) 0 d) at e)

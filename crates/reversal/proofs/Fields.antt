@@ -1,0 +1,44 @@
+-- The read fields after a reversal, and the set of a path's fields, one field at a time.
+use Prim.Native.Nat.{ℕ, _+_, _≤_, _<_}
+use mathlib.Core.Path.{_≡_, refl, sym, ap, _∙_}
+use mathlib.Core.Bool.{Bool, _||_, or-assoc, or-false}
+use mathlib.Core.List.{List, [], _∷_, _++_}
+use native.Mathlib.Numerals.{add-one}
+use lib.Dec.{eqb}
+use lib.ListN.{length, take, set}
+use lib.Seq.{take-suc}
+use Rattle.fieldset.specs.Tables.{at}
+use Rattle.fieldset.specs.Fields.{member, setOf, with, without}
+use Rattle.fieldset.proofs.Fields.{setOf-cong, member-setOf-lt}
+use Rattle.panel.specs.Commands.{anyOf}
+use Rattle.tables.proofs.Rest.{rest, rest-next, rest-end}
+use Rattle.reversal.specs.Reversals.{reversedReads, fieldsOf}
+
+module _ (n : ℕ) (path : List ℕ) (long : n ≤ length path) where
+  pub reads-next : (reads : List ℕ) (cover i k v w : ℕ) → i < n → k ≡ at path i → v ≡ without cover k → w ≡ with (at reads k) k
+      → reversedReads (set reads k v) w (rest n path (i + 1)) ≡ reversedReads reads cover (rest n path i)
+  unfolding reversedReads
+  reads-next reads cover i k v w l ek ev ew = rw (rest-next n i path l long, ev, ew, ek)
+
+  pub reads-end : (reads : List ℕ) (cover i : ℕ) → n ≤ i → reversedReads reads cover (rest n path i) ≡ reads
+  unfolding reversedReads
+  reads-end reads cover i l = rw (rest-end n i path l long)
+
+any-append : (f v : ℕ) (vs : List ℕ) → anyOf (eqb f) (vs ++ (v ∷ [])) ≡ (anyOf (eqb f) vs || eqb f v)
+unfolding anyOf
+any-append f v [] = or-false (eqb f v)
+any-append f v (u ∷ vs) = ap (λ (b : Bool). eqb f u || b) (any-append f v vs) ∙ sym (or-assoc (eqb f u) (anyOf (eqb f) vs) (eqb f v))
+
+pub fields-none : (path : List ℕ) → fieldsOf (take 0 path) ≡ 0
+unfolding fieldsOf anyOf setOf
+fields-none path = refl
+
+-- one field more
+pub fields-more : (path : List ℕ) (i m k : ℕ) → i < length path → m ≡ fieldsOf (take i path) → k ≡ at path i → with m k ≡ fieldsOf (take (i + 1) path)
+unfolding fieldsOf with
+fields-more path i m k l em ek =
+    setOf-cong (λ f. member m f || eqb f k) (λ f. anyOf (eqb f) (take (i + 1) path)) 64 (λ f lf.
+    ap (λ (b : Bool). b || eqb f k) (ap (λ (x : ℕ). member x f) em ∙ member-setOf-lt (λ f. anyOf (eqb f) (take i path)) 64 f lf)
+    ∙ ap (λ (x : ℕ). anyOf (eqb f) (take i path) || eqb f x) ek
+    ∙ sym (any-append f (at path i) (take i path))
+    ∙ ap (anyOf (eqb f)) (sym (ap (λ (x : ℕ). take x path) (add-one i) ∙ take-suc path i 0 l)))

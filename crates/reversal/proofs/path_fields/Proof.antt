@@ -1,0 +1,65 @@
+-- `reversal::path_fields` meets its contract: the set has the fields passed.
+use Prim.Native.Nat.{_-_, _≤_}
+use mathlib.Core.Path.{_≡_, sym, ap, _∙_}
+use mathlib.Core.List.{List}
+use native.Mathlib.Omega.{arith}
+use borrow.Author.Needs.{needs}
+use lib.ListN.{take}
+use Prim.Native.Nat.{ℕ}
+use Rattle.reversal.specs.Reversals.{fieldsOf}
+use Rattle.reversal.proofs.Fields.{fields-none, fields-more}
+use Rattle.reversal.proofs.path_fields.Statement.{statement}
+use Rattle.reversal.proofs.path_fields.Tie as tie
+
+abbrev Inv-loop : tie.InvT-loop
+Inv-loop path count set₀ i₀ set i = (i ≤ count) × (set ≡ fieldsOf (take i path))
+
+abbrev μ-loop : tie.MeasureT-loop
+μ-loop path count set₀ i₀ set i = count - i
+
+loop-holds : tie.Need-loop-holds Inv-loop μ-loop
+loop-holds c = (omega arith, sym (fields-none (c .args .path .now)))
+
+element-copy-out-wide : tie.Need-element-copy-out-wide Inv-loop μ-loop
+element-copy-out-wide c = omega (arith, c .before .before .pre .0 .few)
+
+wide-requires : tie.Need-wide-requires Inv-loop μ-loop
+wide-requires c κs = search needs
+
+with-requires : tie.Need-with-requires Inv-loop μ-loop
+with-requires c κs = omega (arith, c .before .before .before .before .pre .0 .fields (c .before .before .before .loop .i) (omega arith))
+
+add-i : tie.Need-add-i Inv-loop μ-loop
+add-i c = search needs
+
+loop-less : tie.Need-loop-less Inv-loop μ-loop
+loop-less c = search needs
+
+loop-again : tie.Need-loop-again Inv-loop μ-loop
+loop-again c =
+    let b = c .before .before .before .before .before in
+    let a = c .before .before .before .before .loop in (
+      omega arith,
+      c .with .ensures ∙ fields-more (b .args .path .now) (a .i) (a .set) (c .before .wide .result) (omega (arith, b .pre .0 .few)) (a .inv .1) (c .before .wide .ensures),
+    )
+
+returns : tie.Need-returns Inv-loop μ-loop
+returns c =
+    let a = c .before .loop in
+    let e : a .i ≡ c .before .before .args .count = omega arith in
+    a .inv .1 ∙ ap (λ (k : ℕ). fieldsOf (take k (c .before .before .args .path .now))) e
+
+pub path-fields-spec : {M : Type 1} → statement M
+path-fields-spec =
+    tie.close
+    (tie.spec
+    Inv-loop
+    μ-loop
+    loop-holds
+    element-copy-out-wide
+    wide-requires
+    with-requires
+    add-i
+    loop-less
+    loop-again
+    returns)

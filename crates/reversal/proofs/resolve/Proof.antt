@@ -1,0 +1,44 @@
+-- `reversal::resolve` meets its contract.
+use mathlib.Core.Path.{refl, ap, _∙_}
+use native.Mathlib.Omega.{arith}
+use borrow.Author.Needs.{needs}
+use borrow.Author.Tests.{le-ltb}
+use lib.Dec.{ltb}
+use Rattle.reversal.proofs.Deciding.{resolved}
+use Rattle.reversal.proofs.resolve.Statement.{statement}
+use Rattle.reversal.proofs.resolve.Tie as tie
+
+greatest-requires : tie.Need-greatest-requires
+greatest-requires c κs = let u = c .before .pre in (u .acyclic, u .outputs-inside, refl)
+
+returns : tie.Need-returns
+returns c =
+    let g = c .before in
+    le-ltb _ _ (rw (g .greatest .ensures .is-greatest) at (c .if1 .taken))
+
+decide-requires : tie.Need-decide-requires
+decide-requires c κs =
+    let g = c .before .before .before in
+    let u = g .before .before .pre in
+    let t = g .greatest .ensures in
+    record {
+      acyclic = u .acyclic;
+      strengths = t .strengths;
+      outputs-known = t .has;
+      some-output = u .some-output;
+      outputs-inside = u .outputs-inside;
+      is-greatest = t .is-greatest;
+      among = u .among;
+      covered-inside = u .covered-inside;
+      reads-length = u .reads-length;
+      path-length = u .path-length;
+    }
+
+returns-2 : tie.Need-returns-2
+returns-2 c =
+    let e = c .before .before .before in
+    let g = e .before in
+    resolved _ _ _ _ _ _ _ _ _ (c .decide .result) (g .greatest .ensures .is-greatest) (omega (arith, e .if1 .left)) (c .decide .ensures)
+
+pub resolve-spec : {M : Type 1} → statement M
+resolve-spec = tie.close (tie.spec greatest-requires returns decide-requires returns-2)

@@ -1,0 +1,125 @@
+-- What deciding on the reversal of a path asks and answers, over the tables of a panel's setters.
+use Prim.Native.Nat.{ℕ, _<_}
+use mathlib.Core.Path.{_≡_}
+use mathlib.Core.Bool.{Bool, true, false}
+use mathlib.Core.List.{List, [], _∷_}
+use lib.Dec.{eqb, ltb}
+use lib.ListN.{length, take, set}
+use Rattle.fieldset.specs.Tables.{at}
+use Rattle.fieldset.specs.Fields.{member, setOf, with, without, only, union, below, size}
+use Rattle.strength.specs.Strength.{greatest, strength, lowestAt, path}
+use Rattle.strength.specs.Filling.{Acyclic, Strengths, Within}
+use Rattle.ordering.specs.Order.{hasLoop}
+use Rattle.ordering.specs.Walks.{Among}
+use Rattle.panel.specs.declared.Standing.{Standing}
+use Rattle.panel.specs.declared.Standing.the-variants.{Waiting, Holding}
+use Rattle.panel.specs.declared.Link.{Link}
+use Rattle.panel.specs.declared.Reply.the-variants.{Accepted}
+use Rattle.panel.specs.declared.Step.{Step}
+use Rattle.panel.specs.Commands.{anyOf}
+use Rattle.panel.specs.Outcomes.{PathOf}
+use Rattle.reversal.specs.declared.Turn.{Turn}
+use Rattle.reversal.specs.declared.Turn.the-variants.{Free, Looped, Path}
+
+-- the read fields after a path is reversed, from the covered fields of what sets its first field: what set a field covers what it read and
+-- that field
+unfoldable pub reversedReads : List ℕ → ℕ → List ℕ → List ℕ
+reversedReads reads covered [] = reads
+reversedReads reads covered (v ∷ vs) = reversedReads (set reads v (without covered v)) (with (at reads v) v) vs
+
+-- the set of the fields of a path
+unfoldable pub fieldsOf : List ℕ → ℕ
+fieldsOf vs = setOf (λ f. anyOf (eqb f) vs) 64
+
+-- s is the greatest strength of some outputs, whose strengths the table has; the item that has these outputs covers fields of the panel
+pub record Undecided (levels others table : List ℕ) (n known s outputs covered : ℕ) (reads path : List ℕ) : Type 0 where
+  pub acyclic : Acyclic others n
+  pub strengths : Strengths levels others n known table
+  pub outputs-known : Within outputs known
+  pub some-output : 0 < outputs
+  pub outputs-inside : Within outputs (below n)
+  pub is-greatest : s ≡ greatest (member outputs) (strength (at levels) (at others) n) 64
+  pub among : Among reads n
+  pub covered-inside : Within covered (below n)
+  pub reads-length : length reads ≡ 64
+  pub path-length : length path ≡ 64
+
+-- the path from the lowest-numbered output of the strength s stands at the start of the buffer, and it is known whether its reversal has a loop.
+-- What stands behind the path is free.
+pub record Found (levels others : List ℕ) (n s outputs covered : ℕ) (reads after : List ℕ) (count : ℕ) (looped : Bool) : Type 0 where
+  pub fields : PathOf after count
+  pub full : length after ≡ 64
+  pub is-path :
+      take count after
+      ≡ path (at levels) (at others) (strength (at levels) (at others) n) s n (lowestAt (strength (at levels) (at others) n) s outputs)
+  pub is-looped : looped ≡ hasLoop (at (reversedReads reads covered (take count after))) n
+
+-- what is decided for a blocked item
+abbrev pub Decided : List ℕ → List ℕ → ℕ → ℕ → ℕ → ℕ → List ℕ → List ℕ → Turn → Type 0
+Decided levels others n s outputs covered reads after Free = ⊥
+Decided levels others n s outputs covered reads after Looped = (count : ℕ) × Found levels others n s outputs covered reads after count true
+Decided levels others n s outputs covered reads after (Path count set) =
+    Found levels others n s outputs covered reads after count false × (set ≡ fieldsOf (take count after))
+
+-- an item waits that has these outputs and covered fields
+pub record Unresolved (others : List ℕ) (n outputs covered : ℕ) (reads path : List ℕ) : Type 0 where
+  pub acyclic : Acyclic others n
+  pub some-output : 0 < outputs
+  pub outputs-inside : Within outputs (below n)
+  pub among : Among reads n
+  pub covered-inside : Within covered (below n)
+  pub reads-length : length reads ≡ 64
+  pub path-length : length path ≡ 64
+
+-- whether it is blocked, and what is then decided
+abbrev pub Resolved : List ℕ → List ℕ → ℕ → ℕ → ℕ → ℕ → List ℕ → List ℕ → Turn → Type 0
+Resolved levels others n level outputs covered reads after Free =
+    ltb level (greatest (member outputs) (strength (at levels) (at others) n) 64) ≡ false
+Resolved levels others n level outputs covered reads after Looped =
+    let s = greatest (member outputs) (strength (at levels) (at others) n) 64 in
+    (ltb level s ≡ true) × Decided levels others n s outputs covered reads after Looped
+Resolved levels others n level outputs covered reads after (Path count set) =
+    let s = greatest (member outputs) (strength (at levels) (at others) n) 64 in
+    (ltb level s ≡ true) × Decided levels others n s outputs covered reads after (Path count set)
+
+-- the set of the field that an item of this standing holds
+abbrev pub heldField : Standing → ℕ
+heldField Waiting = 0
+heldField (Holding v) = only v
+
+-- it is one of 64 fields
+abbrev pub HeldField : Standing → Type 0
+HeldField Waiting = Unit {0}
+HeldField (Holding v) = v < 64
+
+-- what a turn gives a step: what sets the path's first field, how many fields the path has, and these
+abbrev pub setterBy : Turn → ℕ → ℕ
+setterBy Free c = 128
+setterBy Looped c = 128
+setterBy (Path count set) c = c
+
+abbrev pub countBy : Turn → ℕ
+countBy Free = 0
+countBy Looped = 0
+countBy (Path count set) = count
+
+abbrev pub fieldsBy : Turn → ℕ
+fieldsBy Free = 0
+fieldsBy Looped = 0
+fieldsBy (Path count set) = set
+
+-- the step that leaves so many fields, these places and this link, gives free what a link of this standing held, and reverses the path for the
+-- item of the number c
+abbrev pub stepOf : Turn → ℕ → List ℕ → Link → Standing → ℕ → Step
+stepOf turn n place link held c =
+    let changed = union (fieldsBy turn) (heldField held) in
+    record {
+      reply = Accepted (size changed);
+      size = n;
+      place = place;
+      link = link;
+      freed = held;
+      setter = setterBy turn c;
+      count = countBy turn;
+      changed = changed;
+    }
