@@ -1,2 +1,1 @@
 pub mod Reversal
-pub mod Taking

@@ -158,17 +158,51 @@ module _ (p : Panel) (c v : ℕ) (full : length (p .setter) ≡ 64) (lv : v < 64
 pub record Reversing (n : ℕ) (path : List ℕ) (whole p : Panel) (c i : ℕ) (levels others reads : List ℕ) : Type 0 where
   pub within : i ≤ n
   pub panel : reversed p (itemOf c 0) (rest n path i) ≡ whole
+  pub full : length (p .setter) ≡ 64
   pub placed : Places (p .place)
   pub tabled : Tabled p levels others reads
 
+-- what a dropped link held is set by its stay, and the whole path is left
+abbrev pub Starts : ℕ → List ℕ → ℕ → Panel → Standing → Panel → List ℕ → List ℕ → List ℕ → Type 0
+Starts n path c p held q levels others reads =
+    (q ≡ freed p held) × Reversing n path (reversed q (itemOf c (at path 0)) (take n path)) q c 0 levels others reads
+
+module _ (n : ℕ) (path : List ℕ) (c : ℕ) {p q : Panel} {held : Standing} {l o r l′ o′ r′ : List ℕ}
+    (placed : Places (p .place)) (full : length (p .setter) ≡ 64) (t : TabledBut p held l o r) where
+  pub reversing-freed : {v k : ℕ} → held ≡ Holding v → k ≡ v
+      → l′ ≡ set l k (16 + at (p .place) k) → o′ ≡ set o k 0 → r′ ≡ set r k 0 → q ≡ withSetter p k 128 → Starts n path c p held q l′ o′ r′
+  reversing-freed {v} {k} e ek el eo er eq =
+      let own : Entry = record { level = 16 + at (p .place) v; others = 0; reads = 0 } in (
+        rw (eq, e, ek) refl,
+        rw (eq, el, eo, er, ek) (record {
+          within = omega arith;
+          panel = reversed-stay (withSetter p v 128) c 0 (at path 0) (take n path);
+          full = length-set (p .setter) v 128 ∙ full;
+          placed = placed;
+          tabled = tabled-holding p 128 v full (t .field v e) own (record { level = refl; others = refl; reads = refl }) (rw e at t);
+        }),
+      )
+
+  pub reversing-all : held ≡ Waiting → l′ ≡ l → o′ ≡ o → r′ ≡ r → q ≡ p → Starts n path c p held q l′ o′ r′
+  reversing-all e el eo er eq = (
+    rw (eq, e) refl,
+    rw (eq, el, eo, er) (record {
+      within = omega arith;
+      panel = reversed-stay p c 0 (at path 0) (take n path);
+      full = full;
+      placed = placed;
+      tabled = tabled-whole p e t;
+    }),
+  )
+
 module _ (n : ℕ) (path : List ℕ) {whole : Panel} (long : n ≤ length path) where
   pub reversing-next : {p : Panel} {c i : ℕ} {levels others reads : List ℕ} {j k m : ℕ} {l : Link} {e : Entry}
-      → Reversing n path whole p c i levels others reads → i < n → at path i < 64 → length (p .setter) ≡ 64
+      → Reversing n path whole p c i levels others reads → i < n → at path i < 64
       → k ≡ at path i → j ≡ c % 128 → l ≡ stood c (linkAt (p .links) j) (Holding (at path i)) → m ≡ cond (ltb c 128) c 128
       → EntryOf c (linkAt (p .links) j) (at (p .place) k) k e
       → Reversing n path whole (withSetter (withLink p j l) k m) (at (p .setter) k) (i + 1) (set levels k (e .level)) (set others k (e .others)) (set reads k (e .reads))
   unfolding reversed setterOf
-  reversing-next {p} {c} {i} {levels} {others} {reads} {j} {k} {m} {l} {e} h less lv full ek ej el em is =
+  reversing-next {p} {c} {i} {levels} {others} {reads} {j} {k} {m} {l} {e} h less lv ek ej el em is =
       let v = at path i in
       let same : withSetter (withLink p j l) k m ≡ holding p (itemOf c v) v = rw (el, em, ej, ek) (holds p c v) in
       record {
@@ -178,8 +212,9 @@ module _ (n : ℕ) (path : List ℕ) {whole : Panel} (long : n ≤ length path) 
             ∙ rw (rest-next n i path less long) (reversed-stay p c v 0 (v ∷ rest n path (i + 1)))
             ∙ h .panel
             );
+        full = length-set (p .setter) k m ∙ h .full;
         placed = h .placed;
-        tabled = rw (same, ek) (tabled-holding p c v full lv e (rw (ej, ek) at is) (tabled-but p v lv (h .tabled)));
+        tabled = rw (same, ek) (tabled-holding p c v (h .full) lv e (rw (ej, ek) at is) (tabled-but p v lv (h .tabled)));
       }
 
   pub reversing-ends : {p : Panel} {c i : ℕ} {levels others reads : List ℕ} {j : ℕ} {l : Link}
