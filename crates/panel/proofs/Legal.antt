@@ -118,7 +118,7 @@ carrying p c h idle = record { few = h .few; placed = placed p h; filled = fille
 
 -- ---- the parts make a legal panel
 
-holding-not-waiting : {s : Standing} {f : ℕ} → s ≡ Holding f → s ≢ Waiting
+pub holding-not-waiting : {s : Standing} {f : ℕ} → s ≡ Holding f → s ≢ Waiting
 holding-not-waiting d e = let z : _≡_ {A = ℕ} 0 1 = cc in omega arith
 
 pub legal : (p : Panel) (c : Item) → Carrying c p → Rests (p .links) c → Weak (p .links) c → isLooped p ≡ false → Legal p

@@ -22,6 +22,7 @@ use Rattle.panel.specs.Solution.{reversed}
 use Rattle.panel.specs.Commands.{Command, performed}
 use Rattle.panel.specs.Outcomes.{unchanged, altered, taken, Decides}
 use Rattle.panel.proofs.Turn.{reversed-place}
+use Rattle.panel.proofs.Legal.{holding-not-waiting}
 
 -- the places are the step's
 pub taken-place : (p : Panel) (k : ℕ) (s : Step) (path : List ℕ) → taken p k s path .place ≡ s .place
@@ -56,6 +57,7 @@ module _ (p : Panel) (k : ℕ) (named : Link) (reply : Reply) (same : named ≡ 
         changed = λ f l. member-empty f ∙ sym (rw now (ap not (eq-eqb (at (p .setter) f) (at (p .setter) f) refl)));
         still = λ z. (refl, refl, refl);
         path-of = record { few = omega arith; fields = λ i l. absurd (omega arith) };
+        freed-field = λ v e. absurd (holding-not-waiting e refl);
         keeps = λ f l e. inl same;
       }
 

@@ -47,6 +47,8 @@ pub record Decides (p : Panel) (k : ℕ) (c : Command) (path : List ℕ) (s : St
   pub changed : (f : ℕ) → f < 64 → member (s .changed) f ≡ not (eqb (at (p .setter) f) (at (taken p k s path .setter) f))
   pub still : s .changed ≡ 0 → (s .freed ≡ Waiting) × (s .setter ≡ 128) × (s .count ≡ 0)
   pub path-of : PathOf path (s .count)
+  -- what a dropped link held is a field
+  pub freed-field : (v : ℕ) → s .freed ≡ Holding v → v < 64
   -- a link that sets a field stays, or gives that field free
   pub keeps : (f : ℕ) → f < 64 → at (p .setter) f ≡ k → (s .link ≡ linkAt (p .links) k) ⊎ (s .freed ≡ Holding f)
 

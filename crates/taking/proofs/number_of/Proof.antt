@@ -1,0 +1,13 @@
+-- `taking::number_of` meets its contract.
+use borrow.Author.Tests.{lt-ltb, le-ltb}
+use Rattle.taking.proofs.number_of.Statement.{statement}
+use Rattle.taking.proofs.number_of.Tie as tie
+
+returns : tie.Need-returns
+returns c = rw (lt-ltb _ 128 (c .if1 .taken))
+
+returns-2 : tie.Need-returns-2
+returns-2 c = rw (le-ltb _ 128 (c .if1 .left))
+
+pub number-of-spec : {M : Type 1} → statement M
+number-of-spec = tie.close (tie.spec returns returns-2)
