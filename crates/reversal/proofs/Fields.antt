@@ -1,9 +1,10 @@
 -- The read fields after a reversal, and the set of a path's fields, one field at a time.
 use Prim.Native.Nat.{ℕ, _+_, _≤_, _<_}
 use mathlib.Core.Path.{_≡_, refl, sym, ap, _∙_}
-use mathlib.Core.Bool.{Bool, _||_, or-assoc, or-false}
+use mathlib.Core.Bool.{Bool, true, _||_, or-assoc, or-false}
 use mathlib.Core.List.{List, [], _∷_, _++_}
 use native.Mathlib.Numerals.{add-one}
+use borrow.Author.Tests.{eq-eqb}
 use lib.Dec.{eqb}
 use lib.ListN.{length, take, set}
 use lib.Seq.{take-suc}
@@ -42,3 +43,8 @@ fields-more path i m k l em ek =
     ∙ ap (λ (x : ℕ). anyOf (eqb f) (take i path) || eqb f x) ek
     ∙ sym (any-append f (at path i) (take i path))
     ∙ ap (anyOf (eqb f)) (sym (ap (λ (x : ℕ). take x path) (add-one i) ∙ take-suc path i 0 l)))
+
+-- a path has its first field
+pub fields-first : (v : ℕ) (vs rest : List ℕ) → vs ≡ v ∷ rest → v < 64 → member (fieldsOf vs) v ≡ true
+unfolding fieldsOf anyOf
+fields-first v vs rest e l = member-setOf-lt (λ f. anyOf (eqb f) vs) 64 v l ∙ ap (anyOf (eqb v)) e ∙ rw (eq-eqb v v refl)

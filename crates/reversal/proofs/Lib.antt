@@ -3,3 +3,4 @@ pub mod Turns
 pub mod ReadFields
 pub mod Deciding
 pub mod Decision
+pub mod Steps
