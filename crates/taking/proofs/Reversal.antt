@@ -1,6 +1,6 @@
 -- The reversal of a path one field at a time, with the tables: what sets the next field is a link or a stay.
 use Prim.Native.Nat.{ℕ, _+_, _%_, _≤_, _<_}
-use mathlib.Core.Path.{_≡_, refl, sym, ap, _∙_, subst}
+use mathlib.Core.Path.{_≡_, refl, sym, ap, _∙_}
 use mathlib.Core.Bool.{Bool, true, false, cond}
 use mathlib.Core.List.{List, [], _∷_}
 use mathlib.Core.Logic.{_≢_, _⊎_, inl, inr}
@@ -20,7 +20,7 @@ use Rattle.panel.specs.declared.Panel.{Panel}
 use Rattle.panel.specs.Items.{Item, link, stay, noLink, linkAt, setterOf, itemOf}
 use Rattle.panel.specs.Panels.{standing, withLink, withSetter, holding, waiting, freed}
 use Rattle.panel.specs.Solution.{reversed}
-use Rattle.panel.proofs.Turn.{AllAlike, alike-level, alike-outputs, alike-reads, Fit, put-here, put-there, all-alike-refl, holding-place, holding-alike, holding-sets, waiting-place, waiting-setter, waiting-alike}
+use Rattle.panel.proofs.Turn.{AllAlike, alike-level, alike-outputs, alike-reads, Fit, put-here, put-there, holding-place, holding-alike, holding-sets, waiting-place, waiting-setter, waiting-alike}
 use Rattle.panel.proofs.Legal.{holding-not-waiting}
 use Rattle.tables.specs.declared.Entry.{Entry}
 use Rattle.tables.specs.Tables.{EntryOf, Setting, Tabled, Places}

@@ -1,7 +1,7 @@
 -- The panel and its tables after the step of a command.
-use Prim.Native.Nat.{ℕ, _+_, _<_}
+use Prim.Native.Nat.{ℕ, _<_}
 use mathlib.Core.Path.{_≡_, refl, sym, ap, _∙_, subst}
-use mathlib.Core.Bool.{Bool, true, false, cond}
+use mathlib.Core.Bool.{Bool, true, false}
 use mathlib.Core.List.{List}
 use mathlib.Core.Logic.{_⊎_, inl, inr, ⊎-elim}
 use native.Mathlib.Decide.{ℕ-discrete}
@@ -15,41 +15,77 @@ use Rattle.fieldset.proofs.Tables.{length-tabulate, getD-tabulate}
 use Rattle.panel.specs.declared.Standing.the-variants.{Waiting, Holding}
 use Rattle.panel.specs.declared.Link.{Link}
 use Rattle.panel.specs.declared.Panel.{Panel}
+use Rattle.panel.specs.declared.Reply.{Reply}
 use Rattle.panel.specs.declared.Step.{Step}
 use Rattle.panel.specs.Items.{link, linkAt, itemOf}
 use Rattle.panel.specs.Panels.{freed}
 use Rattle.panel.specs.Solution.{reversed}
-use Rattle.panel.specs.Answers.{Answer}
 use Rattle.panel.specs.Commands.{Command, performed}
-use Rattle.panel.specs.Outcomes.{altered, taken, Decides}
+use Rattle.panel.specs.Outcomes.{unchanged, altered, taken, PathOf, Decides}
 use Rattle.panel.specs.Legal.{Legal}
 use Rattle.panel.proofs.Turn.{setter-link, setter-stay, link-here, link-there}
-use Rattle.panel.proofs.Outcomes.{taken-place, taken-still}
+use Rattle.panel.proofs.Legal.{holding-not-waiting}
+use Rattle.panel.proofs.Outcomes.{taken-place, taken-still, altered-size}
 use Rattle.panel.proofs.Performed.{legal-performed}
 use Rattle.tables.specs.Tables.{Setting, Tabled, Places, levelWith}
 use Rattle.tables.proofs.Settings.{places, same-setting}
 use Rattle.taking.specs.Taking.{TabledBut}
 use Rattle.taking.proofs.Reversal.{tabled-whole}
 
--- the panel after a command, and its tables
-pub record Taken (p : Panel) (c : Command) (r : Panel) (levels others reads : List ℕ) : Type 0 where
-  pub panel : r ≡ performed p c .panel
+-- a step: taken, it gives this panel
+pub record Gives (p : Panel) (k : ℕ) (path : List ℕ) (s : Step) (after : Panel) : Type 0 where
+  pub panel : taken p k s path ≡ after
+  pub legal : Legal after
+  pub still : s .changed ≡ 0 → (s .freed ≡ Waiting) × (s .setter ≡ 128) × (s .count ≡ 0)
+  pub path-of : PathOf path (s .count)
+  pub freed-field : (v : ℕ) → s .freed ≡ Holding v → v < 64
+  pub keeps : (f : ℕ) → f < 64 → at (p .setter) f ≡ k → (s .link ≡ linkAt (p .links) k) ⊎ (s .freed ≡ Holding f)
+
+-- the step of a command gives the panel after it
+pub gives-performed : {p : Panel} {k : ℕ} {c : Command} {path : List ℕ} {s : Step} → Legal p → Decides p k c path s → Gives p k path s (performed p c .panel)
+gives-performed {p} {c = c} h d = record {
+  panel = d .panel;
+  legal = legal-performed p c h;
+  still = d .still;
+  path-of = d .path-of;
+  freed-field = d .freed-field;
+  keeps = d .keeps;
+}
+
+-- the step that changes nothing gives the panel as it was
+pub gives-same : {p : Panel} {k : ℕ} (path : List ℕ) {named : Link} {reply : Reply} → Legal p → named ≡ linkAt (p .links) k
+    → Gives p k path (unchanged (p .size) (p .place) named reply) p
+gives-same {p} {k} path {named} {reply} h same = record {
+  panel = taken-still p k (unchanged (p .size) (p .place) named reply) path refl refl refl ∙ altered-size p k named reply same (p .size);
+  legal = h;
+  still = λ z. (refl, refl, refl);
+  path-of = record { few = omega arith; fields = λ i l. absurd (omega arith) };
+  freed-field = λ v e. absurd (holding-not-waiting e refl);
+  keeps = λ f l e. inl same;
+}
+
+-- the panel after a step, and its tables
+pub record Taken (after r : Panel) (levels others reads : List ℕ) : Type 0 where
+  pub panel : r ≡ after
   pub legal : Legal r
   pub tabled : Tabled r levels others reads
 
-module _ {p : Panel} {k : ℕ} {c : Command} {path : List ℕ} {s : Step} (h : Legal p) (d : Decides p k c path s) where
-  legal-taken : Legal (taken p k s path)
-  legal-taken = subst Legal (sym (d .panel)) (legal-performed p c h)
-
+module _ {p : Panel} {k : ℕ} {path : List ℕ} {s : Step} {after : Panel} (d : Gives p k path s after) where
   -- the places that the step gives
   pub places-taken : Places (s .place)
-  places-taken = rw (taken-place p k s path) at (places (taken p k s path) legal-taken)
+  places-taken = rw (ap (λ (q : Panel). q .place) (sym (d .panel)) ∙ taken-place p k s path) at (places after (d .legal))
 
-  -- the panel that the step gives is the one after the command
-  pub taken-by : {r : Panel} {levels others reads : List ℕ} → r ≡ taken p k s path → Tabled r levels others reads → Taken p c r levels others reads
-  taken-by {r} e t = record { panel = e ∙ d .panel; legal = subst Legal (sym e) legal-taken; tabled = t }
+  taken-by : {r : Panel} {levels others reads : List ℕ} → r ≡ taken p k s path → Tabled r levels others reads → Taken after r levels others reads
+  taken-by {r} e t = record { panel = e ∙ d .panel; legal = subst Legal (sym (e ∙ d .panel)) (d .legal); tabled = t }
 
-  module _ {levels others reads : List ℕ} (small : k < 128) (t : Tabled p levels others reads) where
+  -- where the path is reversed
+  pub taken-reversed : {r : Panel} {levels others reads : List ℕ}
+      → r ≡ reversed (freed (altered p k s) (s .freed)) (itemOf (s .setter) (at path 0)) (take (s .count) path) → Tabled r levels others reads
+      → Taken after r levels others reads
+  unfolding taken
+  taken-reversed e t = taken-by e t
+
+  module _ {levels others reads : List ℕ} (h : Legal p) (small : k < 128) (t : Tabled p levels others reads) where
     -- the levels with the step's places
     abbrev pub placedLevels : List ℕ
     placedLevels = tabulate (λ f. levelWith (at (p .setter) f) (at (s .place) f) (at levels f)) 64
@@ -90,14 +126,7 @@ module _ {p : Panel} {k : ℕ} {c : Command} {path : List ℕ} {s : Step} (h : L
             ⊎-elim (λ same. inr (linked f l b (rw y (link-here (p .links) k (s .link) (omega (arith, h .links-length)) ∙ same)))) inl (d .keeps f l y)
 
     -- where no field gets another setter
-    pub taken-still-by : {levels′ : List ℕ} → levels′ ≡ placedLevels → s .changed ≡ 0 → Taken p c (altered p k s) levels′ others reads
-    taken-still-by e z =
+    pub taken-unmoved : {levels′ : List ℕ} → levels′ ≡ placedLevels → s .changed ≡ 0 → Taken after (altered p k s) levels′ others reads
+    taken-unmoved e z =
         let still = d .still z in
         taken-by (sym (taken-still p k s path (still .0) (still .1) (still .2))) (tabled-whole (altered p k s) (still .0) (tabled-altered e))
-
-  -- where the path is reversed
-  pub taken-reversed : {r : Panel} {levels others reads : List ℕ}
-      → r ≡ reversed (freed (altered p k s) (s .freed)) (itemOf (s .setter) (at path 0)) (take (s .count) path) → Tabled r levels others reads
-      → Taken p c r levels others reads
-  unfolding taken
-  taken-reversed e t = taken-by e t
