@@ -1,7 +1,7 @@
 -- What holds where no check applies.
 use Prim.Native.Nat.{ℕ, zero, suc, _+_, _^_, _≤_, _<_}
 use mathlib.Core.Path.{_≡_, refl, sym, ap, _∙_}
-use mathlib.Core.Bool.{Bool, true, false, not, _&&_, _||_, or-false, or-comm}
+use mathlib.Core.Bool.{Bool, true, false, not, _&&_, _||_, or-false, or-comm, cond}
 use mathlib.Core.List.{List, [], _∷_}
 use native.Mathlib.Omega.{arith}
 use borrow.Author.Tests.{ltb-true, ltb-false, leb-true, leb-false, eqb-true, eqb-false, eq-eqb, not-false}
@@ -15,10 +15,12 @@ use Rattle.fieldset.proofs.Tests.{and-left, and-right}
 use Rattle.panel.specs.declared.Link.{Link}
 use Rattle.panel.specs.declared.Panel.{Panel}
 use Rattle.panel.specs.declared.Refusal.{Refusal}
+use Rattle.panel.specs.declared.Reply.{Reply}
+use Rattle.panel.specs.declared.Reply.the-variants.{Accepted, Refused}
 use Rattle.panel.specs.Items.{linkAt}
 use Rattle.panel.specs.Answers.{Answer, refused}
 use Rattle.panel.specs.Panels.{waitingLink}
-use Rattle.panel.specs.Commands.{fieldOf, isOutput, hasBit6, anyOf, fieldsIn, coveredIn, outputsIn, isRising, areFieldBytes, Check, check, checked, isOpen, openChecks, addChecks, removeChecks, touchChecks}
+use Rattle.panel.specs.Commands.{fieldOf, isOutput, hasBit6, anyOf, fieldsIn, coveredIn, outputsIn, isRising, areFieldBytes, Check, check, checked, isOpen, openChecks, addChecks, removeChecks, touchChecks, Command, performed}
 use Rattle.panel.specs.Legal.{Formed}
 
 -- ---- checks in turn
@@ -49,6 +51,16 @@ passes p b r cs step a e t = rw e t
 pub none-left : (p : Panel) (step a : Answer) → a ≡ step → a ≡ checked p [] step
 unfolding checked
 none-left p step a t = t
+
+-- what the reply of a command's checks says: a refusal is the command's, and what is accepted has a property
+abbrev pub Says : Panel → Command → Type 0 → Reply → Type 0
+Says p c P (Refused x) = refused p x ≡ performed p c
+Says p c P (Accepted m) = (m ≡ 0) × P
+
+pub says : (p : Panel) (c : Command) (P : Type 0) (b : Bool) (x : Refusal) (y : Reply) → (b ≡ true → refused p x ≡ performed p c) → (b ≡ false → Says p c P y)
+    → Says p c P (cond b (Refused x) y)
+says p c P true x y t e = t refl
+says p c P false x y t e = e refl
 
 or-left : (a b : Bool) → (a || b) ≡ false → a ≡ false
 or-left true b e = e
