@@ -13,10 +13,12 @@ use Rattle.panel.specs.declared.Standing.{Standing}
 use Rattle.panel.specs.declared.Standing.the-variants.{Waiting, Holding}
 use Rattle.panel.specs.declared.Link.{Link}
 use Rattle.panel.specs.declared.Panel.{Panel}
+use Rattle.panel.specs.declared.Refusal.{Refusal}
 use Rattle.panel.specs.declared.Reply.{Reply}
+use Rattle.panel.specs.declared.Reply.the-variants.{Refused}
 use Rattle.panel.specs.declared.Step.{Step}
 use Rattle.panel.specs.Items.{noLink, linkAt, itemOf}
-use Rattle.panel.specs.Answers.{Answer, replyBytes}
+use Rattle.panel.specs.Answers.{Answer, refused, replyBytes}
 use Rattle.panel.specs.Panels.{freed}
 use Rattle.panel.specs.Solution.{reversed}
 use Rattle.panel.specs.Commands.{Command, performed}
@@ -65,3 +67,9 @@ module _ (p : Panel) (k : ℕ) (named : Link) (reply : Reply) (same : named ≡ 
   pub decides-unchanged : (c : Command) (path : List ℕ) (a : Answer) → performed p c ≡ a → p ≡ a .panel → replyBytes reply ≡ a .reply
       → Decides p k c path (unchanged (p .size) (p .place) named reply)
   decides-unchanged c path a e panel answer = decides-size c path (p .size) a e panel answer
+
+-- a refusal
+pub decides-refused : (p : Panel) (k : ℕ) (named : Link) (reply : Reply) (c : Command) (path : List ℕ) (x : Refusal) (s : Step) → named ≡ linkAt (p .links) k → reply ≡ Refused x
+    → refused p x ≡ performed p c → s ≡ unchanged (p .size) (p .place) named reply → Decides p k c path s
+decides-refused p k named reply c path x s same is e eq =
+    rw eq (decides-unchanged p k named reply same c path (refused p x) (sym e) refl (ap replyBytes is))

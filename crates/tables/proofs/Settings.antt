@@ -1,5 +1,5 @@
 -- What the tables hold of each field: from a setter's entry, after a store, and in another panel that agrees.
-use Prim.Native.Nat.{ℕ, _+_, _%_, _<_}
+use Prim.Native.Nat.{ℕ, _+_, _%_, _≤_, _<_}
 use mathlib.Core.Path.{_≡_, refl, sym, ap, _∙_}
 use mathlib.Core.Bool.{Bool, true, false, cond, and-not-self}
 use mathlib.Core.List.{List}
@@ -16,10 +16,11 @@ use Rattle.fieldset.specs.Fields.{only, without}
 use Rattle.fieldset.proofs.Fields.{empty-of-none, without-lt, member-without, member-only}
 use Rattle.panel.specs.declared.Link.{Link}
 use Rattle.panel.specs.declared.Panel.{Panel}
-use Rattle.panel.specs.Items.{Item, linkAt, setterOf, levelOf, outputsOf, readsOf, itemOf}
+use Rattle.panel.specs.Items.{Item, link, linkAt, setterOf, levelOf, outputsOf, readsOf, itemOf}
 use Rattle.panel.specs.Legal.{Legal}
+use Rattle.panel.proofs.Turn.{setter-link, setter-stay}
 use Rattle.tables.specs.declared.Entry.{Entry}
-use Rattle.tables.specs.Tables.{EntryOf, Setting, TabledTo, Tabled, Places}
+use Rattle.tables.specs.Tables.{EntryOf, Setting, TabledTo, Tabled, Places, levelWith}
 
 -- a stay has no other output
 pub stay-others : (f : ℕ) → without (only f) f ≡ 0
@@ -71,6 +72,30 @@ same-setting p q f c ep eq hl ho hr s = record {
   others-are = s .others-are ∙ rw (ep, eq) (ap (λ (m : ℕ). without m f) (sym ho));
   reads-are = s .reads-are ∙ rw (ep, eq) (sym hr);
 }
+
+-- the same number of a setter, of the same link where it is one, and other places
+pub placed-setting : (p q : Panel) (f : ℕ) {x y z w : ℕ} → at (q .setter) f ≡ at (p .setter) f
+    → (at (p .setter) f < 128 → linkAt (q .links) (at (p .setter) f) ≡ linkAt (p .links) (at (p .setter) f))
+    → w ≡ levelWith (at (p .setter) f) (at (q .place) f) x → Setting p f x y z → Setting q f w y z
+placed-setting p q f {x} {y} {z} {w} en el ew s = go (ltb (at (p .setter) f) 128) refl
+  where
+    go : (b : Bool) → ltb (at (p .setter) f) 128 ≡ b → Setting q f w y z
+    go true b =
+        let k : at (p .setter) f < 128 = ltb-true (at (p .setter) f) 128 b in
+        let same = el k in
+        let here : w ≡ x = ew ∙ rw b refl in
+        rw here
+        (same-setting p q f (link (at (p .setter) f)) (setter-link (p .setter) f k) (setter-link (q .setter) f (rw en k) ∙ ap link en)
+        (ap (λ (l : Link). l .level) same) (ap (λ (l : Link). l .outputs) same) (ap (λ (l : Link). without (l .covered) f) same) s)
+    go false b =
+        let k : 128 ≤ at (p .setter) f = ltb-false (at (p .setter) f) 128 b in
+        let is = setter-stay (p .setter) f k in
+        let now = setter-stay (q .setter) f (rw en k) in
+        record {
+          level-is = ew ∙ rw (b, now) refl;
+          others-are = s .others-are ∙ rw (is, now) refl;
+          reads-are = s .reads-are ∙ rw (is, now) refl;
+        }
 
 -- the tables of one panel as those of another
 pub tabled-same : (p q : Panel) {l o r : List ℕ} → ((f x y z : ℕ) → f < 64 → Setting p f x y z → Setting q f x y z) → Tabled p l o r → Tabled q l o r

@@ -28,7 +28,7 @@ use Rattle.panel.proofs.Legal.{holding-not-waiting}
 use Rattle.panel.proofs.Outcomes.{taken-place, taken-still, altered-size}
 use Rattle.panel.proofs.Performed.{legal-performed}
 use Rattle.tables.specs.Tables.{Setting, Tabled, Places, levelWith}
-use Rattle.tables.proofs.Settings.{places, same-setting}
+use Rattle.tables.proofs.Settings.{places, placed-setting}
 use Rattle.taking.specs.Taking.{TabledBut}
 use Rattle.taking.proofs.Reversal.{tabled-whole}
 
@@ -97,33 +97,21 @@ module _ {p : Panel} {k : ℕ} {path : List ℕ} {s : Step} {after : Panel} (d :
       others-full = t .others-full;
       reads-full = t .reads-full;
       field = d .freed-field;
-      setting = λ f l. go f l (ltb (at (p .setter) f) 128) refl (ℕ-discrete (at (p .setter) f) k);
+      setting = λ f l. go f l (ℕ-discrete (at (p .setter) f) k);
     }
       where
         level-now : (f : ℕ) → f < 64 → at levels′ f ≡ levelWith (at (p .setter) f) (at (s .place) f) (at levels f)
         level-now f l = ap (λ (x : List ℕ). at x f) e ∙ getD-tabulate _ 64 f 0 l
 
         -- its link is as it was
-        linked : (f : ℕ) → f < 64 → ltb (at (p .setter) f) 128 ≡ true → linkAt (set (p .links) k (s .link)) (at (p .setter) f) ≡ linkAt (p .links) (at (p .setter) f)
+        kept : (f : ℕ) → f < 64 → (at (p .setter) f < 128 → linkAt (set (p .links) k (s .link)) (at (p .setter) f) ≡ linkAt (p .links) (at (p .setter) f))
             → Setting (altered p k s) f (at levels′ f) (at others f) (at reads f)
-        linked f l b same =
-            let is = setter-link (p .setter) f (ltb-true _ 128 b) in
-            rw (level-now f l, b)
-            (same-setting p (altered p k s) f (link (at (p .setter) f)) is is (ap (λ (x : Link). x .level) same) (ap (λ (x : Link). x .outputs) same)
-            (ap (λ (x : Link). without (x .covered) f) same) (t .setting f l))
+        kept f l same = placed-setting p (altered p k s) f refl same (level-now f l) (t .setting f l)
 
-        go : (f : ℕ) → f < 64 → (b : Bool) → ltb (at (p .setter) f) 128 ≡ b → Dec (at (p .setter) f ≡ k)
-            → (s .freed ≡ Holding f) ⊎ Setting (altered p k s) f (at levels′ f) (at others f) (at reads f)
-        go f l false b at-k =
-            let is = setter-stay (p .setter) f (ltb-false _ 128 b) in
-            inr (record {
-              level-is = level-now f l ∙ rw (b, is) refl;
-              others-are = t .setting f l .others-are ∙ rw is refl;
-              reads-are = t .setting f l .reads-are ∙ rw is refl;
-            })
-        go f l true b (no n) = inr (linked f l b (link-there (p .links) k (at (p .setter) f) (s .link) n))
-        go f l true b (yes y) =
-            ⊎-elim (λ same. inr (linked f l b (rw y (link-here (p .links) k (s .link) (omega (arith, h .links-length)) ∙ same)))) inl (d .keeps f l y)
+        go : (f : ℕ) → f < 64 → Dec (at (p .setter) f ≡ k) → (s .freed ≡ Holding f) ⊎ Setting (altered p k s) f (at levels′ f) (at others f) (at reads f)
+        go f l (no n) = inr (kept f l (λ b. link-there (p .links) k (at (p .setter) f) (s .link) n))
+        go f l (yes y) =
+            ⊎-elim (λ same. inr (kept f l (λ b. rw y (link-here (p .links) k (s .link) (omega (arith, h .links-length)) ∙ same)))) inl (d .keeps f l y)
 
     -- where no field gets another setter
     pub taken-unmoved : {levels′ : List ℕ} → levels′ ≡ placedLevels → s .changed ≡ 0 → Taken after (altered p k s) levels′ others reads

@@ -1,321 +1,184 @@
--- `touching::touch` meets its contract: the entries of the fields passed are their setters'.
-use mathlib.Core.Path.{_≡_, refl, subst, ap, _∙_}
-use mathlib.Core.Bool.{true}
+-- `touching::touch` meets its contract.
+use mathlib.Core.Path.{_≡_, refl, sym, ap, _∙_, subst}
 use mathlib.Core.Logic.{⊎-elim}
-use Prim.Native.Nat.{ℕ, _-_, _≤_, _<_}
 use native.Mathlib.Omega.{arith}
+use Prim.Native.Nat.{ℕ, _<_}
 use borrow.Author.Needs.{needs}
-use borrow.Author.Tests.{lt-ltb, le-ltb}
-use lib.Dec.{ltb}
-use lib.ListN.{replicate}
-use Rattle.fieldset.specs.Fields.{only}
-use Rattle.fieldset.specs.Tables.{tabulate}
-use Rattle.strength.specs.Filling.{Topped}
 use Rattle.panel.specs.declared.Panel.{Panel}
 use Rattle.panel.specs.declared.Reply.{Reply}
-use Rattle.panel.specs.Items.{stay, waits, inForce}
-use Rattle.panel.specs.Answers.{Answer, answerOf}
-use Rattle.panel.specs.Solution.{isBlocked}
-use Rattle.panel.specs.Steps.{touchStep}
-use Rattle.panel.specs.Commands.{performed, touching}
-use Rattle.panel.specs.Legal.{Legal}
-use Rattle.panel.proofs.Legal.{LegalBut}
-use Rattle.panel.proofs.Setters.{waits-force}
-use Rattle.panel.proofs.Reversal.{legal-waits}
-use Rattle.tables.proofs.Filling.{TablesOf, entered-link, entered-stay, fill-more}
-use Rattle.turning.specs.Turns.{Decided}
-use Rattle.turning.proofs.Gives.{gives}
-use Rattle.turning.proofs.Tables.{table-acyclic}
-use Rattle.turning.proofs.Decision.{undecided, is-blocked, turn-refused, turn-accepted}
-use Rattle.touching.proofs.Touching.{placed, placed-legal, front-level, stay-waits, touch-closed, touch-none, touch-done, touch-idle, touch-still, touch-turns, only-inside, only-some}
+use Rattle.panel.specs.Commands.{touching}
+use Rattle.panel.proofs.Checks.{Says}
+use Rattle.panel.proofs.Outcomes.{decides-refused}
+use mathlib.Core.List.{List}
+use lib.ListN.{length}
+use Rattle.fieldset.specs.Fields.{only}
+use Rattle.panel.specs.declared.Standing.the-variants.{Waiting}
+use Rattle.panel.specs.Outcomes.{Decides}
+use Rattle.fieldset.proofs.Tables.{length-tabulate}
+use Rattle.panel.specs.declared.Refusal.the-variants.{Loop}
+use Rattle.panel.specs.Commands.{performed}
+use Rattle.tables.proofs.Settings.{places}
+use Rattle.reversal.specs.declared.Turn.{Turn}
+use Rattle.reversal.specs.declared.Turn.the-variants.{Free, Looped}
+use Rattle.reversal.specs.Reversals.{Resolved, stepOf}
+use Rattle.reversal.proofs.Turns.{no-loop}
+use Rattle.touching.proofs.Touching.{Touchable, touch-checks, small, front-legal, front-unresolved, touch-loop, touch-step, touch-idle}
 use Rattle.touching.proofs.touch.Statement.{statement}
 use Rattle.touching.proofs.touch.Tie as tie
 
-abbrev Inv-loop : tie.InvT-loop
-Inv-loop f p n v reply place levels₀ others₀ reads₀ g₀ levels others reads g = (g ≤ n) × TablesOf p g levels₀ others₀ reads₀ levels others reads
-
-abbrev μ-loop : tie.MeasureT-loop
-μ-loop f p n v reply place levels₀ others₀ reads₀ g₀ levels others reads g = n - g
-
 -- ---- what is known on the way
 
--- the start, the panel, the touched field, and the panel with its stay in front
-abbrev s-of : tie.After-to-front Inv-loop μ-loop → tie.Start Inv-loop μ-loop
-s-of f = f .before .before .before .before .before .before
+-- the field's number is one of the panel's
+field-of : (w : tie.After-wide) → w .wide .result < w .before .before .before .before .before .args .p .size
+field-of w =
+    let e = w .before in
+    let k = e .before .before in
+    let s = k .before .before in
+    rw (w .wide .ensures)
+    (subst (Says (s .args .p) (touching (s .args .f)) (Touchable (s .args .p) (s .args .f))) (sym (k .check-touch .ensures) ∙ e .enum-told2 .given .1)
+    (touch-checks (s .args .p) (s .args .f)) .1 .field)
 
-abbrev p-of : tie.After-to-front Inv-loop μ-loop → Panel
-p-of f = s-of f .args .t1
+abbrev s-of : tie.After-to-front → tie.Start
+s-of c = c .before .before .before .before .before .before .before .before
 
-abbrev v-of : tie.After-to-front Inv-loop μ-loop → ℕ
-v-of f = f .before .before .before .before .before .wide .result
+abbrev p-of : tie.After-to-front → Panel
+p-of c = s-of c .args .p
 
-abbrev q-of : tie.After-to-front Inv-loop μ-loop → Panel
-q-of f = placed (p-of f) (f .to-front .last .0)
+abbrev v-of : tie.After-to-front → ℕ
+v-of c = c .before .before .before .wide .result
 
 -- the touched field is one of the panel's
-inside : (f : tie.After-to-front Inv-loop μ-loop) → v-of f < p-of f .size
-inside f = f .before .before .before .if2 .taken
+touchable : (c : tie.After-to-front) → Touchable (p-of c) (v-of c)
+touchable c =
+    let w = c .before .before .before in
+    let e = w .before in
+    let k = e .before .before in
+    subst (Touchable (p-of c)) (sym (w .wide .ensures))
+    (subst (λ (r : Reply). Says (p-of c) (touching (s-of c .args .f)) (Touchable (p-of c) (s-of c .args .f)) r) (sym (k .check-touch .ensures) ∙ e .enum-told2 .given .1)
+    (touch-checks (p-of c) (s-of c .args .f)) .1)
 
-legal-front : (f : tie.After-to-front Inv-loop μ-loop) → Legal (q-of f)
-legal-front f = placed-legal (p-of f) (s-of f .pre) _ (inside f) _ (f .to-front .ensures)
+-- what was resolved, by the set, the path and the turn that the code then has
+resolves : (levels others : List ℕ) (n l m v : ℕ) (reads path path′ : List ℕ) (t u : Turn) → m ≡ only v → path′ ≡ path → t ≡ u
+    → Resolved levels others n l m m reads path t → Resolved levels others n l (only v) (only v) reads path′ u
+resolves levels others n l m v reads path path′ t u em ep et h =
+    subst (λ (x : List ℕ). Resolved levels others n l (only v) (only v) reads x u) (sym ep)
+    (subst (λ (x : Turn). Resolved levels others n l (only v) (only v) reads path x) et
+    (subst (λ (x : ℕ). Resolved levels others n l x x reads path t) em h))
 
--- where the field is set by a link its stay waits
-abbrev f-of : tie.Then3 Inv-loop μ-loop → tie.After-to-front Inv-loop μ-loop
-f-of k = k .before .before
+free-not-looped : Free ≡ Looped → ⊥
+free-not-looped e = let z : _≡_ {A = ℕ} 0 1 = cc in omega arith
 
-waiting : (k : tie.Then3 Inv-loop μ-loop) → waits (p-of (f-of k) .size) (p-of (f-of k) .links) (p-of (f-of k) .setter) (stay (v-of (f-of k))) ≡ true
-waiting k = let f = f-of k in stay-waits (p-of f) (s-of f .pre) _ (inside f) _ (f .to-front .ensures) (k .if3 .taken)
+abbrev then-of : tie.After-stay-levels → tie.Then1
+then-of c = c .before .before .before .before .before
 
-carry : (k : tie.Then3 Inv-loop μ-loop) → LegalBut (stay (v-of (f-of k))) (q-of (f-of k))
-carry k = legal-waits _ (stay _) (legal-front (f-of k)) (waiting k)
+abbrev f-of : tie.After-stay-levels → tie.After-to-front
+f-of c = then-of c .before
 
-force : (k : tie.Then3 Inv-loop μ-loop) → inForce (q-of (f-of k) .size) (q-of (f-of k) .links) (stay (v-of (f-of k))) ≡ true
-force k = let q = q-of (f-of k) in waits-force (q .size) (q .links) (q .setter) (stay (v-of (f-of k))) (waiting k)
+check-touch-requires : tie.Need-check-touch-requires
+check-touch-requires c κs = search needs
 
--- the tables are full
-abbrev k-of : tie.After-loop Inv-loop μ-loop → tie.Then3 Inv-loop μ-loop
-k-of l = l .before .before
+enum-told : tie.Need-enum-told
+enum-told c = search needs
 
-filled : (l : tie.After-loop Inv-loop μ-loop)
-    → TablesOf (q-of (f-of (k-of l))) (q-of (f-of (k-of l)) .size) (replicate 64 0) (replicate 64 0) (replicate 64 0)
-    (l .before .loop .levels) (l .before .loop .others) (l .before .loop .reads)
-filled l =
-    let a = l .before .loop in
-    let e : a .g ≡ q-of (f-of (k-of l)) .size = omega arith in
-    subst (λ (g : ℕ). TablesOf (q-of (f-of (k-of l))) g (replicate 64 0) (replicate 64 0) (replicate 64 0) (a .levels) (a .others) (a .reads)) e (a .inv .1)
+unchanged-requires : tie.Need-unchanged-requires
+unchanged-requires c κs = search needs
 
-abbrev l-of : tie.After-greatest Inv-loop μ-loop → tie.After-loop Inv-loop μ-loop
-l-of c = c .before .before .before .before .before
+returns : tie.Need-returns
+returns c =
+    let e = c .before .before in
+    let k = e .before .before in
+    let s = k .before .before in
+    λ n same.
+    decides-refused (s .args .p) n _ _ (touching (s .args .f)) _ _ _ same (e .enum-told .given .1)
+    (subst (Says (s .args .p) (touching (s .args .f)) (Touchable (s .args .p) (s .args .f))) (sym (k .check-touch .ensures) ∙ e .enum-told .given .1) (touch-checks (s .args .p) (s .args .f)))
+    (c .unchanged .ensures)
 
-topped : (c : tie.After-greatest Inv-loop μ-loop)
-    → Topped (l-of c .before .loop .levels) (l-of c .before .loop .others) (p-of (f-of (k-of (l-of c))) .size) (only (v-of (f-of (k-of (l-of c)))))
-    (c .greatest .result .strength) (c .greatest .result .known) (c .greatest .last .1 .1 .1 .1 .0)
-topped c = rw (c .before .before .before .before .only .ensures) at (c .greatest .ensures)
+enum-told-2 : tie.Need-enum-told-2
+enum-told-2 c = search needs
 
--- blocked exactly where the strength is above 16
-over : (c : tie.After-greatest Inv-loop μ-loop)
-    → isBlocked (q-of (f-of (k-of (l-of c)))) (stay (v-of (f-of (k-of (l-of c))))) ≡ ltb 16 (c .greatest .result .strength)
-over c =
-    let k = k-of (l-of c) in
-    let f = f-of k in
-    let h = carry k in
-    is-blocked (q-of f) (stay (v-of f)) (h .carrying) (h .loopless) (force k) _ _ _ (filled (l-of c)) (c .greatest .result .strength) (waiting k)
-    (topped c .is-greatest)
-    ∙ ap (λ (x : ℕ). ltb x (c .greatest .result .strength)) (front-level (p-of f) (s-of f .pre) _ (inside f) _ (f .to-front .ensures))
-
--- the path is decided on for the touched field's stay
-abbrev g-of : tie.After-decide Inv-loop μ-loop → tie.After-greatest Inv-loop μ-loop
-g-of d = d .before .before .before .before .before .before .before .before
-
-decided : (d : tie.After-decide Inv-loop μ-loop)
-    → Decided (l-of (g-of d) .before .loop .levels) (l-of (g-of d) .before .loop .others) (p-of (f-of (k-of (l-of (g-of d)))) .size)
-    (g-of d .greatest .result .strength) (only (v-of (f-of (k-of (l-of (g-of d)))))) (only (v-of (f-of (k-of (l-of (g-of d))))))
-    (l-of (g-of d) .before .loop .reads) (d .decide .last .1 .1 .1 .1 .1 .1 .1 .1 .1 .0) (d .decide .result .count) (d .decide .result .looped)
-decided d = rw (g-of d .before .before .before .before .only .ensures) at (d .decide .ensures)
-
-blocked : (d : tie.After-decide Inv-loop μ-loop) → isBlocked (q-of (f-of (k-of (l-of (g-of d))))) (stay (v-of (f-of (k-of (l-of (g-of d)))))) ≡ true
-blocked d = over (g-of d) ∙ lt-ltb 16 _ (d .before .before .before .before .before .before .if5 .taken)
-
--- the answer of the step is the command's
-done : (f : tie.After-to-front Inv-loop μ-loop) (a : Answer) → a ≡ touchStep (p-of f) (v-of f) → a ≡ performed (p-of f) (touching (s-of f .args .f))
-done f a e =
-    touch-done (p-of f) (v-of f) a (inside f) e ∙ ap (λ (x : ℕ). performed (p-of f) (touching x)) (f .before .before .before .before .before .wide .ensures)
-
--- ---- the needs
-
-wide-requires : tie.Need-wide-requires Inv-loop μ-loop
+wide-requires : tie.Need-wide-requires
 wide-requires c κs = search needs
 
-to-front-requires : tie.Need-to-front-requires Inv-loop μ-loop
+to-front-requires : tie.Need-to-front-requires
 to-front-requires c κs =
-    let s = c .before .before .before .before .before in
-    (omega (arith, c .before .before .if2 .taken, s .pre .few), s .pre .place-length)
+    let w = c .before .before in
+    let s = w .before .before .before .before .before in
+    (omega (arith, field-of w, s .pre .0 .few), s .pre .0 .place-length)
 
-element-copy-out-if3 : tie.Need-element-copy-out-if3 Inv-loop μ-loop
-element-copy-out-if3 c = omega (arith, inside c, s-of c .pre .few)
+array-read-if1 : tie.Need-array-read-if1
+array-read-if1 c = small (p-of c) (s-of c .pre .0) _ (touchable c) _ (c .to-front .ensures)
 
-loop-holds : tie.Need-loop-holds Inv-loop μ-loop
-unfolding tabulate
-loop-holds c = (omega arith, record { levels = refl; others = refl; reads = refl })
+stay-levels-requires : tie.Need-stay-levels-requires
+stay-levels-requires c κs =
+    let f = c .before .before .before .before .before in
+    (places _ (front-legal (p-of f) (s-of f .pre .0) _ (touchable f) _ (f .to-front .ensures)), s-of f .pre .1 .levels-full)
 
--- a field passed is one of the panel's
-low : (a : tie.In-loop Inv-loop μ-loop) → a .before .loop .g < 64
-low a = omega (arith, a .loop-test .taken, s-of (f-of (a .before .before)) .pre .few)
+only-requires : tie.Need-only-requires
+only-requires c κs = let f = f-of c in small (p-of f) (s-of f .pre .0) _ (touchable f) _ (f .to-front .ensures)
 
-element-copy-out-c : tie.Need-element-copy-out-c Inv-loop μ-loop
-element-copy-out-c c = low c
+resolve-requires : tie.Need-resolve-requires
+resolve-requires c κs =
+    let o = c .before .before in
+    let l = o .before in
+    let f = f-of l in
+    rw (o .only .ensures)
+    (front-unresolved (p-of f) (s-of f .pre .0) _ (touchable f) _ (f .to-front .ensures) (then-of l .if1 .taken) (s-of f .pre .1) (l .stay-levels .ensures) _ (s-of f .pre .2))
 
-element-copy-out-stay-entry : tie.Need-element-copy-out-stay-entry Inv-loop μ-loop
-element-copy-out-stay-entry c = low (c .before)
+enum-told-3 : tie.Need-enum-told-3
+enum-told-3 c = search needs
 
-stay-entry-requires : tie.Need-stay-entry-requires Inv-loop μ-loop
-stay-entry-requires c κs =
-    let a = c .before .before in
-    let h = legal-front (f-of (a .before .before)) in
-    omega (arith, h .place-small (a .before .loop .g) (a .loop-test .taken), h .few)
+unchanged-requires-2 : tie.Need-unchanged-requires-2
+unchanged-requires-2 c κs = search needs
 
-wide-requires-2 : tie.Need-wide-requires-2 Inv-loop μ-loop
-wide-requires-2 c κs = search needs
-
-mul-link-entry : tie.Need-mul-link-entry Inv-loop μ-loop
-mul-link-entry c = omega arith
-
-element-copy-out-link-entry : tie.Need-element-copy-out-link-entry Inv-loop μ-loop
-element-copy-out-link-entry c = omega arith
-
-link-entry-requires : tie.Need-link-entry-requires Inv-loop μ-loop
-link-entry-requires c κs = low (c .before .before .before .before .before .before)
-
-array-write-levels : tie.Need-array-write-levels Inv-loop μ-loop
-array-write-levels c = low (c .before .before .before .before)
-
-mul-others : tie.Need-mul-others Inv-loop μ-loop
-mul-others c = omega (arith, low (c .before .before .before .before))
-
-array-write-others : tie.Need-array-write-others Inv-loop μ-loop
-array-write-others c = low (c .before .before .before .before)
-
-mul-reads : tie.Need-mul-reads Inv-loop μ-loop
-mul-reads c = omega (arith, low (c .before .before .before .before))
-
-array-write-reads : tie.Need-array-write-reads Inv-loop μ-loop
-array-write-reads c = low (c .before .before .before .before)
-
-add-g : tie.Need-add-g Inv-loop μ-loop
-add-g c = omega (arith, low (c .before .before .before .before))
-
-loop-less : tie.Need-loop-less Inv-loop μ-loop
-loop-less c = omega (arith, c .before .before .before .before .loop-test .taken)
-
-loop-again : tie.Need-loop-again Inv-loop μ-loop
-loop-again c =
-    let i = c .before .before .before .before in
-    let a = i .before .loop in
-    let q = q-of (f-of (i .before .before)) in (
-      omega (arith, i .loop-test .taken),
-      fill-more q (a .g) (low i) refl refl refl
-          (⊎-elim
-          (λ w. entered-link q (a .g) (w .1 .result) _ _ (w .0 .taken) (w .1 .ensures) (w .3 .ensures) (w .4))
-          (λ w. entered-stay q (a .g) _ _ (w .0 .left) (c .before .stay-entry .ensures) (w .1)) (c .if4 .came))
-          (a .inv .1),
-    )
-
-only-requires : tie.Need-only-requires Inv-loop μ-loop
-only-requires c κs = let f = f-of (k-of c) in omega (arith, inside f, s-of f .pre .few)
-
-greatest-requires : tie.Need-greatest-requires Inv-loop μ-loop
-greatest-requires c κs =
-    let l = c .before .before .before .before in
-    let h = carry (k-of l) in (
-      table-acyclic _ (stay _) (h .carrying) (h .loopless) _ _ _ (filled l),
-      rw (c .before .before .before .only .ensures) (only-inside _ _ (inside (f-of (k-of l)))),
-      refl,
-    )
-
-decide-requires : tie.Need-decide-requires Inv-loop μ-loop
-decide-requires c κs =
-    let g = c .before .before .before .before .before .before .before in
-    let k = k-of (l-of g) in
-    let f = f-of k in
-    let h = carry k in
-    rw (g .before .before .before .before .only .ensures)
-    (undecided (q-of f) (stay (v-of f)) (h .carrying) (h .loopless) (force k) _ _ _ (filled (l-of g)) _ _ _ _
-    (topped g .strengths) (topped g .has) (only-some (v-of f) (omega (arith, inside f, s-of f .pre .few))) (topped g .is-greatest) refl (only-inside _ _ (inside f)))
-
-reverse-requires : tie.Need-reverse-requires Inv-loop μ-loop
-reverse-requires c κs = let d = c .before .before .before .decide in (d .ensures .fields, d .ensures .full)
-
-moved-requires : tie.Need-moved-requires Inv-loop μ-loop
-moved-requires c κs =
-    let d = c .before .before .before .before .before .before .before in
-    s-of (f-of (k-of (l-of (g-of d)))) .pre .few
-
--- a loop
-returns : tie.Need-returns Inv-loop μ-loop
-returns c =
-    let d = c .before in
-    let g = g-of d in
-    let k = k-of (l-of g) in
-    let f = f-of k in
-    let h = carry k in
-    gives (p-of f) (touching (s-of f .args .f)) _ (s-of f .pre)
-    (done f _ (touch-turns (p-of f) (s-of f .pre) _ (inside f) _ (f .to-front .ensures) _ (blocked d)
-    (turn-refused (q-of f) (stay (v-of f)) (h .carrying) (h .loopless) (force k) _ _ _ (filled (l-of g))
-    (blocked d) _ _ _ _ (topped g .is-greatest) (decided d) (p-of f) (c .if6 .taken))))
-
--- a reversal
-returns-2 : tie.Need-returns-2 Inv-loop μ-loop
+returns-2 : tie.Need-returns-2
 returns-2 c =
-    let r = c .before .before .before .before in
-    let e = r .before .before .before in
-    let d = e .before in
-    let g = g-of d in
-    let k = k-of (l-of g) in
-    let f = f-of k in
-    let h = carry k in
-    gives (p-of f) (touching (s-of f .args .f)) _ (s-of f .pre)
-    (done f _ (touch-turns (p-of f) (s-of f .pre) _ (inside f) _ (f .to-front .ensures) _ (blocked d)
-    (turn-accepted (q-of f) (stay (v-of f)) (h .carrying) (h .loopless) (force k) _ _ _ (filled (l-of g))
-    (blocked d) _ _ _ _ (topped g .is-greatest) (decided d) (p-of f) _ _ (e .if6 .left) (r .reverse .ensures) (c .moved .ensures))))
-
--- the stay is not blocked
-returns-3 : tie.Need-returns-3 Inv-loop μ-loop
-returns-3 c =
-    let g = c .before .before in
-    let f = f-of (k-of (l-of g)) in
-    gives (p-of f) (touching (s-of f .args .f)) _ (s-of f .pre)
-    (done f _ (touch-still (p-of f) (s-of f .pre) _ (inside f) _ (f .to-front .ensures) (over g ∙ le-ltb 16 _ (c .if5 .left))))
-
--- the stay sets its field
-returns-4 : tie.Need-returns-4 Inv-loop μ-loop
-returns-4 c =
-    let f = c .before .before in
-    gives (p-of f) (touching (s-of f .args .f)) _ (s-of f .pre)
-    (done f _ (touch-idle (p-of f) (s-of f .pre) _ (inside f) _ (f .to-front .ensures) (c .if3 .left)))
-
--- there is no such field
-returns-5 : tie.Need-returns-5 Inv-loop μ-loop
-returns-5 c =
-    let s = c .before .before .before in
-    let p = s .args .t1 in
-    let f = s .args .f in
-    gives p (touching f) _ (s .pre)
+    let e = c .before .before in
+    let j = e .before .before in
+    let f = j .before in
+    let m = j .if1 in
+    λ k same.
+    decides-refused (p-of f) k _ _ (touching (s-of f .args .f)) _ Loop _ same refl
     (⊎-elim
-    (λ w. ap (λ (r : Reply). answerOf (record { panel = p; reply = r })) (w .1) ∙ touch-none p f (w .0 .taken) (omega (arith, c .if2 .left, c .before .before .wide .ensures)))
-    (λ w. ap (λ (r : Reply). answerOf (record { panel = p; reply = r })) (w .1) ∙ touch-closed p f (omega (arith, w .0 .left))) (c .before .if1 .came))
+    (λ w. touch-loop (p-of f) (s-of f .pre .0) _ (touchable f) _ (f .to-front .ensures) (w .0 .taken) (s-of f .pre .1) (w .5 .ensures) (m .path) k _ same
+    (resolves _ _ _ _ _ _ _ _ _ _ _ (w .6 .ensures) (w .10) (sym (w .11) ∙ e .enum-told3 .given .1) (w .9 .ensures)))
+    (λ w. absurd (free-not-looped (sym (w .2) ∙ e .enum-told3 .given .1))) (m .came)
+    ∙ ap (λ (x : ℕ). performed (p-of f) (touching x)) (f .before .before .before .wide .ensures))
+    (c .unchanged2 .ensures)
+
+step-of-requires : tie.Need-step-of-requires
+step-of-requires c κs = let f = c .before .before .before in (ap length (f .to-front .ensures) ∙ length-tabulate _ 64, tt)
+
+returns-3 : tie.Need-returns-3
+returns-3 c =
+    let e = c .before .before in
+    let j = e .before in
+    let f = j .before in
+    let m = j .if1 in
+    λ k same.
+    rw (c .step-of .ensures)
+    (subst (λ (x : ℕ). Decides (p-of f) k (touching x) (m .path) (stepOf (m .turn) (p-of f .size) _ _ Waiting 128)) (f .before .before .before .wide .ensures)
+    (⊎-elim
+    (λ w. touch-step (p-of f) (s-of f .pre .0) _ (touchable f) _ (f .to-front .ensures) (w .0 .taken) (s-of f .pre .1) (w .5 .ensures) (m .path) k _ same
+    (m .turn) (no-loop (m .turn) (e .match2 .keys2)) (resolves _ _ _ _ _ _ _ _ _ _ _ (w .6 .ensures) (w .10) (sym (w .11)) (w .9 .ensures)))
+    (λ w. rw (w .2) (touch-idle (p-of f) (s-of f .pre .0) _ (touchable f) _ (f .to-front .ensures) (w .0 .left) (m .path) k _ same)) (m .came)))
 
 pub touch-spec : {M : Type 1} → statement M
 touch-spec =
     tie.close
     (tie.spec
-    Inv-loop
-    μ-loop
+    check-touch-requires
+    enum-told
+    unchanged-requires
+    returns
+    enum-told-2
     wide-requires
     to-front-requires
-    element-copy-out-if3
-    loop-holds
-    element-copy-out-c
-    element-copy-out-stay-entry
-    stay-entry-requires
-    wide-requires-2
-    mul-link-entry
-    element-copy-out-link-entry
-    link-entry-requires
-    array-write-levels
-    mul-others
-    array-write-others
-    mul-reads
-    array-write-reads
-    add-g
-    loop-less
-    loop-again
+    array-read-if1
+    stay-levels-requires
     only-requires
-    greatest-requires
-    decide-requires
-    reverse-requires
-    moved-requires
-    returns
+    resolve-requires
+    enum-told-3
+    unchanged-requires-2
     returns-2
-    returns-3
-    returns-4
-    returns-5)
+    step-of-requires
+    returns-3)
