@@ -53,10 +53,10 @@ wide-requires : tie.Need-wide-requires Inv-loop μ-loop
 wide-requires c κs = search needs
 
 array-read-put-row : tie.Need-array-read-put-row Inv-loop μ-loop
-array-read-put-row c = rw (c .before .wide .ensures) (low (c .before .before) .1)
+array-read-put-row c = let l = low (c .before .before) in omega (arith, c .before .wide .ensures, l .0, l .1)
 
 array-read-put-row-2 : tie.Need-array-read-put-row-2 Inv-loop μ-loop
-array-read-put-row-2 c = rw (c .before .wide .ensures) (low (c .before .before) .1)
+array-read-put-row-2 c = let l = low (c .before .before) in omega (arith, c .before .wide .ensures, l .0, l .1)
 
 put-row-requires : tie.Need-put-row-requires Inv-loop μ-loop
 put-row-requires c κs =
