@@ -1,3 +1,3 @@
 pub mod Rows
 pub mod Replies
-pub mod Prepared
+pub mod Planned
