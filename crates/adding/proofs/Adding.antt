@@ -1,46 +1,46 @@
 -- Laws of an add.
-use mathlib.Core.Path.{_≡_, refl, sym, ap, subst, _∙_}
-use mathlib.Core.Bool.{Bool, true, false, not, cond, _&&_, _||_, true≢false}
+use mathlib.Core.Path.{_≡_, refl, sym, ap, _∙_}
+use mathlib.Core.Bool.{Bool, true, false, not, _&&_, _||_, true≢false}
 use mathlib.Core.Logic.{_≢_}
-use mathlib.Core.List.{List, _++_}
-use Prim.Native.Nat.{ℕ, zero, suc, _%_, _<_}
-use native.Mathlib.Nat.{le-refl, mod-eq-of-lt}
+use mathlib.Core.List.{List}
+use Prim.Native.Nat.{ℕ, _%_, _<_}
+use native.Mathlib.Nat.{mod-eq-of-lt}
 use native.Mathlib.Omega.{arith}
 use borrow.Author.Tests.{lt-ltb, le-ltb, ltb-false, eq-eqb, ne-eqb, eqb-true, eqb-false, not-true, not-false}
 use lib.Dec.{eqb, ltb, leb}
-use lib.ListN.{set, drop}
-use Rattle.fieldset.specs.Tables.{tabulate}
-use Rattle.fieldset.specs.Fields.{without, below, within}
+use lib.ListN.{length, set}
+use Rattle.fieldset.specs.Tables.{at}
+use Rattle.fieldset.specs.Fields.{below, within}
+use Rattle.fieldset.proofs.Numbers.{clash}
 use Rattle.fieldset.proofs.Fields.{member-below}
 use Rattle.strength.specs.Filling.{Within}
+use Rattle.panel.specs.declared.Standing.the-variants.{Waiting}
 use Rattle.panel.specs.declared.Link.{Link}
 use Rattle.panel.specs.declared.Panel.{Panel}
-use Rattle.panel.specs.declared.Done.{Done}
-use Rattle.panel.specs.declared.Refusal.{Refusal}
-use Rattle.panel.specs.declared.Refusal.the-variants.{NotOpen, BadLink, NoSuchField, LinkTaken, Conflict}
-use Rattle.panel.specs.declared.Reply.{Reply}
-use Rattle.panel.specs.declared.Reply.the-variants.{Accepted, Refused}
-use Rattle.panel.specs.Items.{Item, link, stay, linkAt, setterOf, levelOf, outputsOf, isWaiting, waits}
-use Rattle.panel.specs.Answers.{Answer, answerOf, refused}
-use Rattle.panel.specs.Panels.{withLink}
-use Rattle.panel.specs.Solution.{level, setterLevel, setterOthers, setterReads, isBlocked, reversed}
-use Rattle.panel.specs.Steps.{turned, addStep}
-use Rattle.panel.specs.Commands.{isOpen, performed, adding, areFieldBytes, isRising, anyOf, isOutput, fieldOf, coveredIn, outputsIn}
+use Rattle.panel.specs.declared.Refusal.the-variants.{NotOpen, BadLink, NoSuchField, LinkTaken, Conflict, Loop}
+use Rattle.panel.specs.Items.{link, linkAt, outputsOf, inForce, isWaiting, waits}
+use Rattle.panel.specs.Answers.{Answer, refused}
+use Rattle.panel.specs.Panels.{waitingLink, withLink}
+use Rattle.panel.specs.Solution.{level, isBlocked}
+use Rattle.panel.specs.Steps.{turned, enterStep, addStep}
+use Rattle.panel.specs.Commands.{isOpen, Command, performed, adding, areFieldBytes, isRising, anyOf, isOutput, fieldOf, coveredIn, outputsIn}
 use Rattle.panel.specs.Legal.{Legal, Formed}
-use Rattle.panel.proofs.Turn.{link-here, link-there}
-use Rattle.panel.proofs.Legal.{LegalBut}
-use Rattle.panel.proofs.Setters.{reads-there}
+use Rattle.panel.specs.Outcomes.{Decides}
+use Rattle.panel.proofs.Turn.{setter-stay, link-here, link-there}
+use Rattle.panel.proofs.Legal.{LegalBut, holding-not-waiting}
 use Rattle.panel.proofs.Changes.{legal-add}
 use Rattle.panel.proofs.Checks
-use Rattle.tables.specs.Leaves.{itemOf}
-use Rattle.tables.proofs.Filling.{tableOf, TablesOf}
+use Rattle.panel.proofs.Checks.{Says, says, applies, passes, none-left}
+use Rattle.tables.specs.Tables.{Setting, Tabled, levelWith}
+use Rattle.tables.proofs.Settings.{placed-setting, tabled-same}
 use Rattle.fieldbytes.specs.Bytes.{FieldsOf}
 use Rattle.fieldbytes.proofs.FieldBytes.{add-check, covered-within}
-use Rattle.turning.proofs.Steps.{moved-none}
-use Rattle.turning.proofs.Decision.{answer}
-use Rattle.turning.specs.Outcomes.{Gives}
-use Rattle.turning.proofs.Gives.{gives, applies, passes, none-left}
-use Rattle.adding.specs.Checks.{waitingLink, isBadLink, checkAdd}
+use Rattle.reversal.specs.declared.Turn.{Turn}
+use Rattle.reversal.specs.declared.Turn.the-variants.{Free, Looped}
+use Rattle.reversal.specs.Reversals.{Unresolved, Resolved, stepOf}
+use Rattle.reversal.proofs.Decision.{unresolved}
+use Rattle.reversal.proofs.Steps.{Change, resolved-free, resolved-loop, resolved-step}
+use Rattle.adding.specs.Checks.{isBadLink, checkAdd}
 
 -- a well-formed link can be entered under a number that is free
 pub record Enterable (p : Panel) (id level covered outputs : ℕ) : Type 0 where
@@ -77,52 +77,68 @@ module _ (p : Panel) (id level₁ covered outputs : ℕ) (a : Enterable p id lev
   pub covered-inside : Within covered (below (p .size))
   covered-inside u l e = member-below (p .size) u l ∙ lt-ltb u (p .size) (a .formed .inside u l e)
 
-  pub add-conflict : level₁ ≡ 0 → isBlocked (withLink p id (waitingLink level₁ covered outputs)) (link id) ≡ false → refused p Conflict ≡ addStep p id level₁ covered outputs
-  unfolding addStep
-  add-conflict z e = rw (e, eq-eqb level₁ 0 z, addStep) refl
+  -- the change: a link is entered where none sets a field
+  pub new-change : Change p id (p .size) (p .place) (waitingLink level₁ covered outputs) Waiting
+  new-change = record {
+    legal = a .legal;
+    size = refl;
+    field = λ v e. absurd (holding-not-waiting e refl);
+    gone = λ v r e. absurd (holding-not-waiting e refl);
+    keeps = λ f l e. absurd (clash (a .legal .setter-used f l (omega (arith, a .number))) (ap (λ (i : ℕ). linkAt (p .links) i .used) e ∙ a .free));
+  }
 
-  pub add-waits : (level₁ ≡ 0 → ⊥) → isBlocked (withLink p id (waitingLink level₁ covered outputs)) (link id) ≡ false
-      → answer (withLink p id (waitingLink level₁ covered outputs)) 0 ≡ addStep p id level₁ covered outputs
-  unfolding addStep
-  add-waits ne e =
-      ap (answer (withLink p id (waitingLink level₁ covered outputs))) (sym (moved-none p (withLink p id (waitingLink level₁ covered outputs)) refl))
-      ∙ rw (e, ne-eqb level₁ 0 ne, addStep) refl
+  -- the tables: a link that sets nothing is in none
+  new-tabled : {levels others reads : List ℕ} → Tabled p levels others reads → Tabled (withLink p id (waitingLink level₁ covered outputs)) levels others reads
+  new-tabled {levels} t =
+      tabled-same p (withLink p id (waitingLink level₁ covered outputs))
+      (λ f x y z l s.
+      placed-setting p (withLink p id (waitingLink level₁ covered outputs)) f refl
+      (λ k. link-there (p .links) id (at (p .setter) f) _ (λ e. clash (a .legal .setter-used f l k) (ap (λ (i : ℕ). linkAt (p .links) i .used) e ∙ a .free)))
+      (level-kept f x s (ltb (at (p .setter) f) 128) refl) s) t
+    where
+      level-kept : (f x : ℕ) {y z : ℕ} → Setting p f x y z → (b : Bool) → ltb (at (p .setter) f) 128 ≡ b → x ≡ levelWith (at (p .setter) f) (at (p .place) f) x
+      level-kept f x s true e = rw e refl
+      level-kept f x s false e = rw e (s .level-is ∙ rw (setter-stay (p .setter) f (ltb-false (at (p .setter) f) 128 e)) refl)
 
-  pub add-turns : (b : Answer) → isBlocked (withLink p id (waitingLink level₁ covered outputs)) (link id) ≡ true
-      → b ≡ turned p (withLink p id (waitingLink level₁ covered outputs)) (link id) → b ≡ addStep p id level₁ covered outputs
-  unfolding addStep
-  add-turns b e t = t ∙ rw (e, addStep) refl
+  new-force : inForce (p .size) (set (p .links) id (waitingLink level₁ covered outputs)) (link id) ≡ true
+  new-force = ap (λ (x : Link). x .used) new-at
 
--- ---- the tables: a link that sets nothing is in none
+  module _ {levels others reads : List ℕ} (t : Tabled p levels others reads) where
+    pub new-unresolved : (path : List ℕ) → length path ≡ 64 → Unresolved others (p .size) outputs covered reads path
+    new-unresolved path full =
+        rw (new-outputs, new-covered) at (
+        unresolved (withLink p id (waitingLink level₁ covered outputs)) (link id) (new-legal .carrying) (new-legal .loopless) new-force levels others reads (new-tabled t)
+        path (rw new-outputs (a .formed .some-output)) full (rw new-covered covered-inside)
+        )
 
-tabulate-same : (g h : ℕ → ℕ) (n : ℕ) → ((f : ℕ) → f < n → g f ≡ h f) → tabulate g n ≡ tabulate h n
-unfolding tabulate
-tabulate-same g h zero e = refl
-tabulate-same g h (suc n) e = rw (tabulate-same g h n (λ f l. e f (omega arith)), e n (le-refl (suc n)))
+    module _ (cmd : Command) (path : List ℕ) (step : performed p cmd ≡ addStep p id level₁ covered outputs) where
+      abbrev pub Resolves : Turn → Type 0
+      Resolves = Resolved levels others (p .size) level₁ outputs covered reads path
 
-level-there : (links : List Link) (place : List ℕ) (i : ℕ) (l : Link) (c : Item) → c ≢ link i → levelOf (set links i l) place c ≡ levelOf links place c
-level-there links place i l (link j) ne = ap (λ (x : Link). x .level) (link-there links i j l (λ e. ne (ap link e)))
-level-there links place i l (stay g) ne = refl
+      turns : isBlocked (withLink p id (waitingLink level₁ covered outputs)) (link id) ≡ true
+          → performed p cmd ≡ turned p (withLink p id (waitingLink level₁ covered outputs)) (link id)
+      unfolding enterStep
+      turns e = step ∙ rw (e, enterStep) refl
 
-outputs-there : (links : List Link) (i : ℕ) (l : Link) (c : Item) → c ≢ link i → outputsOf (set links i l) c ≡ outputsOf links c
-outputs-there links i l (link j) ne = ap (λ (x : Link). x .outputs) (link-there links i j l (λ e. ne (ap link e)))
-outputs-there links i l (stay g) ne = refl
+      pub add-loop : Resolves Looped → refused p Loop ≡ performed p cmd
+      add-loop e =
+          sym (resolved-loop p id (p .size) (p .place) _ Waiting new-change cmd path (link id) (new-legal .carrying) (new-legal .loopless) new-force levels others reads
+          (new-tabled t) new-waits level₁ outputs covered new-level new-outputs new-covered e turns)
 
-pub tables-there : (p : Panel) (i : ℕ) (l : Link) (l₀ o₀ r₀ l₁ o₁ r₁ : List ℕ) → ((f : ℕ) → f < p .size → setterOf (p .setter) f ≢ link i)
-    → TablesOf p (p .size) l₀ o₀ r₀ l₁ o₁ r₁ → TablesOf (withLink p i l) (p .size) l₀ o₀ r₀ l₁ o₁ r₁
-tables-there p i l l₀ o₀ r₀ l₁ o₁ r₁ idle t = record {
-  levels = t .levels ∙ same (setterLevel p) (setterLevel (withLink p i l)) l₀ (λ f k. sym (level-there (p .links) (p .place) i l (setterOf (p .setter) f) (idle f k)));
-  others = t .others ∙ same (setterOthers p) (setterOthers (withLink p i l)) o₀ (λ f k. ap (λ (x : ℕ). without x f) (sym (outputs-there (p .links) i l (setterOf (p .setter) f) (idle f k))));
-  reads = t .reads ∙ same (setterReads p) (setterReads (withLink p i l)) r₀ (λ f k. sym (reads-there (p .links) i f l (setterOf (p .setter) f) (idle f k)));
-}
-  where
-    same : (g h : ℕ → ℕ) (before : List ℕ) → ((f : ℕ) → f < p .size → g f ≡ h f) → tableOf g (p .size) before ≡ tableOf h (p .size) before
-    same g h before e = ap (λ (x : List ℕ). x ++ drop (p .size) before) (tabulate-same g h (p .size) e)
+      pub add-conflict : level₁ ≡ 0 → Resolves Free → refused p Conflict ≡ performed p cmd
+      unfolding enterStep
+      add-conflict z e =
+          let free = resolved-free p id (p .size) (p .place) _ Waiting new-change cmd path (link id) (new-legal .carrying) (new-legal .loopless) new-force levels others reads
+          (new-tabled t) new-waits level₁ outputs covered new-level new-outputs new-covered e in
+          sym (step ∙ rw (free, eq-eqb level₁ 0 z, enterStep) refl)
 
--- the same reversal for the same link and number
-pub same-reversal : (p : Panel) (k : ℕ) {x y : Link} {i j : ℕ} (f : ℕ) (vs : List ℕ) {q : Panel} → x ≡ y → i ≡ j
-    → q ≡ reversed (withLink p k x) (itemOf i f) vs → q ≡ reversed (withLink p k y) (itemOf j f) vs
-same-reversal p k f vs ex ei e = e ∙ rw (ex, ei) refl
+      pub add-step : (u : Turn) → u ≢ Looped → (u ≡ Free → level₁ ≢ 0) → Resolves u
+          → Decides p id cmd path (stepOf u (p .size) (p .place) (waitingLink level₁ covered outputs) Waiting id)
+      unfolding enterStep
+      add-step u ne weak e =
+          resolved-step p id (p .size) (p .place) _ Waiting new-change cmd path (link id) (new-legal .carrying) (new-legal .loopless) new-force levels others reads
+          (new-tabled t) new-waits level₁ outputs covered new-level new-outputs new-covered u ne e
+          (λ f b. step ∙ rw (b, ne-eqb level₁ 0 (weak f), enterStep) refl) turns
 
 -- the number of a link
 number-small : (id level₁ c o : ℕ) (r : Bool) → isBadLink id level₁ c o r ≡ false → id < 128
@@ -205,54 +221,24 @@ module _ (p : Panel) (id level₁ : ℕ) (bytes : List ℕ) where
 
 -- ---- the checks' reply
 
--- an add that none of the checks refuses, with the code's number k and count m
-pub record Passed (p : Panel) (id level₁ c o : ℕ) (r : Bool) (k m : ℕ) : Type 0 where
-  pub open′ : 0 < p .size
-  pub fine : isBadLink id level₁ c o r ≡ false
-  pub all-in : within c (below (p .size)) ≡ true
+-- an add that none of the checks refuses
+pub record Passed (p : Panel) (id level₁ c o k : ℕ) (bytes : List ℕ) : Type 0 where
   pub number : k ≡ id
-  pub free : linkAt (p .links) id .used ≡ false
-  pub none : m ≡ 0
+  pub enterable : Enterable p k level₁ c o
+  pub step : performed p (adding id level₁ bytes) ≡ addStep p k level₁ c o
 
-module _ (p : Panel) (id level₁ : ℕ) (bytes : List ℕ) (c o : ℕ) (r : Bool) (f : FieldsOf bytes c o r) (k : ℕ) (ek : k ≡ id % 128) where
-  -- a refusal is the command's; what is accepted has passed
-  abbrev Outcome : Reply → Type 0
-  Outcome (Refused x) = refused p x ≡ performed p (adding id level₁ bytes)
-  Outcome (Accepted m) = Passed p id level₁ c o r k m
-
-  choose : (b : Bool) (x : Refusal) (y : Reply) → (b ≡ true → Outcome (Refused x)) → (b ≡ false → Outcome y) → Outcome (cond b (Refused x) y)
-  choose true x y t e = t refl
-  choose false x y t e = e refl
-
-  outcome : Outcome (checkAdd (p .size) id level₁ c o r (linkAt (p .links) k .used))
-  outcome =
-      choose (eqb (p .size) 0) NotOpen _ (λ z. add-closed p id level₁ bytes (eqb-true (p .size) 0 z)) (λ z.
-      let l : 0 < p .size = omega (arith, eqb-false (p .size) 0 z) in
-      choose (isBadLink id level₁ c o r) BadLink _ (λ e. add-bad p id level₁ bytes l c o r f e) (λ e.
-      let n : k ≡ id = ek ∙ mod-eq-of-lt (number-small id level₁ c o r e) in
-      choose (not (within c (below (p .size)))) NoSuchField _ (λ w. add-outside p id level₁ bytes l c o r f e (not-true _ w)) (λ w.
-      choose (linkAt (p .links) k .used) LinkTaken _ (λ u. add-taken p id level₁ bytes l c o r f e (not-false _ w) (rw n at u)) (λ u.
-      record { open′ = l; fine = e; all-in = not-false _ w; number = n; free = rw n at u; none = refl }))))
-
-  module _ (y : Reply) (is : y ≡ checkAdd (p .size) id level₁ c o r (linkAt (p .links) k .used)) where
-    pub checks-refuse : (x : Refusal) → y ≡ Refused x → answerOf (record { panel = p; reply = y }) ≡ performed p (adding id level₁ bytes)
-    checks-refuse x e = rw e (subst Outcome (sym is ∙ e) outcome)
-
-    pub checks-accept : (m : ℕ) → y ≡ Accepted m → Passed p id level₁ c o r k m
-    checks-accept m e = subst Outcome (sym is ∙ e) outcome
-
--- ---- behind the checks
-
-module _ (p : Panel) (id level₁ : ℕ) (bytes : List ℕ) (c o : ℕ) (r : Bool) (f : FieldsOf bytes c o r) (k m : ℕ) (h : Passed p id level₁ c o r k m) (l : Legal p) where
-  pub passed-adds : Enterable p k level₁ c o
-  passed-adds = rw (h .number) (can-add p id level₁ bytes (h .open′) c o r f (h .fine) (h .all-in) (h .free) l)
-
-  pub passed-gives : (d : Done) → answerOf d ≡ addStep p k level₁ c o → Gives d (performed p (adding id level₁ bytes))
-  passed-gives d t =
-      gives p (adding id level₁ bytes) d l
-      (add-done p id level₁ bytes (h .open′) c o r f (h .fine) (h .all-in) (h .free) (answerOf d) (t ∙ ap (λ (x : ℕ). addStep p x level₁ c o) (h .number)))
-
-  -- the answer where the new link waits, by the checks' reply
-  pub waits-answer : (x : Link) (y : Reply) → x ≡ waitingLink level₁ c o → y ≡ Accepted m
-      → answerOf (record { panel = withLink p k x; reply = y }) ≡ answer (withLink p k (waitingLink level₁ c o)) 0
-  waits-answer x y ex ey = rw (ex, ey, h .none) refl
+pub add-checks : (p : Panel) → Legal p → (id level₁ : ℕ) (bytes : List ℕ) (c o : ℕ) (r : Bool) → FieldsOf bytes c o r → (k : ℕ) → k ≡ id % 128
+    → Says p (adding id level₁ bytes) (Passed p id level₁ c o k bytes) (checkAdd (p .size) id level₁ c o r (linkAt (p .links) k .used))
+add-checks p h id level₁ bytes c o r f k ek =
+    let cmd = adding id level₁ bytes in
+    says p cmd _ (eqb (p .size) 0) NotOpen _ (λ z. add-closed p id level₁ bytes (eqb-true (p .size) 0 z)) (λ z.
+    let l : 0 < p .size = omega (arith, eqb-false (p .size) 0 z) in
+    says p cmd _ (isBadLink id level₁ c o r) BadLink _ (λ e. add-bad p id level₁ bytes l c o r f e) (λ e.
+    let n : k ≡ id = ek ∙ mod-eq-of-lt (number-small id level₁ c o r e) in
+    says p cmd _ (not (within c (below (p .size)))) NoSuchField _ (λ w. add-outside p id level₁ bytes l c o r f e (not-true _ w)) (λ w.
+    says p cmd _ (linkAt (p .links) k .used) LinkTaken _ (λ u. add-taken p id level₁ bytes l c o r f e (not-false _ w) (rw n at u)) (λ u.
+    (refl, record {
+      number = n;
+      enterable = rw n (can-add p id level₁ bytes l c o r f e (not-false _ w) (rw n at u) h);
+      step = sym (rw n (add-done p id level₁ bytes l c o r f e (not-false _ w) (rw n at u) (addStep p id level₁ c o) refl));
+    })))))

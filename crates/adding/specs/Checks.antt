@@ -1,17 +1,11 @@
--- The link that an add enters, and the checks of an add over its numbers.
+-- The checks of an add over its numbers.
 use Prim.Native.Nat.{ℕ}
-use mathlib.Core.Bool.{Bool, true, not, cond, _||_}
+use mathlib.Core.Bool.{Bool, not, cond, _||_}
 use lib.Dec.{eqb, ltb}
 use Rattle.fieldset.specs.Fields.{size, below, within}
-use Rattle.panel.specs.declared.Standing.the-variants.{Waiting}
-use Rattle.panel.specs.declared.Link.{Link}
 use Rattle.panel.specs.declared.Refusal.the-variants.{NotOpen, BadLink, NoSuchField, LinkTaken}
 use Rattle.panel.specs.declared.Reply.{Reply}
 use Rattle.panel.specs.declared.Reply.the-variants.{Accepted, Refused}
-
--- a link in force that waits
-abbrev pub waitingLink : ℕ → ℕ → ℕ → Link
-waitingLink level covered outputs = record { covered = covered; outputs = outputs; level = level; used = true; standing = Waiting }
 
 -- the numbers of an add, its covered fields by their count, its outputs, and whether its fields do not rise or have bit 6: no link's
 abbrev pub isBadLink : ℕ → ℕ → ℕ → ℕ → Bool → Bool

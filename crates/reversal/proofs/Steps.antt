@@ -191,9 +191,9 @@ module _ (p : Panel) (k n : ℕ) (place : List ℕ) (l : Link) (held : Standing)
             ∙ found-refused after d h loopless force levels others reads tabled b _ count path true refl (rw (← outs-are, ← cover-is) at f) p refl
 
         pub resolved-step : (t : Turn) → t ≢ Looped → Resolved levels others (after .size) lev outs cover reads path t
-            → (isBlocked after d ≡ false → performed p cmd ≡ accepted p after) → (isBlocked after d ≡ true → performed p cmd ≡ turned p after d)
+            → (t ≡ Free → isBlocked after d ≡ false → performed p cmd ≡ accepted p after) → (isBlocked after d ≡ true → performed p cmd ≡ turned p after d)
             → Decides p k cmd path (stepOf t n place l held (numberOf d))
-        resolved-step Free ne e free step = decides-free (numberOf d) (free (resolved-free e))
+        resolved-step Free ne e free step = decides-free (numberOf d) (free refl (resolved-free e))
         resolved-step Looped ne e free step = absurd (ne refl)
         resolved-step (Path count m) ne (e, f) free step =
             let b : isBlocked after d ≡ true = blocked-is ∙ e in

@@ -171,7 +171,7 @@ module _ (p : Panel) (h : Legal p) (f : ℕ) (t : Touchable p f) (place : List �
             (front-as (Carrying (stay f)) (front-but .carrying)) (front-as (λ q. isLooped q ≡ false) (front-but .loopless)) front-force fresh others reads
             (front-as (λ q. Tabled q fresh others reads) front-tabled)
             front-waits 16 (only f) (only f) front-level refl refl u ne e
-            (front-as (λ q. isBlocked q (stay f) ≡ false → performed p (touching f) ≡ accepted p q) touch-free)
+            (λ free. front-as (λ q. isBlocked q (stay f) ≡ false → performed p (touching f) ≡ accepted p q) touch-free)
             (front-as (λ q. isBlocked q (stay f) ≡ true → performed p (touching f) ≡ turned p q (stay f)) touch-turns)
 
   -- a stay that sets its field

@@ -156,7 +156,7 @@ returns-3 c =
     let m = j .if1 in
     λ k same.
     rw (c .step-of .ensures)
-    (subst (λ (x : ℕ). Decides (p-of f) k (touching x) (m .path) (stepOf (m .turn) (p-of f .size) _ _ Waiting 128)) (f .before .before .before .wide .ensures)
+    (subst (λ (x : ℕ). Decides (p-of f) k (touching x) (m .path) (stepOf (m .turn) (p-of f .size) (f .to-front .last .0) (s-of f .args .named) Waiting 128)) (f .before .before .before .wide .ensures)
     (⊎-elim
     (λ w. touch-step (p-of f) (s-of f .pre .0) _ (touchable f) _ (f .to-front .ensures) (w .0 .taken) (s-of f .pre .1) (w .5 .ensures) (m .path) k _ same
     (m .turn) (no-loop (m .turn) (e .match2 .keys2)) (resolves _ _ _ _ _ _ _ _ _ _ _ (w .6 .ensures) (w .10) (sym (w .11)) (w .9 .ensures)))
