@@ -36,6 +36,14 @@ unfoldable pub hexOf : List ℕ → List ℕ
 hexOf [] = []
 hexOf (b ∷ bs) = charOf (b / 16) ∷ charOf (b % 16) ∷ hexOf bs
 
+-- the character LF, which ends a line
+abbrev pub lf : ℕ
+lf = 10
+
 -- bytes as a line, with its LF
 unfoldable pub lineOf : List ℕ → List ℕ
-lineOf bytes = hexOf bytes ++ (10 ∷ [])
+lineOf bytes = hexOf bytes ++ (lf ∷ [])
+
+-- how many bytes of a frame are kept: those of a longest one, an add with 8 field bytes, and one more, which shows that a frame is longer
+abbrev pub frameRoom : ℕ
+frameRoom = 12
