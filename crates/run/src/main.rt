@@ -86,7 +86,7 @@ fn main() {
         return;
     }
     let n = input.len;
-    if 65535 < n {
+    if text::TEXT_LIMIT < n {
         io::write_all(STDOUT_FILENO, b"FF0C\n");
         return;
     }
