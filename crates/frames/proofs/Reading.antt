@@ -1,6 +1,6 @@
 -- What reading a frame and a line answers. Assumes nothing.
 use mathlib.Core.Path.{_≡_, refl, sym, ap, ap₂, _∙_}
-use mathlib.Core.Bool.{Bool, true, false, not, cond, _&&_, and-false}
+use mathlib.Core.Bool.{Bool, true, false, not, cond, _&&_, and-false, true≢false}
 use mathlib.Core.List.{List, [], _∷_, _++_}
 use Prim.Native.Nat.{ℕ, zero, suc, _+_, _/_, _%_, _≤_, _<_, min}
 use native.Mathlib.Numerals.{add-one}
@@ -76,7 +76,7 @@ pub fits-short : (k n : ℕ) → fitsKind k n ≡ true → n < frameRoom
 fits-short k n e = go (ltb n frameRoom) refl where
   go : (b : Bool) → ltb n frameRoom ≡ b → n < frameRoom
   go true t = ltb-true n frameRoom t
-  go false t = let z : _≡_ {A = Bool} true false = sym e ∙ fits-many k n (ltb-false n frameRoom t) in let y : _≡_ {A = ℕ} 0 1 = cc in absurd (omega arith)
+  go false t = absurd (true≢false (sym e ∙ fits-many k n (ltb-false n frameRoom t)))
 
 -- a full buffer's first bytes fit their kind as their number does the buffer's first byte
 fits-taken : (f : List ℕ) (n : ℕ) → length f ≡ frameRoom → fitsKind (at (take n f) 0) (length (take n f)) ≡ fitsKind (at f 0) n
@@ -119,10 +119,7 @@ module _ (f : List ℕ) (n : ℕ) (size : length f ≡ frameRoom) where
     kind-taken : at (take n f) 0 ≡ k
     kind-taken = go n refl where
       go : (m : ℕ) → n ≡ m → at (take n f) 0 ≡ k
-      go zero e =
-          let z : _≡_ {A = Bool} true false = sym fits ∙ ap (fitsKind (at f 0)) e ∙ fits-none (at f 0) in
-          let y : _≡_ {A = ℕ} 0 1 = cc in
-          absurd (omega arith)
+      go zero e = absurd (true≢false (sym fits ∙ ap (fitsKind (at f 0)) e ∙ fits-none (at f 0)))
       go (suc m) e = getD-take n f 0 0 (omega arith) ∙ kind
 
     taken-fits : fitsKind k (length (take n f)) ≡ true
