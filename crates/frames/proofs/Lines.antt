@@ -10,18 +10,19 @@ use lib.Dec.{ltb, eqb}
 use lib.ListN.{length, getD, take, drop, drop-of-length-le, length-drop}
 use lib.Seq.{drop-cons, drop-drop}
 use borrow.Author.Tests.{ltb-true, ltb-false, eq-eqb, ne-eqb}
+use Rattle.hex.specs.Hex.{lf}
 use Rattle.frames.specs.Texts.{linesOf, before}
 use Rattle.frames.specs.Reading.{lineLength, behindOf}
 
 -- ---- where a line ends
 
-pub length-on : (s : List ℕ) (i : ℕ) → i < length s → (getD s i 0 ≡ 10 → ⊥) → i + 1 + lineLength (drop (i + 1) s) ≡ i + lineLength (drop i s)
+pub length-on : (s : List ℕ) (i : ℕ) → i < length s → (getD s i 0 ≡ lf → ⊥) → i + 1 + lineLength (drop (i + 1) s) ≡ i + lineLength (drop i s)
 unfolding lineLength
-length-on s i h k = rw (add-one, drop-cons s i 0 h) (simp (ne-eqb (getD s i 0) 10 k) (omega arith))
+length-on s i h k = rw (add-one, drop-cons s i 0 h) (simp (ne-eqb (getD s i 0) lf k) (omega arith))
 
-pub length-stop : (s : List ℕ) (i : ℕ) → i < length s → getD s i 0 ≡ 10 → i ≡ i + lineLength (drop i s)
+pub length-stop : (s : List ℕ) (i : ℕ) → i < length s → getD s i 0 ≡ lf → i ≡ i + lineLength (drop i s)
 unfolding lineLength
-length-stop s i h k = rw (drop-cons s i 0 h) (simp (eq-eqb (getD s i 0) 10 k) (omega arith))
+length-stop s i h k = rw (drop-cons s i 0 h) (simp (eq-eqb (getD s i 0) lf k) (omega arith))
 
 pub length-end : (s : List ℕ) (i : ℕ) → length s ≤ i → i ≡ i + lineLength (drop i s)
 unfolding lineLength
@@ -30,7 +31,7 @@ length-end s i h = rw (drop-of-length-le s {i = i} h) (omega arith)
 pub line-within : (s : List ℕ) → lineLength s ≤ length s
 unfolding lineLength
 line-within [] = omega arith
-line-within (c ∷ s) = go (eqb c 10) (line-within s) where
+line-within (c ∷ s) = go (eqb c lf) (line-within s) where
   go : (b : Bool) → lineLength s ≤ length s → cond b 0 (suc (lineLength s)) ≤ suc (length s)
   go true h = omega arith
   go false h = omega arith
@@ -42,11 +43,11 @@ unfolding linesOf
 lines-none = refl
 
 -- an LF ends a line; another character belongs to the first line
-lines-lf : (c : ℕ) (s : List ℕ) → eqb c 10 ≡ true → linesOf (c ∷ s) ≡ [] ∷ linesOf s
+lines-lf : (c : ℕ) (s : List ℕ) → eqb c lf ≡ true → linesOf (c ∷ s) ≡ [] ∷ linesOf s
 unfolding linesOf
 lines-lf c s e = simp e
 
-lines-other : (c : ℕ) (s : List ℕ) → eqb c 10 ≡ false → linesOf (c ∷ s) ≡ before c (linesOf s)
+lines-other : (c : ℕ) (s : List ℕ) → eqb c lf ≡ false → linesOf (c ∷ s) ≡ before c (linesOf s)
 unfolding linesOf
 lines-other c s e = simp e
 
@@ -59,8 +60,8 @@ in-front c (d ∷ s) h = ap (before c) (h (omega arith))
 lines-first : (s : List ℕ) → 0 < length s → linesOf s ≡ take (lineLength s) s ∷ linesOf (drop (suc (lineLength s)) s)
 unfolding lineLength
 lines-first [] h = absurd (not-suc-le-zero h)
-lines-first (c ∷ s) h = go (eqb c 10) refl (in-front c s (lines-first s)) where
-  go : (b : Bool) → eqb c 10 ≡ b → before c (linesOf s) ≡ (c ∷ take (lineLength s) s) ∷ linesOf (drop (suc (lineLength s)) s)
+lines-first (c ∷ s) h = go (eqb c lf) refl (in-front c s (lines-first s)) where
+  go : (b : Bool) → eqb c lf ≡ b → before c (linesOf s) ≡ (c ∷ take (lineLength s) s) ∷ linesOf (drop (suc (lineLength s)) s)
       → linesOf (c ∷ s) ≡ take (cond b 0 (suc (lineLength s))) (c ∷ s) ∷ linesOf (drop (suc (cond b 0 (suc (lineLength s)))) (c ∷ s))
   go true e i = lines-lf c s e
   go false e i = lines-other c s e ∙ i
@@ -68,7 +69,7 @@ lines-first (c ∷ s) h = go (eqb c 10) refl (in-front c s (lines-first s)) wher
 pub lines-few : (s : List ℕ) → length (linesOf s) ≤ length s
 unfolding linesOf
 lines-few [] = omega arith
-lines-few (c ∷ s) = go (eqb c 10) (lines-few s) (linesOf s) refl where
+lines-few (c ∷ s) = go (eqb c lf) (lines-few s) (linesOf s) refl where
   go : (b : Bool) → length (linesOf s) ≤ length s → (ls : List (List ℕ)) → linesOf s ≡ ls → length (cond b ([] ∷ ls) (before c ls)) ≤ suc (length s)
   go true h ls e = omega (arith, ap length e)
   go false h [] e = omega arith

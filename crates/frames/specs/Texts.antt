@@ -76,7 +76,7 @@ module _ {S : Type 0} (answer : LineAnswer S) where
       let rs = replies s lines in
       written rs ++ lineOf (tallyBytes (tallyAfter t rs))
 
-  -- what is written for a text that starts in a state: "No line is treated; the whole output is the line FF0C, without tally"
+  -- what is written for a text, from a state on; where it is too long "No line is treated; the whole output is the line FF0C, without tally"
   unfoldable pub outputOf : S → List ℕ → List ℕ
   outputOf s text =
       elim (isTooLong text) [

@@ -6,6 +6,9 @@ ghost use Rattle.tally.specs.Tallies.{cap, more, tallied, tallyBytes};
 // The greatest count, and the greatest number of three bytes.
 const CAP: u32 = 16777215;
 
+// The bytes of a tally's line: EE, three counts of three bytes, and the last refusal.
+pub const TALLY_BYTES: usize = 11;
+
 // How many lines there were, how many of them were accepted and refused, and the last refusal's number, 0 if none.
 pub struct Tally {
     pub lines: u32,
@@ -88,7 +91,7 @@ fn low(n: u32) -> u8
 }
 
 // The tally as the bytes of its line.
-pub fn tally_bytes(t: Tally) -> [u8; 11]
+pub fn tally_bytes(t: Tally) -> [u8; TALLY_BYTES]
     ensures { λ r. ⌜ r ≡ tallyBytes t ⌝ }
 {
     [

@@ -47,14 +47,18 @@ line-answer q line k fields read = go k ∙ ap (λ (x : List ℕ). answered q x 
 
 -- ---- the arms
 
+-- the bytes of a plan's rows, three for each of 64 fields
+abbrev pub rowsLength : ℕ
+rowsLength = 192
+
 -- the command is answered: the panel, the reply, and behind its first two bytes the first of a buffer
 pub record Performed (q : Panel) (k : Command) (fields : List ℕ) (p : Panel) (reply : Reply) (rows : List ℕ) (count : ℕ) : Type 0 where
   pub answer : record { state = p; reply = replyBytes reply ++ take count rows } ≡ commandAnswer q k fields
   pub legal : Legal p
-  pub full : length rows ≡ 192
-  pub short : count ≤ 192
+  pub full : length rows ≡ rowsLength
+  pub short : count ≤ rowsLength
 
-module _ (q : Panel) (k : Command) (fields before : List ℕ) (size : length before ≡ 192) (p : Panel) (reply : Reply) (rows : List ℕ) (count : ℕ) where
+module _ (q : Panel) (k : Command) (fields before : List ℕ) (size : length before ≡ rowsLength) (p : Panel) (reply : Reply) (rows : List ℕ) (count : ℕ) where
   -- an answer without rows
   pub plain : (k′ : Command) → k ≡ k′ → (p′ : Panel) (reply′ : Reply) → record { state = p′; reply = replyBytes reply′ } ≡ commandAnswer q k′ fields → Legal p′
       → p ≡ p′ → rows ≡ before → count ≡ 0 → reply ≡ reply′ → Performed q k fields p reply rows count

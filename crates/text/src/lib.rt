@@ -129,7 +129,7 @@ pub fn put_tally(out: &mut [u8], at: usize, t: Tally) -> usize
     let bytes = tally::tally_bytes(t);
     let first = bytes[0];
     let second = bytes[1];
-    let all = &bytes[..11];
+    let all = &bytes[..tally::TALLY_BYTES];
     hex::put_line(out, at, first, second, &all[2..])
 }
 

@@ -17,14 +17,14 @@ use Rattle.frames.specs.Frames.{lineAnswer}
 use Rattle.frames.proofs.Lines.{end-within, behind-on}
 use Rattle.frames.proofs.Outputs.{refusal-rows}
 use Rattle.frames.proofs.Reading.{add-reaches}
-use Rattle.text.proofs.Arms.{Performed, plain, gave, planned, did, tail}
+use Rattle.text.proofs.Arms.{rowsLength, Performed, plain, gave, planned, did, tail}
 use Rattle.text.proofs.Going.{Did, Going, start, line-done, finish-end, finish-full}
 use Rattle.text.proofs.answer_lines.Statement.{statement}
 use Rattle.text.proofs.answer_lines.Tie as tie
 
 abbrev Inv-loop : tie.InvT-loop
 Inv-loop text from out₀ room at₀ q₀ u₀ n₀ rows₀ out at q u n rows =
-    (length rows ≡ 192) × Going lineAnswer Legal text from room q₀ u₀ out₀ out (record { next = at; state = q; tally = u; written = n })
+    (length rows ≡ rowsLength) × Going lineAnswer Legal text from room q₀ u₀ out₀ out (record { next = at; state = q; tally = u; written = n })
 
 abbrev μ-loop : tie.MeasureT-loop
 μ-loop text from out₀ room at₀ q₀ u₀ n₀ rows₀ out at q u n rows = length text - at
