@@ -64,6 +64,7 @@ commandBytes (Refused r) fields = 0xFF ∷ refusalBytes r
 
 -- ---- document 01's panel
 
+-- the answer to a command as one to a line
 abbrev pub answerTo : Answer → Answered Panel
 answerTo a = record { state = a .panel; reply = a .reply }
 
