@@ -10,16 +10,16 @@ use Rattle.panel.specs.Commands.{Command}
 use Rattle.optimality.specs.Condition3.{Store, empty, stepped, after, panels}
 use Rattle.optimality.proofs.Answers.{refused-unchanged}
 use Rattle.optimality.proofs.Runs.{condition-3}
-use Rattle.frames.specs.Frames.{lineAnswer, answered, frameOf, commandOf}
-use Rattle.frames.specs.Texts.{linesOf, panelAfter}
+use Rattle.frames.specs.Texts.{linesOf, stateAfter}
+use Rattle.frames.specs.Frames.{lineAnswer, answered, frameOf, commandOf, panelAfter}
 use Rattle.acceptance.specs.Lines.{commandsOf, LinesAsCommands, AfterEveryText, RefusedLineUnchanged}
 
 pub lines-as-commands : LinesAsCommands
-unfolding panelAfter lineAnswer commandsOf filterMap after stepped
+unfolding stateAfter lineAnswer commandsOf filterMap after stepped
 lines-as-commands p b [] = refl
 lines-as-commands p b (l ∷ ls) = go (commandOf (frameOf l)) (λ q d. lines-as-commands q d ls) where
   go : (c : Option Command) → ((q : Panel) (d : Store) → panelAfter q ls ≡ after panels (record { state = q; store = d }) (commandsOf ls) .state)
-      → panelAfter (answered p (frameOf l) c .panel) ls
+      → panelAfter (answered p (frameOf l) c .state) ls
       ≡ after panels (record { state = p; store = b }) (Option·elim c (commandsOf ls) (λ x. x ∷ commandsOf ls)) .state
   go none rest = rest p b
   go (some c) rest = rest _ _
@@ -30,6 +30,6 @@ after-every-text text = record { optimal = condition-3 (commandsOf (linesOf text
 pub refused-line-unchanged : RefusedLineUnchanged
 unfolding lineAnswer
 refused-line-unchanged p line = go (commandOf (frameOf line)) where
-  go : (c : Option Command) → isRefusal (answered p (frameOf line) c .reply) ≡ true → answered p (frameOf line) c .panel ≡ p
+  go : (c : Option Command) → isRefusal (answered p (frameOf line) c .reply) ≡ true → answered p (frameOf line) c .state ≡ p
   go none e = refl
   go (some c) e = refused-unchanged p c e

@@ -1,3 +1,3 @@
 pub mod Output
 pub mod Commands
-pub mod WrongPanels
+pub mod ShamPanels

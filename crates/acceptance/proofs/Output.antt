@@ -7,34 +7,34 @@ use native.Mathlib.Omega.{arith}
 use lib.Dec.{ltb, eqb}
 use lib.ListN.{length-append, length-map}
 use borrow.Author.Tests.{ne-eqb}
-use Rattle.hex.specs.Hex.{charOf, hexOf, lineOf}
-use Rattle.frames.specs.Frames.{lineAnswer}
+use Rattle.hex.specs.Hex.{lf, charOf, hexOf, lineOf}
 use Rattle.frames.specs.Texts.{linesOf, replies, written, output, isTooLong, outputOf}
+use Rattle.frames.specs.Frames.{panelOutput}
 use Rattle.items.specs.Characters.{characters}
 use Rattle.acceptance.specs.Lines.{OneReplyEach, repliesTo, tallyTo, OutputLines, OutputTooLong}
 
 pub one-reply-each : OneReplyEach
 unfolding replies
-one-reply-each p [] = refl
-one-reply-each p (l ∷ ls) = ap suc (one-reply-each (lineAnswer p l .panel) ls)
+one-reply-each S answer s [] = refl
+one-reply-each S answer s (l ∷ ls) = ap suc (one-reply-each S answer (answer s l .state) ls)
 
 -- no digit is an LF
-char-no-lf : (x : ℕ) → eqb (charOf x) 10 ≡ false
+char-no-lf : (x : ℕ) → eqb (charOf x) lf ≡ false
 unfolding charOf
 char-no-lf x = go (ltb x 10) where
-  go : (b : Bool) → eqb (cond b (x + 48) (x + 55)) 10 ≡ false
-  go true = ne-eqb (x + 48) 10 (omega arith)
-  go false = ne-eqb (x + 55) 10 (omega arith)
+  go : (b : Bool) → eqb (cond b (x + 48) (x + 55)) lf ≡ false
+  go true = ne-eqb (x + 48) lf (omega arith)
+  go false = ne-eqb (x + 55) lf (omega arith)
 
 -- digits, an LF, and what follows
-lines-hex : (bytes rest : List ℕ) → linesOf (hexOf bytes ++ (10 ∷ rest)) ≡ hexOf bytes ∷ linesOf rest
+lines-hex : (bytes rest : List ℕ) → linesOf (hexOf bytes ++ (lf ∷ rest)) ≡ hexOf bytes ∷ linesOf rest
 unfolding linesOf hexOf
 lines-hex [] rest = refl
 lines-hex (b ∷ bs) rest = simp (char-no-lf, lines-hex bs rest)
 
 lines-line : (bytes rest : List ℕ) → linesOf (lineOf bytes ++ rest) ≡ hexOf bytes ∷ linesOf rest
 unfolding lineOf
-lines-line bytes rest = ap linesOf (append-assoc (hexOf bytes) (10 ∷ []) rest) ∙ lines-hex bytes rest
+lines-line bytes rest = ap linesOf (append-assoc (hexOf bytes) (lf ∷ []) rest) ∙ lines-hex bytes rest
 
 lines-written : (rs : List (List ℕ)) (last : List ℕ) → linesOf (written rs ++ lineOf last) ≡ map hexOf rs ++ (hexOf last ∷ [])
 unfolding written lineOf linesOf
@@ -43,7 +43,7 @@ lines-written (r ∷ rs) last =
     ap linesOf (append-assoc (lineOf r) (written rs) (lineOf last)) ∙ lines-line r (written rs ++ lineOf last)
     ∙ ap (λ (ls : List (List ℕ)). hexOf r ∷ ls) (lines-written rs last)
 
-output-short : (text : List ℕ) → isTooLong text ≡ false → outputOf text ≡ written (repliesTo text) ++ lineOf (tallyTo text)
+output-short : (text : List ℕ) → isTooLong text ≡ false → panelOutput text ≡ written (repliesTo text) ++ lineOf (tallyTo text)
 unfolding outputOf output
 output-short text short = rw (short, outputOf)
 

@@ -11,19 +11,19 @@ use Rattle.panel.specs.Commands.{Command}
 use Rattle.optimality.specs.Condition3.{Store, Optimal, Run, after, panels, start}
 use Rattle.hex.specs.Hex.{hexOf}
 use Rattle.tally.specs.Tallies.{noTally, tallyBytes}
-use Rattle.frames.specs.Frames.{frameOf, commandOf, lineAnswer}
-use Rattle.frames.specs.Texts.{linesOf, panelAfter, replies, tallyAfter, isTooLong, outputOf}
+use Rattle.frames.specs.Texts.{LineAnswer, linesOf, replies, tallyAfter, isTooLong}
+use Rattle.frames.specs.Frames.{frameOf, commandOf, lineAnswer, panelAfter, panelOutput}
 use Rattle.items.specs.Characters.{characters}
 
 -- ---- one reply for each line
 
--- "The answer to every command line, well formed or not, .. is one reply" (tender)
-abbrev pub OneReplyEach : Type 0
-OneReplyEach = (p : Panel) (lines : List (List ℕ)) → length (replies p lines) ≡ length lines
+-- "The answer to every command line, well formed or not, .. is one reply" (tender), whatever answers the lines
+abbrev pub OneReplyEach : Type 1
+OneReplyEach = (S : Type 0) (answer : LineAnswer S) (s : S) (lines : List (List ℕ)) → length (replies answer s lines) ≡ length lines
 
 -- the replies to a text's lines; the first line meets an unopened panel
 abbrev pub repliesTo : List ℕ → List (List ℕ)
-repliesTo text = replies (opened 0) (linesOf text)
+repliesTo text = replies lineAnswer (opened 0) (linesOf text)
 
 -- the bytes of the tally after them
 abbrev pub tallyTo : List ℕ → List ℕ
@@ -31,15 +31,15 @@ tallyTo text = tallyBytes (tallyAfter noTally (repliesTo text))
 
 -- the lines of a text's output: "one reply a line, then the tally"
 pub record RepliesThenTally (text : List ℕ) : Type 0 where
-  pub lines : linesOf (outputOf text) ≡ map hexOf (repliesTo text) ++ (hexOf (tallyTo text) ∷ [])
-  pub count : length (linesOf (outputOf text)) ≡ suc (length (linesOf text))
+  pub lines : linesOf (panelOutput text) ≡ map hexOf (repliesTo text) ++ (hexOf (tallyTo text) ∷ [])
+  pub count : length (linesOf (panelOutput text)) ≡ suc (length (linesOf text))
 
 abbrev pub OutputLines : Type 0
 OutputLines = (text : List ℕ) → isTooLong text ≡ false → RepliesThenTally text
 
 -- "TextTooLong .. No line is treated; the whole output is the line FF0C, without tally"
 abbrev pub OutputTooLong : Type 0
-OutputTooLong = (text : List ℕ) → isTooLong text ≡ true → linesOf (outputOf text) ≡ characters "FF0C" ∷ []
+OutputTooLong = (text : List ℕ) → isTooLong text ≡ true → linesOf (panelOutput text) ≡ characters "FF0C" ∷ []
 
 -- ---- lines and commands
 
@@ -67,4 +67,4 @@ AfterEveryText = (text : List ℕ) → AfterText text
 
 -- "a refusal .. leaves links, stay order and setters as they stood" (tender)
 abbrev pub RefusedLineUnchanged : Type 0
-RefusedLineUnchanged = (p : Panel) (line : List ℕ) → isRefusal (lineAnswer p line .reply) ≡ true → lineAnswer p line .panel ≡ p
+RefusedLineUnchanged = (p : Panel) (line : List ℕ) → isRefusal (lineAnswer p line .reply) ≡ true → lineAnswer p line .state ≡ p

@@ -1,18 +1,14 @@
--- The numbers and values of a line's command and of a text's answer tell their cases apart. Assumes nothing.
+-- The numbers and values of a line's command tell its cases apart. Assumes nothing.
 use mathlib.Core.Path.{_≡_, refl, sym, ap, _∙_}
 use mathlib.Core.Bool.{cond}
 use mathlib.Core.List.{List}
 use Prim.Native.Nat.{ℕ}
-use native.Mathlib.Omega.{arith}
 use lib.Dec.{eqb}
 use Rattle.fieldset.specs.Tables.{at}
 use Rattle.panel.proofs.Answers.{refusalAt, refusal-at}
 use Rattle.frames.specs.declared.Command.{Command}
 use Rattle.frames.specs.declared.Command.the-variants.{Open, Add, Remove, Touch, Plan, Refused}
-use Rattle.frames.specs.declared.Outcome.{Outcome}
-use Rattle.frames.specs.declared.Outcome.the-variants.{Length, TextTooLong}
 use Rattle.frames.specs.Frames.{commandBytes}
-use Rattle.frames.specs.Texts.{outcomeNumbers}
 
 -- the command of a number and values
 abbrev commandAt : List ℕ → Command
@@ -33,9 +29,3 @@ command-at (Refused r) fields = ap Refused (refusal-at r)
 
 pub commands-apart : (c d : Command) (fields others : List ℕ) → commandBytes c fields ≡ commandBytes d others → c ≡ d
 commands-apart c d fields others e = sym (command-at c fields) ∙ ap commandAt e ∙ command-at d others
-
-pub outcomes-apart : (a b : Outcome) → outcomeNumbers a ≡ outcomeNumbers b → a ≡ b
-outcomes-apart (Length m) (Length n) e = cc
-outcomes-apart (Length m) TextTooLong e = let z : _≡_ {A = ℕ} 0 255 = ap (λ (b : List ℕ). at b 0) e in absurd (omega arith)
-outcomes-apart TextTooLong (Length n) e = let z : _≡_ {A = ℕ} 255 0 = ap (λ (b : List ℕ). at b 0) e in absurd (omega arith)
-outcomes-apart TextTooLong TextTooLong e = refl

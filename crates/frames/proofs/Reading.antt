@@ -1,30 +1,33 @@
 -- What reading a frame and a line answers. Assumes nothing.
 use mathlib.Core.Path.{_≡_, refl, sym, ap, ap₂, _∙_}
-use mathlib.Core.Bool.{Bool, true, false, cond, _&&_}
-use mathlib.Core.List.{List, [], _∷_}
-use Prim.Native.Nat.{ℕ, zero, suc, _+_, _/_, _%_, _≤_, _<_}
+use mathlib.Core.Bool.{Bool, true, false, not, cond, _&&_, and-false, true≢false}
+use mathlib.Core.List.{List, [], _∷_, _++_}
+use Prim.Native.Nat.{ℕ, zero, suc, _+_, _/_, _%_, _≤_, _<_, min}
 use native.Mathlib.Numerals.{add-one}
 use native.Mathlib.Omega.{arith}
-use lib.Dec.{ltb}
+use lib.Dec.{ltb, leb, eqb}
 use lib.ListN.{length, getD, take, drop, length-take, length-drop, drop-of-length-le}
-use lib.Seq.{drop-cons, getD-take, take-all, take-append-seam, sets, sets-eq, length-sets}
-use borrow.Author.Tests.{lt-ltb, le-ltb, ltb-true, ltb-false, le-leb, lt-leb, eq-eqb, ne-eqb}
+use lib.Seq.{drop-cons, getD-take, length-take-le, take-all, take-at, sets, sets-eq, length-sets}
+use borrow.Author.Tests.{ltb-true, ltb-false, leb-true, leb-false, lt-leb, eqb-true, eq-eqb, ne-eqb}
 use Rattle.fieldset.specs.Tables.{at}
+use Rattle.fieldset.proofs.Tests.{and-left}
 use Rattle.panel.specs.declared.Refusal.the-variants.{BadHex, BadFrame}
 use Rattle.panel.specs.Answers.{refusalBytes}
-use Rattle.panel.specs.Commands.{hasBit6, anyOf, areFieldBytes}
-use Rattle.hex.specs.Hex.{isHex, bytesOf}
+use Rattle.panel.specs.Commands.{hasBit6, anyOf}
+use Rattle.hex.specs.Hex.{isHex, bytesOf, frameRoom}
 use Rattle.hex.specs.Answers.{decodedValues, decoded, frameAfter}
 use Rattle.hex.specs.declared.Decoded.{Decoded}
 use Rattle.hex.specs.declared.Decoded.the-variants.{BadHex as NoHex, Frame}
+use Rattle.hex.proofs.Stores.{sets-fit}
 use Rattle.frames.specs.declared.Command.{Command}
-use Rattle.frames.specs.declared.Command.the-variants.{Open, Add, Remove, Touch, Plan, Refused}
-use Rattle.frames.specs.Frames.{isFrame, frameOf, commandBytes}
-use Rattle.frames.specs.Reading.{checkedFrame, frameRead, Reaches, LineRead}
+use Rattle.frames.specs.declared.Command.the-variants.{Add, Refused}
+use Rattle.frames.specs.declared.Line.{Line}
+use Rattle.frames.specs.Frames.{fitsKind, isFrame, checkedFrame, frameOf, commandBytes}
+use Rattle.frames.specs.Reading.{LineRead}
 
 -- ---- bit 6 of the field bytes, from a position of a frame on
 
-module _ (f : List ℕ) (n : ℕ) (size : length f ≡ 12) (short : n ≤ 12) where
+module _ (f : List ℕ) (n : ℕ) (size : length f ≡ frameRoom) (short : n ≤ frameRoom) where
   byte-and-rest : (i : ℕ) → i < n → drop i (take n f) ≡ getD f i 0 ∷ drop (i + 1) (take n f)
   byte-and-rest i h =
       drop-cons (take n f) i 0 (omega (arith, length-take n f))
@@ -42,196 +45,110 @@ module _ (f : List ℕ) (n : ℕ) (size : length f ≡ 12) (short : n ≤ 12) wh
   unfolding anyOf
   bit6-none i h = rw (drop-of-length-le (take n f) {i = i} (omega (arith, length-take n f)))
 
--- ---- which bytes are field bytes
+-- ---- lengths that fit a kind
 
--- one of two lists
-abbrev pick : Bool → List ℕ → List ℕ → List ℕ
-pick b x y = elim b [ true ↦ x | false ↦ y ]
+-- the kinds, as a match on the kind tells them apart
+abbrev pub OtherKind : ℕ → Type 0
+OtherKind k = ((((Unit {0} × (k ≡ 0x01 → ⊥)) × (k ≡ 0x02 → ⊥)) × (k ≡ 0x03 → ⊥)) × (k ≡ 0x04 → ⊥)) × (k ≡ 0x05 → ⊥)
 
-and-false : (a : Bool) → a && false ≡ false
-and-false true = refl
-and-false false = refl
+pub fits-other : (k n : ℕ) → OtherKind k → false ≡ fitsKind k n
+unfolding fitsKind
+fits-other k n o =
+    simp (ne-eqb k 1 (o .0 .0 .0 .0 .1), ne-eqb k 2 (o .0 .0 .0 .1), ne-eqb k 3 (o .0 .0 .1), ne-eqb k 4 (o .0 .1), ne-eqb k 5 (o .1))
 
-module _ (s : List ℕ) where
-  fields-are : 1 ≤ length s → length s ≤ 8 → anyOf hasBit6 s ≡ false → areFieldBytes s ≡ true
-  unfolding areFieldBytes
-  fields-are l m e = simp (le-leb 1 (length s) l, le-leb (length s) 8 m, e)
+pub fits-at : (k′ k n : ℕ) → k ≡ k′ → fitsKind k′ n ≡ fitsKind k n
+fits-at k′ k n e = ap (λ (x : ℕ). fitsKind x n) (sym e)
 
-  fields-bit6 : anyOf hasBit6 s ≡ true → areFieldBytes s ≡ false
-  unfolding areFieldBytes
-  fields-bit6 e = simp (e, and-false)
+either-false : (b : Bool) → cond b false false ≡ false
+either-false true = refl
+either-false false = refl
 
-  fields-few : length s < 1 → areFieldBytes s ≡ false
-  unfolding areFieldBytes
-  fields-few l = simp (lt-leb 1 (length s) l)
+-- no kind has no byte, or as many as the buffer
+fits-none : (k : ℕ) → fitsKind k 0 ≡ false
+unfolding fitsKind
+fits-none k = simp either-false
 
-  fields-many : 8 < length s → areFieldBytes s ≡ false
-  unfolding areFieldBytes
-  fields-many l = simp (lt-leb (length s) 8 l, and-false)
+fits-many : (k n : ℕ) → frameRoom ≤ n → fitsKind k n ≡ false
+unfolding fitsKind
+fits-many k n h = simp (ne-eqb n 2 (λ e. omega arith), ne-eqb n 1 (λ e. omega arith), lt-leb n 11 (omega arith), and-false, either-false)
+
+pub fits-short : (k n : ℕ) → fitsKind k n ≡ true → n < frameRoom
+fits-short k n e = go (ltb n frameRoom) refl where
+  go : (b : Bool) → ltb n frameRoom ≡ b → n < frameRoom
+  go true t = ltb-true n frameRoom t
+  go false t = absurd (true≢false (sym e ∙ fits-many k n (ltb-false n frameRoom t)))
+
+-- a full buffer's first bytes fit their kind as their number does the buffer's first byte
+fits-taken : (f : List ℕ) (n : ℕ) → length f ≡ frameRoom → fitsKind (at (take n f) 0) (length (take n f)) ≡ fitsKind (at f 0) n
+fits-taken f zero size = fits-none 0 ∙ sym (fits-none (at f 0))
+fits-taken f (suc n) size = go (ltb (suc n) frameRoom) refl where
+  go : (b : Bool) → ltb (suc n) frameRoom ≡ b → fitsKind (at (take (suc n) f) 0) (length (take (suc n) f)) ≡ fitsKind (at f 0) (suc n)
+  go true e = ap₂ fitsKind (getD-take (suc n) f 0 0 (omega arith)) (length-take-le (suc n) f (omega (arith, ltb-true (suc n) frameRoom e)))
+  go false e =
+      let h : frameRoom ≤ suc n = ltb-false (suc n) frameRoom e in
+      fits-many _ _ (omega (arith, length-take (suc n) f)) ∙ sym (fits-many (at f 0) (suc n) h)
 
 -- ---- which bytes are a frame
 
-module _ (b : List ℕ) where
-  pub open-is : at b 0 ≡ 1 → length b ≡ 2 → isFrame b ≡ true
-  unfolding isFrame
-  open-is k l = simp (k, l)
+unfit : (b : List ℕ) → fitsKind (at b 0) (length b) ≡ false → checkedFrame b ≡ 0xFF ∷ refusalBytes BadFrame
+unfolding isFrame checkedFrame
+unfit b e = simp e
 
-  pub remove-is : at b 0 ≡ 3 → length b ≡ 2 → isFrame b ≡ true
-  unfolding isFrame
-  remove-is k l = simp (k, l)
+-- a frame is known by as many bytes as the buffer has
+known : (b : List ℕ) → checkedFrame (take frameRoom b) ≡ checkedFrame b
+known b = go (leb (length b) frameRoom) refl where
+  go : (t : Bool) → leb (length b) frameRoom ≡ t → checkedFrame (take frameRoom b) ≡ checkedFrame b
+  go true e = ap checkedFrame (take-all frameRoom b (leb-true (length b) frameRoom e))
+  go false e =
+      let h : frameRoom < length b = leb-false (length b) frameRoom e in
+      unfit (take frameRoom b) (fits-many _ _ (omega (arith, length-take frameRoom b))) ∙ sym (unfit b (fits-many _ _ (omega arith)))
 
-  pub touch-is : at b 0 ≡ 4 → length b ≡ 2 → isFrame b ≡ true
-  unfolding isFrame
-  touch-is k l = simp (k, l)
+parts : (f : List ℕ) → 3 ≤ length f → at f 0 ∷ at f 1 ∷ at f 2 ∷ drop 3 f ≡ f
+parts [] h = absurd (omega arith)
+parts (x ∷ []) h = absurd (omega arith)
+parts (x ∷ y ∷ []) h = absurd (omega arith)
+parts (x ∷ y ∷ z ∷ s) h = refl
 
-  plan-is : at b 0 ≡ 5 → length b ≡ 1 → isFrame b ≡ true
-  unfolding isFrame
-  plan-is k l = simp (k, l)
+-- ---- the first n bytes of a buffer
 
-  add-is : at b 0 ≡ 2 → areFieldBytes (drop 3 b) ≡ true → isFrame b ≡ true
-  unfolding isFrame
-  add-is k e = simp (k, e)
+module _ (f : List ℕ) (n : ℕ) (size : length f ≡ frameRoom) where
+  pub unfit-read : fitsKind (at f 0) n ≡ false → 0xFF ∷ refusalBytes BadFrame ≡ checkedFrame (take n f)
+  unfit-read e = sym (unfit (take n f) (fits-taken f n size ∙ e))
 
-  pub open-not : at b 0 ≡ 1 → (length b ≡ 2 → ⊥) → isFrame b ≡ false
-  unfolding isFrame
-  open-not k l = simp (k, ne-eqb (length b) 2 l)
+  module _ (k : ℕ) (kind : at f 0 ≡ k) (fits : fitsKind (at f 0) n ≡ true) where
+    kind-taken : at (take n f) 0 ≡ k
+    kind-taken = go n refl where
+      go : (m : ℕ) → n ≡ m → at (take n f) 0 ≡ k
+      go zero e = absurd (true≢false (sym fits ∙ ap (fitsKind (at f 0)) e ∙ fits-none (at f 0)))
+      go (suc m) e = getD-take n f 0 0 (omega arith) ∙ kind
 
-  pub remove-not : at b 0 ≡ 3 → (length b ≡ 2 → ⊥) → isFrame b ≡ false
-  unfolding isFrame
-  remove-not k l = simp (k, ne-eqb (length b) 2 l)
+    taken-fits : fitsKind k (length (take n f)) ≡ true
+    taken-fits = ap (λ (x : ℕ). fitsKind x (length (take n f))) (sym kind-taken) ∙ fits-taken f n size ∙ fits
 
-  pub touch-not : at b 0 ≡ 4 → (length b ≡ 2 → ⊥) → isFrame b ≡ false
-  unfolding isFrame
-  touch-not k l = simp (k, ne-eqb (length b) 2 l)
+    pub kind-read : eqb k 0x02 && anyOf hasBit6 (drop 3 (take n f)) ≡ false → take n f ≡ checkedFrame (take n f)
+    unfolding isFrame checkedFrame
+    kind-read low = sym (simp (kind-taken, taken-fits, low))
 
-  plan-not : at b 0 ≡ 5 → (length b ≡ 1 → ⊥) → isFrame b ≡ false
-  unfolding isFrame
-  plan-not k l = simp (k, ne-eqb (length b) 1 l)
+    pub bit6-read : eqb k 0x02 && anyOf hasBit6 (drop 3 (take n f)) ≡ true → 0xFF ∷ refusalBytes BadFrame ≡ checkedFrame (take n f)
+    unfolding isFrame checkedFrame
+    bit6-read high = sym (simp (kind-taken, high, and-false))
 
-  add-not : at b 0 ≡ 2 → areFieldBytes (drop 3 b) ≡ false → isFrame b ≡ false
-  unfolding isFrame
-  add-not k e = simp (k, e)
+    -- a kind with one length m: its first m bytes
+    pub exact-read : (m : ℕ) → fitsKind k n ≡ eqb n m → eqb k 0x02 && anyOf hasBit6 (drop 3 (take n f)) ≡ false
+        → take m (k ∷ at f 1 ∷ at f 2 ∷ drop 3 f) ≡ checkedFrame (take n f)
+    exact-read m one low =
+        let e : n ≡ m = eqb-true n m (sym one ∙ fits-at k (at f 0) n kind ∙ fits) in
+        ap₂ (λ (i : ℕ) (x : ℕ). take i (x ∷ at f 1 ∷ at f 2 ∷ drop 3 f)) (sym e) (sym kind) ∙ ap (take n) (parts f (omega arith)) ∙ kind-read low
 
-  kind-not : (at b 0 ≡ 1 → ⊥) → (at b 0 ≡ 2 → ⊥) → (at b 0 ≡ 3 → ⊥) → (at b 0 ≡ 4 → ⊥) → (at b 0 ≡ 5 → ⊥) → isFrame b ≡ false
-  unfolding isFrame
-  kind-not k₁ k₂ k₃ k₄ k₅ =
-      simp (ne-eqb (at b 0) 1 k₁, ne-eqb (at b 0) 2 k₂, ne-eqb (at b 0) 3 k₃, ne-eqb (at b 0) 4 k₄, ne-eqb (at b 0) 5 k₅)
-
-  long-not : 12 ≤ length b → isFrame b ≡ false
-  unfolding isFrame
-  long-not h =
-      let k : 8 < length (drop 3 b) = omega (arith, length-drop 3 b) in
-      simp (ne-eqb (length b) 2 (λ e. omega arith), ne-eqb (length b) 1 (λ e. omega arith), fields-many (drop 3 b) k, and-false)
-
-  checked-good : isFrame b ≡ true → checkedFrame b ≡ b
-  unfolding checkedFrame
-  checked-good e = ap (λ (x : Bool). pick x b (0xFF ∷ refusalBytes BadFrame)) e
-
-  checked-bad : isFrame b ≡ false → checkedFrame b ≡ 0xFF ∷ refusalBytes BadFrame
-  unfolding checkedFrame
-  checked-bad e = ap (λ (x : Bool). pick x b (0xFF ∷ refusalBytes BadFrame)) e
-
-none-not : isFrame [] ≡ false
-unfolding isFrame
-none-not = refl
-
-one-byte : (b : List ℕ) → length b ≡ 1 → at b 0 ∷ [] ≡ b
-one-byte [] h = absurd (omega arith)
-one-byte (x ∷ []) h = refl
-one-byte (x ∷ y ∷ s) h = absurd (omega arith)
-
-two-bytes : (b : List ℕ) → length b ≡ 2 → at b 0 ∷ at b 1 ∷ [] ≡ b
-two-bytes [] h = absurd (omega arith)
-two-bytes (x ∷ []) h = absurd (omega arith)
-two-bytes (x ∷ y ∷ []) h = refl
-two-bytes (x ∷ y ∷ z ∷ s) h = absurd (omega arith)
-
-three-bytes : (b : List ℕ) → 3 ≤ length b → at b 0 ∷ at b 1 ∷ at b 2 ∷ drop 3 b ≡ b
-three-bytes [] h = absurd (omega arith)
-three-bytes (x ∷ []) h = absurd (omega arith)
-three-bytes (x ∷ y ∷ []) h = absurd (omega arith)
-three-bytes (x ∷ y ∷ z ∷ s) h = refl
-
--- ---- a frame of n bytes in a buffer of 12
-
-module _ (f : List ℕ) (n : ℕ) (size : length f ≡ 12) where
-  taken : n ≤ 12 → length (take n f) ≡ n
-  taken h = omega (arith, length-take n f)
-
-  good : n < 12 → isFrame (take n f) ≡ true → take n f ≡ frameRead n f
-  unfolding frameRead
-  good h t = sym (simp (lt-ltb n 12 h) (checked-good (take n f) t))
-
-  pub many-read : 12 ≤ n → 0xFF ∷ refusalBytes BadFrame ≡ frameRead n f
-  unfolding frameRead
-  many-read h = sym (simp (le-ltb n 12 h))
-
-  some-bad : n < 12 → isFrame (take n f) ≡ false → 0xFF ∷ refusalBytes BadFrame ≡ frameRead n f
-  unfolding frameRead
-  some-bad h t = sym (simp (lt-ltb n 12 h) (checked-bad (take n f) t))
-
-  bad : (0 < n → n < 12 → isFrame (take n f) ≡ false) → 0xFF ∷ refusalBytes BadFrame ≡ frameRead n f
-  bad t = go (ltb n 12) refl where
-    none : (m : ℕ) → n ≡ m → n < 12 → isFrame (take n f) ≡ false
-    none zero e h = ap (λ (k : ℕ). isFrame (take k f)) e ∙ none-not
-    none (suc m) e h = t (omega arith) h
-
-    go : (b : Bool) → ltb n 12 ≡ b → 0xFF ∷ refusalBytes BadFrame ≡ frameRead n f
-    go true e = some-bad (ltb-true n 12 e) (none n refl (ltb-true n 12 e))
-    go false e = many-read (ltb-false n 12 e)
-
-  module _ (k : ℕ) (kind : at f 0 ≡ k) where
-    kind-taken : 0 < n → at (take n f) 0 ≡ k
-    kind-taken h = getD-take n f 0 0 h ∙ kind
-
-    pub pair-read : n ≡ 2 → ((b : List ℕ) → at b 0 ≡ k → length b ≡ 2 → isFrame b ≡ true) → k ∷ at f 1 ∷ [] ≡ frameRead n f
-    pair-read h is =
-        let l : length (take n f) ≡ 2 = taken (omega arith) ∙ h in
-        let k₀ : at (take n f) 0 ≡ k = kind-taken (omega arith) in
-        ap₂ (λ (x : ℕ) (y : ℕ). x ∷ y ∷ []) (sym k₀) (sym (getD-take n f 1 0 (omega arith)))
-        ∙ two-bytes (take n f) l ∙ good (omega arith) (is (take n f) k₀ l)
-
-    pub pair-other : (n ≡ 2 → ⊥) → ((b : List ℕ) → at b 0 ≡ k → (length b ≡ 2 → ⊥) → isFrame b ≡ false)
-        → 0xFF ∷ refusalBytes BadFrame ≡ frameRead n f
-    pair-other h is = bad (λ some short. is (take n f) (kind-taken some) (λ e. h (sym (taken (omega arith)) ∙ e)))
-
-  pub plan-read : at f 0 ≡ 5 → n ≡ 1 → 0x05 ∷ [] ≡ frameRead n f
-  plan-read kind h =
-      let l : length (take n f) ≡ 1 = taken (omega arith) ∙ h in
-      let k₀ : at (take n f) 0 ≡ 5 = kind-taken 5 kind (omega arith) in
-      ap (λ (x : ℕ). x ∷ []) (sym k₀) ∙ one-byte (take n f) l ∙ good (omega arith) (plan-is (take n f) k₀ l)
-
-  pub plan-other : at f 0 ≡ 5 → (n ≡ 1 → ⊥) → 0xFF ∷ refusalBytes BadFrame ≡ frameRead n f
-  plan-other kind h = bad (λ some short. plan-not (take n f) (kind-taken 5 kind some) (λ e. h (sym (taken (omega arith)) ∙ e)))
-
-  module _ (kind : at f 0 ≡ 2) where
-    pub add-read : 4 ≤ n → n ≤ 11 → anyOf hasBit6 (drop 3 (take n f)) ≡ false
-        → 0x02 ∷ at f 1 ∷ at f 2 ∷ drop 3 (take n f) ≡ frameRead n f
-    add-read l m e =
-        let k₀ : at (take n f) 0 ≡ 2 = kind-taken 2 kind (omega arith) in
-        let t : length (take n f) ≡ n = taken (omega arith) in
-        let s : length (drop 3 (take n f)) + 3 ≡ n = omega (arith, length-drop 3 (take n f)) in
-        ap (λ (x : ℕ). x ∷ at f 1 ∷ at f 2 ∷ drop 3 (take n f)) (sym k₀)
-        ∙ ap₂ (λ (x : ℕ) (y : ℕ). at (take n f) 0 ∷ x ∷ y ∷ drop 3 (take n f)) (sym (getD-take n f 1 0 (omega arith)))
-        (sym (getD-take n f 2 0 (omega arith)))
-        ∙ three-bytes (take n f) (omega arith)
-        ∙ good (omega arith) (add-is (take n f) k₀ (fields-are (drop 3 (take n f)) (omega arith) (omega arith) e))
-
-    pub add-few : n < 4 → 0xFF ∷ refusalBytes BadFrame ≡ frameRead n f
-    add-few l =
-        let t : length (take n f) ≡ n = taken (omega arith) in
-        bad (λ some short. add-not (take n f) (kind-taken 2 kind some) (fields-few (drop 3 (take n f)) (omega (arith, length-drop 3 (take n f)))))
-
-    pub add-bit6 : anyOf hasBit6 (drop 3 (take n f)) ≡ true → 0xFF ∷ refusalBytes BadFrame ≡ frameRead n f
-    add-bit6 e = bad (λ some short. add-not (take n f) (kind-taken 2 kind some) (fields-bit6 (drop 3 (take n f)) e))
-
-  pub other-read : (at f 0 ≡ 1 → ⊥) → (at f 0 ≡ 2 → ⊥) → (at f 0 ≡ 3 → ⊥) → (at f 0 ≡ 4 → ⊥) → (at f 0 ≡ 5 → ⊥)
-      → 0xFF ∷ refusalBytes BadFrame ≡ frameRead n f
-  other-read k₁ k₂ k₃ k₄ k₅ = bad not where
-    not : 0 < n → n < 12 → isFrame (take n f) ≡ false
-    not some short =
-        let e : at f 0 ≡ at (take n f) 0 = sym (getD-take n f 0 0 some) in
-        kind-not (take n f) (λ k. k₁ (e ∙ k)) (λ k. k₂ (e ∙ k)) (λ k. k₃ (e ∙ k)) (λ k. k₄ (e ∙ k)) (λ k. k₅ (e ∙ k))
+    -- a kind with two values and further bytes
+    pub range-read : (least most : ℕ) → fitsKind k n ≡ leb least n && leb n most → 3 ≤ least → eqb k 0x02 && anyOf hasBit6 (drop 3 (take n f)) ≡ false
+        → k ∷ at f 1 ∷ at f 2 ∷ drop 3 (take n f) ≡ checkedFrame (take n f)
+    range-read least most some three low =
+        let h : least ≤ n = leb-true least n (and-left _ _ (sym some ∙ fits-at k (at f 0) n kind ∙ fits)) in
+        let b : List ℕ = take n f in
+        ap₂ (λ (x : ℕ) (y : ℕ). x ∷ y ∷ at f 2 ∷ drop 3 b) (sym kind-taken) (sym (getD-take n f 1 0 (omega arith)))
+        ∙ ap (λ (z : ℕ). at b 0 ∷ at b 1 ∷ z ∷ drop 3 b) (sym (getD-take n f 2 0 (omega arith)))
+        ∙ parts b (omega (arith, length-take n f)) ∙ kind-read low
 
 -- ---- a line
 
@@ -251,77 +168,71 @@ frame-told s n e = go (isHex s) refl e where
   go true t told = (t, ap (λ (l : List ℕ). at l 1) told)
   go false t told = let z : _≡_ {A = ℕ} 0 255 = ap (λ (l : List ℕ). at l 0) told in absurd (omega arith)
 
--- the buffer keeps its length, and has the bytes of a short line
-after-length : (s f : List ℕ) → length (frameAfter s f) ≡ length f
-unfolding frameAfter
-after-length s f = go (isHex s) where
-  go : (b : Bool) → length (cond b (sets f 0 (bytesOf s)) f) ≡ length f
-  go true = length-sets f 0 (bytesOf s)
-  go false = refl
+-- a full buffer with bytes put at its start has as many of them as fit
+sets-front : (f b : List ℕ) → length f ≡ frameRoom → take (min (length b) frameRoom) (sets f 0 b) ≡ take frameRoom b
+sets-front f b size =
+    let front : List ℕ = take frameRoom b in
+    let long : length front ≡ min (length b) frameRoom = omega (arith, length-take frameRoom b) in
+    ap (take (min (length b) frameRoom)) (sym (sets-fit frameRoom f 0 b (omega arith)) ∙ sets-eq front f 0 (omega arith))
+    ∙ take-at front (drop (0 + length front) f) (min (length b) frameRoom) long
 
-sets-front : (f b : List ℕ) → length b ≤ length f → take (length b) (sets f 0 b) ≡ b
-sets-front f b h = ap (take (length b)) (sets-eq b f 0 (omega arith)) ∙ take-append-seam b (drop (0 + length b) f)
-
-after-bytes : (s f : List ℕ) → isHex s ≡ true → length (bytesOf s) ≤ length f → take (length (bytesOf s)) (frameAfter s f) ≡ bytesOf s
-unfolding frameAfter
-after-bytes s f e h = simp e (sets-front f (bytesOf s) h)
-
--- a line's frame, by whether it is hexadecimal
-abbrev picked : Bool → List ℕ → List ℕ
-picked x s = pick x (pick (isFrame (bytesOf s)) (bytesOf s) (0xFF ∷ refusalBytes BadFrame)) (0xFF ∷ refusalBytes BadHex)
-
-line-bad : (s : List ℕ) → isHex s ≡ false → 0xFF ∷ refusalBytes BadHex ≡ frameOf s
-unfolding frameOf
-line-bad s e = sym (ap (λ (x : Bool). picked x s) e)
-
-line-hex : (s : List ℕ) → isHex s ≡ true → checkedFrame (bytesOf s) ≡ frameOf s
-unfolding frameOf checkedFrame
-line-hex s e = sym (ap (λ (x : Bool). picked x s) e)
-
-reaches-all : (c : Command) → Reaches c 12
-reaches-all (Open n) = omega arith
-reaches-all (Add id level) = omega arith
-reaches-all (Remove id) = omega arith
-reaches-all (Touch f) = omega arith
-reaches-all Plan = omega arith
-reaches-all (Refused r) = omega arith
-
-module _ (s f g : List ℕ) (d : Decoded) (size : length f ≡ 12) (told : decodedValues d ≡ decoded s) (left : g ≡ frameAfter s f) where
-  pub full : length g ≡ 12
-  full = ap length left ∙ after-length s f ∙ size
+module _ (s f g : List ℕ) (d : Decoded) (size : length f ≡ frameRoom) (told : decodedValues d ≡ decoded s) (left : g ≡ frameAfter s f) where
+  pub full : length g ≡ frameRoom
+  unfolding frameAfter
+  full = ap length left ∙ go (isHex s) where
+    go : (b : Bool) → length (cond b (sets f 0 (bytesOf s)) f) ≡ frameRoom
+    go true = length-sets f 0 (bytesOf s) ∙ size
+    go false = size
 
   pub read-bad : d ≡ NoHex → LineRead s (record { command = Refused BadHex; frame = g; len = 0 })
+  unfolding frameOf
   read-bad e = record {
-    bytes = line-bad s (bad-told s (ap decodedValues (sym e) ∙ told));
-    reaches = omega arith;
+    bytes = let h = bad-told s (ap decodedValues (sym e) ∙ told) in sym (simp h);
     short = omega arith;
     full = full;
   }
 
-  module _ (n : ℕ) (e : d ≡ Frame n) where
-    short-frame : n < 12 → frameRead n g ≡ frameOf s
-    unfolding frameRead
-    short-frame h =
-        let t = frame-told s n (ap decodedValues (sym e) ∙ told) in
-        simp (lt-ltb n 12 h)
-        (ap checkedFrame (ap₂ take (t .1) left ∙ after-bytes s f (t .0) (omega arith)) ∙ line-hex s (t .0))
+  pub read-good : (n : ℕ) → d ≡ Frame n → (len : ℕ) → len ≡ min n frameRoom → (c : Command) → commandBytes c (drop 3 (take len g)) ≡ checkedFrame (take len g)
+      → LineRead s (record { command = c; frame = g; len = len })
+  unfolding frameOf frameAfter
+  read-good n e len is c read =
+      let t = frame-told s n (ap decodedValues (sym e) ∙ told) in
+      let kept : g ≡ sets f 0 (bytesOf s) = left ∙ simp (t .0) in
+      let front : take len g ≡ take frameRoom (bytesOf s) =
+      ap₂ take (is ∙ ap (λ (k : ℕ). min k frameRoom) (t .1)) kept ∙ sets-front f (bytesOf s) size
+      in
+      record {
+        bytes = read ∙ ap checkedFrame front ∙ known (bytesOf s) ∙ sym (simp (t .0));
+        short = omega arith;
+        full = full;
+      }
 
-    long-frame : 12 ≤ n → frameRead n g ≡ frameOf s
-    unfolding frameRead
-    long-frame h =
-        let t = frame-told s n (ap decodedValues (sym e) ∙ told) in
-        simp (le-ltb n 12 h) (sym (checked-bad (bytesOf s) (long-not (bytesOf s) (omega arith))) ∙ line-hex s (t .0))
+-- bytes that are no refusal fit their kind
+abbrev Fits : List ℕ → Type 0
+Fits b = (at b 0 ≡ 0xFF → ⊥) → fitsKind (at b 0) (length b) ≡ true
 
-    module _ (c : Command) (read : commandBytes c (drop 3 (take n g)) ≡ frameRead n g) where
-      pub read-short : Reaches c n → n < 12 → LineRead s (record { command = c; frame = g; len = n })
-      read-short r h = record { bytes = read ∙ short-frame h; reaches = r; short = omega arith; full = full }
+checked-fits : (b : List ℕ) → Fits (checkedFrame b)
+unfolding checkedFrame isFrame
+checked-fits b = go (fitsKind (at b 0) (length b)) (not (eqb (at b 0) 0x02 && anyOf hasBit6 (drop 3 b))) refl where
+  go : (x y : Bool) → fitsKind (at b 0) (length b) ≡ x → Fits (cond (x && y) b (0xFF ∷ refusalBytes BadFrame))
+  go true true e h = e
+  go true false e h = absurd (h refl)
+  go false y e h = absurd (h refl)
 
-      pub read-long : 12 ≤ n → LineRead s (record { command = c; frame = g; len = 12 })
-      read-long h =
-          let all : take 12 g ≡ take n g = take-all 12 g (omega (arith, full)) ∙ sym (take-all n g (omega (arith, full))) in
-          record {
-            bytes = ap (λ (l : List ℕ). commandBytes c (drop 3 l)) all ∙ read ∙ long-frame h;
-            reaches = reaches-all c;
-            short = omega arith;
-            full = full;
-          }
+frame-fits : (s : List ℕ) → Fits (frameOf s)
+unfolding frameOf
+frame-fits s = go (isHex s) where
+  go : (x : Bool) → Fits (cond x (checkedFrame (bytesOf s)) (0xFF ∷ refusalBytes BadHex))
+  go true = checked-fits (bytesOf s)
+  go false = λ h. absurd (h refl)
+
+-- an add's frame reaches its field bytes
+pub add-reaches : (s : List ℕ) (r : Line) (id level : ℕ) → LineRead s r → r .command ≡ Add id level → 3 ≤ r .len
+unfolding fitsKind
+add-reaches s r id level l e =
+    let fields : List ℕ = drop 3 (take (r .len) (r .frame)) in
+    let is : 0x02 ∷ id ∷ level ∷ fields ≡ frameOf s = ap (λ (c : Command). commandBytes c fields) (sym e) ∙ l .bytes in
+    let fits : fitsKind 0x02 (length (0x02 ∷ id ∷ level ∷ fields)) ≡ true =
+    ap (λ (f : List ℕ). fitsKind (at f 0) (length f)) is ∙ frame-fits s (λ k. let z : _≡_ {A = ℕ} 2 255 = ap (λ (f : List ℕ). at f 0) is ∙ k in omega arith)
+    in
+    omega (arith, leb-true 4 (length (0x02 ∷ id ∷ level ∷ fields)) (and-left _ _ fits), length-drop 3 (take (r .len) (r .frame)), length-take (r .len) (r .frame))

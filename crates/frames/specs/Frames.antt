@@ -1,43 +1,59 @@
--- A line's frame, and the answer to a line.
-use Prim.Native.Nat.{ℕ}
-use mathlib.Core.Bool.{Bool, true, false, _&&_, _||_}
+-- A line's frame, its command, and what document 01's panel answers it.
+use Prim.Native.Nat.{ℕ, _+_}
+use mathlib.Core.Bool.{Bool, true, false, not, _&&_, cond}
 use mathlib.Core.List.{List, [], _∷_}
 use mathlib.Core.Option.{Option, none, some}
-use lib.Dec.{eqb}
+use lib.Dec.{eqb, leb}
 use lib.ListN.{length, drop}
 use Rattle.panel.specs.declared.Panel.{Panel}
 use Rattle.panel.specs.declared.Refusal.the-variants.{BadHex, BadFrame}
 use Rattle.fieldset.specs.Tables.{at}
 use Rattle.panel.specs.Answers.{Answer, refusalBytes}
+use Rattle.panel.specs.Panels.{opened}
 use Rattle.panel.specs.Commands as panel
-use Rattle.panel.specs.Commands.{areFieldBytes, opening, adding, removing, touching, planning, performed}
+use Rattle.panel.specs.Commands.{hasBit6, anyOf, opening, adding, removing, touching, planning, performed}
 use Rattle.hex.specs.Hex.{isHex, bytesOf}
 use Rattle.frames.specs.declared.Command.{Command}
 use Rattle.frames.specs.declared.Command.the-variants.{Open, Add, Remove, Touch, Plan, Refused}
+use Rattle.frames.specs.Texts.{Answered, LineAnswer, stateAfter, outputOf}
 
--- bytes of this kind and length
-abbrev pub isOf : ℕ → ℕ → List ℕ → Bool
-isOf kind n bytes = eqb (at bytes 0) kind && eqb (length bytes) n
+-- ---- frames
 
--- "01 n: open", "02 id level, then 1 to 8 field bytes: add", "03 id: remove", "04 f: touch", "05: plan"
+-- whether n bytes fit the kind: "01 n: open", "02 id level, then 1 to 8 field bytes: add", "03 id: remove", "04 f: touch", "05: plan"
+unfoldable pub fitsKind : ℕ → ℕ → Bool
+fitsKind kind n =
+    cond (eqb kind 0x01) (eqb n 2)
+    (cond (eqb kind 0x02) (leb (3 + 1) n && leb n (3 + 8))
+    (cond (eqb kind 0x03) (eqb n 2)
+    (cond (eqb kind 0x04) (eqb n 2)
+    (cond (eqb kind 0x05) (eqb n 1)
+    false))))
+
+-- bytes that are not refused with BadFrame "(unknown kind, wrong length for the kind, bit 6 set in a field byte)"
 unfoldable pub isFrame : List ℕ → Bool
-isFrame bytes =
-    isOf 0x01 2 bytes
-    || eqb (at bytes 0) 0x02 && areFieldBytes (drop 3 bytes)
-    || isOf 0x03 2 bytes
-    || isOf 0x04 2 bytes
-    || isOf 0x05 1 bytes
+isFrame bytes = fitsKind (at bytes 0) (length bytes) && not (eqb (at bytes 0) 0x02 && anyOf hasBit6 (drop 3 bytes))
 
--- the bytes of a line's frame; where it has none, FF and the number of BadHex or of BadFrame "(unknown kind, wrong length for the kind, bit 6
--- set in a field byte)"
+-- the bytes where they are a frame, else FF and the number of BadFrame
+unfoldable pub checkedFrame : List ℕ → List ℕ
+checkedFrame bytes = cond (isFrame bytes) bytes (0xFF ∷ refusalBytes BadFrame)
+
+-- the bytes of a line's frame; where it has none, FF and the number of BadHex or of BadFrame
 unfoldable pub frameOf : List ℕ → List ℕ
-frameOf line =
-    elim (isHex line) [
-      | true ↦ elim (isFrame (bytesOf line)) [ true ↦ bytesOf line | false ↦ 0xFF ∷ refusalBytes BadFrame ]
-      | false ↦ 0xFF ∷ refusalBytes BadHex
-    ]
+frameOf line = cond (isHex line) (checkedFrame (bytesOf line)) (0xFF ∷ refusalBytes BadHex)
 
--- a line's command by its number and values, the field bytes of an add behind them
+-- ---- commands
+
+-- the command of a frame, by its kind; "A line refused with 1 or 2 gives no command"
+unfoldable pub commandOf : List ℕ → Option panel.Command
+commandOf bytes =
+    cond (eqb (at bytes 0) 0x01) (some (opening (at bytes 1)))
+    (cond (eqb (at bytes 0) 0x02) (some (adding (at bytes 1) (at bytes 2) (drop 3 bytes)))
+    (cond (eqb (at bytes 0) 0x03) (some (removing (at bytes 1)))
+    (cond (eqb (at bytes 0) 0x04) (some (touching (at bytes 1)))
+    (cond (eqb (at bytes 0) 0x05) (some planning)
+    none))))
+
+-- a line's command as the code has it, by its number and values, the field bytes of an add behind them
 abbrev pub commandBytes : Command → List ℕ → List ℕ
 commandBytes (Open n) fields = 0x01 ∷ n ∷ []
 commandBytes (Add id level) fields = 0x02 ∷ id ∷ level ∷ fields
@@ -46,24 +62,24 @@ commandBytes (Touch f) fields = 0x04 ∷ f ∷ []
 commandBytes Plan fields = 0x05 ∷ []
 commandBytes (Refused r) fields = 0xFF ∷ refusalBytes r
 
--- where the test passes this, else the other
-abbrev pub given : Bool → panel.Command → Option panel.Command → Option panel.Command
-given true c other = some c
-given false c other = other
+-- ---- document 01's panel
 
--- the command of a frame; "A line refused with 1 or 2 gives no command"
-unfoldable pub commandOf : List ℕ → Option panel.Command
-commandOf bytes =
-    given (eqb (at bytes 0) 0x01) (opening (at bytes 1))
-    (given (eqb (at bytes 0) 0x02) (adding (at bytes 1) (at bytes 2) (drop 3 bytes))
-    (given (eqb (at bytes 0) 0x03) (removing (at bytes 1))
-    (given (eqb (at bytes 0) 0x04) (touching (at bytes 1))
-    (given (eqb (at bytes 0) 0x05) planning none))))
+-- the answer to a command as one to a line
+abbrev pub answerTo : Answer → Answered Panel
+answerTo a = record { state = a .panel; reply = a .reply }
 
--- the panel after a command and its reply; no command "leaves the panel as it stood", and its reply is the refusal
-abbrev pub answered : Panel → List ℕ → Option panel.Command → Answer
-answered p bytes none = record { panel = p; reply = bytes }
-answered p bytes (some c) = performed p c
+-- what a command is answered; no command "leaves the panel as it stood", and its reply is the refusal
+abbrev pub answered : Panel → List ℕ → Option panel.Command → Answered Panel
+answered p bytes none = record { state = p; reply = bytes }
+answered p bytes (some c) = answerTo (performed p c)
 
-unfoldable pub lineAnswer : Panel → List ℕ → Answer
+unfoldable pub lineAnswer : LineAnswer Panel
 lineAnswer p line = answered p (frameOf line) (commandOf (frameOf line))
+
+-- the panel after lines
+abbrev pub panelAfter : Panel → List (List ℕ) → Panel
+panelAfter p lines = stateAfter lineAnswer p lines
+
+-- what the run program writes for a text
+abbrev pub panelOutput : List ℕ → List ℕ
+panelOutput text = outputOf lineAnswer (opened 0) text

@@ -1,3 +1,3 @@
-pub mod Frames
 pub mod Texts
+pub mod Frames
 pub mod Reading

@@ -3,13 +3,14 @@ use panel::Refusal;
 use panel::Reply;
 ghost use mathlib.Core.Path.{_≡_};
 ghost use mathlib.Core.List.{[], _∷_};
-ghost use Prim.Native.Nat.{_+_, _≤_};
+ghost use Prim.Native.Nat.{_+_, _≤_, min};
 ghost use lib.ListN.{length, take, drop};
 ghost use Rattle.panel.specs.Answers.{refusalBytes, replyBytes};
 ghost use Rattle.panel.specs.Commands.{hasBit6, anyOf};
-ghost use Rattle.frames.specs.Frames.{commandBytes};
+ghost use Rattle.hex.specs.Hex.{frameRoom};
+ghost use Rattle.frames.specs.Frames.{fitsKind, checkedFrame, commandBytes};
 ghost use Rattle.frames.specs.Texts.{refusalOf};
-ghost use Rattle.frames.specs.Reading.{frameRead, Reaches, LineRead, upTo, behindOf};
+ghost use Rattle.frames.specs.Reading.{LineRead, lineLength, behindOf};
 
 // What a line asks. The field bytes of an add stand beside it, in the frame.
 pub enum Command {
@@ -21,22 +22,30 @@ pub enum Command {
     Refused(Refusal),
 }
 
-// What a text is answered: the length of the whole output, or that it is too long.
-pub enum Outcome {
-    Length(usize),
-    TextTooLong,
-}
-
 // A line's command, the first bytes of its frame, and how many of them count.
 pub struct Line {
     pub command: Command,
-    pub frame: [u8; 12],
+    pub frame: [u8; hex::FRAME_ROOM],
     pub len: usize,
 }
 
+// Whether n bytes fit the kind of a frame.
+fn fits_kind(kind: u8, n: usize) -> bool
+    ensures { λ r. ⌜ r ≡ fitsKind kind n ⌝ }
+{
+    match kind {
+        0x01 => n == 2,
+        0x02 => 4 <= n && n <= 11,
+        0x03 => n == 2,
+        0x04 => n == 2,
+        0x05 => n == 1,
+        _ => false,
+    }
+}
+
 // Whether bit 6 is set in a field byte of a frame of n bytes.
-fn has_bit6(frame: &[u8; 12], n: usize) -> bool
-    requires { ⌜ (n ≤ 12) × (length (now frame) ≡ 12) ⌝ }
+fn has_bit6(frame: &[u8; hex::FRAME_ROOM], n: usize) -> bool
+    requires { ⌜ (n ≤ frameRoom) × (length (now frame) ≡ frameRoom) ⌝ }
     ensures { λ r. ⌜ r ≡ anyOf hasBit6 (drop 3 (take n (now (frame .entry)))) ⌝ }
 {
     let mut i = 3;
@@ -49,57 +58,46 @@ fn has_bit6(frame: &[u8; 12], n: usize) -> bool
     false
 }
 
-// The command of a frame of n bytes, by its kind and length; the buffer has at most the first 12 of them.
-pub fn read_frame(frame: &[u8; 12], n: usize) -> Command
-    requires { ⌜ length (now frame) ≡ 12 ⌝ }
-    ensures { λ r. ⌜ commandBytes r (drop 3 (take n (now (frame .entry)))) ≡ frameRead n (now (frame .entry)) ⌝ }
-    ensures { λ r. ⌜ Reaches r n ⌝ }
+// The command of the first n bytes of a buffer; as many as the buffer has are no frame.
+pub fn read_frame(frame: &[u8; hex::FRAME_ROOM], n: usize) -> Command
+    requires { ⌜ length (now frame) ≡ frameRoom ⌝ }
+    ensures { λ r. ⌜ commandBytes r (drop 3 (take n (now (frame .entry)))) ≡ checkedFrame (take n (now (frame .entry))) ⌝ }
 {
     let kind = frame[0];
-    if kind == 1 {
-        if n == 2 {
-            return Command::Open(frame[1]);
-        }
+    if !fits_kind(kind, n) {
         return Command::Refused(Refusal::BadFrame);
     }
-    if kind == 2 {
-        if n < 4 {
-            return Command::Refused(Refusal::BadFrame);
+    match kind {
+        0x01 => Command::Open(frame[1]),
+        0x02 => {
+            if has_bit6(frame, n) {
+                return Command::Refused(Refusal::BadFrame);
+            }
+            Command::Add(frame[1], frame[2])
         }
-        if 11 < n {
-            return Command::Refused(Refusal::BadFrame);
-        }
-        if has_bit6(frame, n) {
-            return Command::Refused(Refusal::BadFrame);
-        }
-        return Command::Add(frame[1], frame[2]);
+        0x03 => Command::Remove(frame[1]),
+        0x04 => Command::Touch(frame[1]),
+        0x05 => Command::Plan,
+        _ => Command::Refused(Refusal::BadFrame),
     }
-    if kind == 3 {
-        if n == 2 {
-            return Command::Remove(frame[1]);
-        }
-        return Command::Refused(Refusal::BadFrame);
+}
+
+// How many bytes of a frame of n the buffer has.
+fn kept(n: usize) -> usize
+    ensures { λ r. ⌜ r ≡ min n frameRoom ⌝ }
+{
+    if n < hex::FRAME_ROOM {
+        n
+    } else {
+        hex::FRAME_ROOM
     }
-    if kind == 4 {
-        if n == 2 {
-            return Command::Touch(frame[1]);
-        }
-        return Command::Refused(Refusal::BadFrame);
-    }
-    if kind == 5 {
-        if n == 1 {
-            return Command::Plan;
-        }
-        return Command::Refused(Refusal::BadFrame);
-    }
-    Command::Refused(Refusal::BadFrame)
 }
 
 // The command of a line, with the bytes of its frame.
 pub fn read_line(line: &[u8]) -> Line
     ensures { λ r. ⌜ LineRead (now (line .entry)) r ⌝ }
 {
-    let mut frame = [0u8; 12];
+    let mut frame = [0u8; hex::FRAME_ROOM];
     let d = hex::decode(line, &mut frame);
     match d {
         hex::Decoded::BadHex => {
@@ -111,19 +109,12 @@ pub fn read_line(line: &[u8]) -> Line
             }
         }
         hex::Decoded::Frame(n) => {
-            let c = read_frame(&frame, n);
-            if n < 12 {
-                Line {
-                    command: c,
-                    frame: frame,
-                    len: n,
-                }
-            } else {
-                Line {
-                    command: c,
-                    frame: frame,
-                    len: 12,
-                }
+            let len = kept(n);
+            let c = read_frame(&frame, len);
+            Line {
+                command: c,
+                frame: frame,
+                len: len,
             }
         }
     }
@@ -131,11 +122,11 @@ pub fn read_line(line: &[u8]) -> Line
 
 // The position of the first LF from a position on, or the text's end.
 pub fn line_end(text: &[u8], from: usize) -> usize
-    ensures { λ r. ⌜ r ≡ from + upTo (drop from (now (text .entry))) ⌝ }
+    ensures { λ r. ⌜ r ≡ from + lineLength (drop from (now (text .entry))) ⌝ }
 {
     let mut i = from;
     while i < text.len() {
-        if text[i] == 10 {
+        if text[i] == b'\n' {
             return i;
         }
         i += 1;

@@ -5,8 +5,14 @@ ghost use mathlib.Core.List.{_∷_, []};
 ghost use Prim.Native.Nat.{_+_, _*_, _/_, _%_, _^_, _<_, _≤_};
 ghost use lib.ListN.{length, set};
 ghost use lib.Seq.{sets};
-ghost use Rattle.hex.specs.Hex.{isDigit, digitOf, charOf, areDigits, bytesOf, hexOf, lineOf};
+ghost use Rattle.hex.specs.Hex.{isDigit, digitOf, charOf, areDigits, bytesOf, hexOf, lineOf, frameRoom};
 ghost use Rattle.hex.specs.Answers.{digitValues, digitRead, decodedValues, decoded, frameAfter};
+
+// How many bytes of a frame are kept: those of a longest one, an add with 8 field bytes, and one more, which shows that a frame is longer.
+pub const FRAME_ROOM: usize = 12;
+
+// A letter is its value, from 10 on, behind this character.
+const LETTER: u8 = b'A' - 10;
 
 // What a character is: a digit's value, or another character.
 pub enum Digit {
@@ -24,14 +30,14 @@ pub enum Decoded {
 pub fn digit_of(c: u8) -> Digit
     ensures { λ r. ⌜ digitValues r ≡ digitRead c ⌝ }
 {
-    if c < 48 {
+    if c < b'0' {
         Digit::Other
-    } else if c <= 57 {
-        Digit::Value(c - 48)
-    } else if c < 65 {
+    } else if c <= b'9' {
+        Digit::Value(c - b'0')
+    } else if c < b'A' {
         Digit::Other
-    } else if c <= 70 {
-        Digit::Value(c - 55)
+    } else if c <= b'F' {
+        Digit::Value(c - LETTER)
     } else {
         Digit::Other
     }
@@ -42,7 +48,7 @@ pub fn char_of(x: u8) -> u8
     requires { ⌜ x < 16 ⌝ }
     ensures { λ r. ⌜ r ≡ charOf x ⌝ }
 {
-    if x < 10 { x + 48 } else { x + 55 }
+    if x < 10 { x + b'0' } else { x + LETTER }
 }
 
 // x at a position, where there is one.
@@ -116,7 +122,7 @@ pub fn put_line(out: &mut [u8], at: usize, a: u8, b: u8, rest: &[u8]) -> usize
     put(out, at, a);
     put(out, at + 2, b);
     put_bytes(out, at + 4, rest);
-    store(out, at + 4 + 2 * n, 10);
+    store(out, at + 4 + 2 * n, b'\n');
     at + 5 + 2 * n
 }
 
@@ -156,21 +162,21 @@ fn byte(a: u8, b: u8) -> u8
     value(a) * 16 + value(b)
 }
 
-// The first bytes of a line of digits, at most 12.
-fn fill(s: &[u8], frame: &mut [u8; 12])
-    requires { ⌜ (areDigits (now s) ≡ true) × (length (now frame) ≡ 12) ⌝ }
+// The first bytes of a line of digits, at most FRAME_ROOM.
+fn fill(s: &[u8], frame: &mut [u8; FRAME_ROOM])
+    requires { ⌜ (areDigits (now s) ≡ true) × (length (now frame) ≡ frameRoom) ⌝ }
     ensures { λ _. ⌜ now (frame .exit) ≡ sets (now (frame .entry)) 0 (bytesOf (now (s .entry))) ⌝ }
 {
     let mut i = 0;
-    while i < 12 && 2 * i + 1 < s.len() {
+    while i < FRAME_ROOM && 2 * i + 1 < s.len() {
         frame[i] = byte(s[2 * i], s[2 * i + 1]);
         i += 1;
     }
 }
 
-// A line: BadHex, or the length of its frame, whose first bytes, at most 12, are put into the buffer.
-pub fn decode(s: &[u8], frame: &mut [u8; 12]) -> Decoded
-    requires { ⌜ length (now frame) ≡ 12 ⌝ }
+// A line: BadHex, or the length of its frame, whose first bytes, at most FRAME_ROOM, are put into the buffer.
+pub fn decode(s: &[u8], frame: &mut [u8; FRAME_ROOM]) -> Decoded
+    requires { ⌜ length (now frame) ≡ frameRoom ⌝ }
     ensures { λ r. ⌜ decodedValues r ≡ decoded (now (s .entry)) ⌝ }
     ensures { λ r. ⌜ now (frame .exit) ≡ frameAfter (now (s .entry)) (now (frame .entry)) ⌝ }
 {

@@ -12,12 +12,12 @@ use Rattle.panel.specs.Solution.{strengthOf, isBlocked, pathFor, reversed, leas
 use Rattle.panel.specs.Steps.{turned, addStep, removeStep, touchStep, planStep}
 use Rattle.panel.specs.Commands.{anyOf, fieldsIn, isRising, areFieldBytes, checked}
 use Rattle.hex.specs.Hex.{isDigit, digitOf, charOf, areDigits, isHex, bytesOf, hexOf, lineOf}
-use Rattle.tally.specs.Tallies.{counted, tallied, threeBytes, tallyBytes}
-use Rattle.frames.specs.Frames.{isFrame, frameOf, commandOf, lineAnswer}
+use Rattle.tally.specs.Tallies.{more, tallied, threeBytes, tallyBytes}
 use Rattle.frames.specs.Texts.{linesOf, refusalOf, replies, tallyAfter, written, output, outputOf}
+use Rattle.frames.specs.Frames.{fitsKind, isFrame, checkedFrame, frameOf, commandOf, lineAnswer, panelOutput}
 use Rattle.items.specs.Characters.{characters}
 use Rattle.items.specs.Items.{items}
 
-pub items-hold : map (λ i. outputOf (characters (i .text))) items ≡ map (λ i. characters (i .output)) items
-unfolding characters items outputOf output written tallyAfter replies refusalOf linesOf lineAnswer commandOf frameOf isFrame tallyBytes threeBytes tallied counted lineOf hexOf bytesOf isHex areDigits charOf digitOf isDigit checked areFieldBytes isRising fieldsIn anyOf planStep touchStep removeStep addStep turned rowsOf isLooped planOf leastBlocked least reversed pathFor isBlocked strengthOf moved toFront opened itemsOf setterOf tabulate hasLoop order following next path strongest lowestAt strength greatest within only without with setOf member lowest any count
+pub items-hold : map (λ i. panelOutput (characters (i .text))) items ≡ map (λ i. characters (i .output)) items
+unfolding characters items outputOf output written tallyAfter replies refusalOf linesOf lineAnswer commandOf frameOf checkedFrame isFrame fitsKind tallyBytes threeBytes tallied more lineOf hexOf bytesOf isHex areDigits charOf digitOf isDigit checked areFieldBytes isRising fieldsIn anyOf planStep touchStep removeStep addStep turned rowsOf isLooped planOf leastBlocked least reversed pathFor isBlocked strengthOf moved toFront opened itemsOf setterOf tabulate hasLoop order following next path strongest lowestAt strength greatest within only without with setOf member lowest any count
 items-hold = refl

@@ -3,9 +3,8 @@ use libc::STDIN_FILENO;
 use libc::STDOUT_FILENO;
 use tally::Tally;
 ghost use mathlib.Core.Path.{_≡_};
-ghost use Prim.Native.Nat.{_+_, _≤_, min};
+ghost use Prim.Native.Nat.{_≤_};
 ghost use lib.ListN.{length};
-ghost use lib.Seq.{sets};
 
 // Writes the output to a text, a buffer at a time. It stops where the output cannot be written.
 fn answer(text: &[u8]) {
@@ -38,31 +37,14 @@ struct Input {
     whole: bool,
 }
 
-// Puts bytes at a position of the text, as far as they fit; the position behind them.
-fn append(text: &mut [u8], at: usize, bytes: &[u8]) -> usize
-    requires { ⌜ at ≤ length (now text) ⌝ }
-    ensures { λ r. ⌜ now (text .exit) ≡ sets (now (text .entry)) at (now (bytes .entry)) ⌝ }
-    ensures { λ r. ⌜ r ≡ min (at + length (now (bytes .entry))) (length (now (text .entry))) ⌝ }
-{
-    let mut to = at;
-    let mut i = 0;
-    while i < bytes.len() && to < text.len() {
-        text[to] = bytes[i];
-        to += 1;
-        i += 1;
-    }
-    to
-}
-
 // Reads until the input ends, a read fails or the buffer is full. A failed read is not taken for the end: what follows it is not known.
 fn read_text(text: &mut [u8]) -> Input
     ensures { λ r. ⌜ (length (now (text .exit)) ≡ length (now (text .entry))) × (r .len ≤ length (now (text .entry))) ⌝ }
 {
-    let mut chunk = io::buffer();
     let mut len = 0;
     while len < text.len() {
-        let got = libc::read(STDIN_FILENO, &mut chunk);
-        let n = io::count(got, &chunk);
+        let got = libc::read(STDIN_FILENO, &mut text[len..]);
+        let n = io::count(got, &text[len..]);
         if n == 0 {
             let ended = got == 0;
             return Input {
@@ -70,7 +52,7 @@ fn read_text(text: &mut [u8]) -> Input
                 whole: ended,
             };
         }
-        len = append(text, len, &chunk[..n]);
+        len += n;
     }
     Input {
         len: len,
@@ -86,7 +68,7 @@ fn main() {
         return;
     }
     let n = input.len;
-    if 65535 < n {
+    if text::TEXT_LIMIT < n {
         io::write_all(STDOUT_FILENO, b"FF0C\n");
         return;
     }

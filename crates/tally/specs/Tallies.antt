@@ -5,20 +5,20 @@ use mathlib.Core.List.{List, [], _∷_, _++_}
 use lib.Dec.{eqb, ltb}
 use Rattle.tally.specs.declared.Tally.{Tally}
 
--- the greatest count
+-- the greatest count, and the greatest number of three bytes
 abbrev pub cap : ℕ
 cap = 16777215
 
 -- one more; "A count that is lent at 16,777,215 or more stays unchanged"
-unfoldable pub counted : ℕ → ℕ
-counted n = cond (ltb n cap) (n + 1) n
+unfoldable pub more : ℕ → ℕ
+more n = cond (ltb n cap) (n + 1) n
 
 -- a line was answered: refused with a number, or accepted, where the number is 0
 unfoldable pub tallied : Tally → ℕ → Tally
 tallied t refusal =
     cond (eqb refusal 0)
-    (record { lines = counted (t .lines); accepted = counted (t .accepted); refused = t .refused; last = t .last })
-    (record { lines = counted (t .lines); accepted = t .accepted; refused = counted (t .refused); last = refusal })
+    (record { lines = more (t .lines); accepted = more (t .accepted); refused = t .refused; last = t .last })
+    (record { lines = more (t .lines); accepted = t .accepted; refused = more (t .refused); last = refusal })
 
 abbrev pub noTally : Tally
 noTally = record { lines = 0; accepted = 0; refused = 0; last = 0 }

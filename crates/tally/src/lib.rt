@@ -1,7 +1,13 @@
 // The tally of a run.
 ghost use mathlib.Core.Path.{_≡_};
 ghost use Prim.Native.Nat.{_/_, _%_, min};
-ghost use Rattle.tally.specs.Tallies.{cap, counted, tallied, tallyBytes};
+ghost use Rattle.tally.specs.Tallies.{cap, more, tallied, tallyBytes};
+
+// The greatest count, and the greatest number of three bytes.
+const CAP: u32 = 16777215;
+
+// The bytes of a tally's line: EE, three counts of three bytes, and the last refusal.
+pub const TALLY_BYTES: usize = 11;
 
 // How many lines there were, how many of them were accepted and refused, and the last refusal's number, 0 if none.
 pub struct Tally {
@@ -13,9 +19,9 @@ pub struct Tally {
 
 // One more, unless the count is full.
 pub fn more(n: u32) -> u32
-    ensures { λ r. ⌜ r ≡ counted n ⌝ }
+    ensures { λ r. ⌜ r ≡ more n ⌝ }
 {
-    if n < 16777215 { n + 1 } else { n }
+    if n < CAP { n + 1 } else { n }
 }
 
 // The tally after a line that was refused with this number, or accepted, where it is 0.
@@ -50,7 +56,7 @@ pub fn tally_line(t: &mut Tally, refusal: u8)
 }
 
 // The same, on a record by value, which is lent.
-pub fn counted_line(t: Tally, refusal: u8) -> Tally
+pub fn tallied_line(t: Tally, refusal: u8) -> Tally
     ensures { λ r. ⌜ r ≡ tallied t refusal ⌝ }
 {
     let mut u = t;
@@ -62,7 +68,7 @@ pub fn counted_line(t: Tally, refusal: u8) -> Tally
 fn capped(n: u32) -> u32
     ensures { λ r. ⌜ r ≡ min n cap ⌝ }
 {
-    if n < 16777215 { n } else { 16777215 }
+    if n < CAP { n } else { CAP }
 }
 
 // The three bytes of a count, most significant first.
@@ -85,7 +91,7 @@ fn low(n: u32) -> u8
 }
 
 // The tally as the bytes of its line.
-pub fn tally_bytes(t: Tally) -> [u8; 11]
+pub fn tally_bytes(t: Tally) -> [u8; TALLY_BYTES]
     ensures { λ r. ⌜ r ≡ tallyBytes t ⌝ }
 {
     [

@@ -1,175 +1,161 @@
--- The run over lines: what the loop keeps, and what its end says. Assumes nothing.
+-- The run over lines, whatever answers them: what the loop keeps, and what its end says. Assumes nothing.
 use mathlib.Core.Path.{_≡_, refl, sym, ap, ap₂, _∙_}
 use mathlib.Core.List.{List, [], _∷_, _++_, append-assoc}
 use Prim.Native.Nat.{ℕ, suc, _+_, _-_, _*_, _≤_, _<_}
 use native.Mathlib.Nat.{sub-zero}
 use native.Mathlib.Omega.{arith}
 use borrow.Author.Tests.{le-leb, lt-leb}
-use lib.ListN.{length, take, drop, length-append, length-take}
+use lib.ListN.{length, take, drop, length-append}
 use lib.Seq.{sets, take-at, drop-at}
-use Rattle.panel.specs.declared.Panel.{Panel}
-use Rattle.panel.specs.declared.Reply.{Reply}
-use Rattle.panel.specs.Answers.{Answer, replyBytes}
-use Rattle.panel.specs.Legal.{Legal}
 use Rattle.hex.specs.Hex.{lineOf}
-use Rattle.hex.proofs.Bytes.{length-line}
 use Rattle.fieldset.proofs.Tables.{sets-append}
 use Rattle.tally.specs.declared.Tally.{Tally}
 use Rattle.tally.specs.Tallies.{tallied}
-use Rattle.frames.specs.Frames.{lineAnswer}
-use Rattle.frames.specs.Texts.{linesOf, refusalOf, panelAfter, replies, tallyAfter, written}
-use Rattle.frames.specs.Reading.{upTo, behindOf}
+use Rattle.frames.specs.Texts.{Answered, LineAnswer, linesOf, refusalOf, stateAfter, replies, tallyAfter, written}
+use Rattle.frames.specs.Reading.{lineLength, behindOf}
 use Rattle.frames.proofs.Lines.{behind-within, behind-on, lines-on, lines-end}
-use Rattle.frames.proofs.Outputs.{refusal-rows, panel-more, replies-more, tally-more, written-more}
-use Rattle.text.specs.declared.Progress.{Progress}
-use Rattle.text.specs.Runs.{longest, fitting, Ran, Paced}
-use Rattle.text.proofs.Arms.{Did}
+use Rattle.frames.proofs.Outputs.{state-more, replies-more, tally-more, written-more}
+use Rattle.text.specs.Runs.{longest, Reached, Paced, fitting, Ran, RanFrom}
 
 -- ---- how many lines fit
 
-fitting-line : (room : ℕ) (p : Panel) (l : List ℕ) (ls : List (List ℕ)) (a : Answer) → a ≡ lineAnswer p l → longest ≤ room
-    → fitting room p (l ∷ ls) ≡ suc (fitting (room - length (lineOf (a .reply))) (a .panel) ls)
-unfolding fitting
-fitting-line room p l ls a e h =
-    simp (le-leb longest room h) (ap (λ (x : Answer). suc (fitting (room - length (lineOf (x .reply))) (x .panel) ls)) (sym e))
+module _ {S : Type 0} (answer : LineAnswer S) where
+  fitting-line : (room : ℕ) (s : S) (l : List ℕ) (ls : List (List ℕ)) (a : Answered S) → a ≡ answer s l → longest ≤ room
+      → fitting answer room s (l ∷ ls) ≡ suc (fitting answer (room - length (lineOf (a .reply))) (a .state) ls)
+  unfolding fitting
+  fitting-line room s l ls a e h =
+      simp (le-leb longest room h) (ap (λ (x : Answered S). suc (fitting answer (room - length (lineOf (x .reply))) (x .state) ls)) (sym e))
 
-fitting-none : (room : ℕ) (p : Panel) (ls : List (List ℕ)) → ls ≡ [] → fitting room p ls ≡ 0
-unfolding fitting
-fitting-none room p ls e = rw e refl
+  fitting-none : (room : ℕ) (s : S) (ls : List (List ℕ)) → ls ≡ [] → fitting answer room s ls ≡ 0
+  unfolding fitting
+  fitting-none room s ls e = rw e refl
 
-fitting-full : (room : ℕ) (p : Panel) (ls : List (List ℕ)) → room < longest → fitting room p ls ≡ 0
-unfolding fitting
-fitting-full room p [] h = refl
-fitting-full room p (l ∷ ls) h = simp (lt-leb longest room h)
+  fitting-full : (room : ℕ) (s : S) (ls : List (List ℕ)) → room < longest → fitting answer room s ls ≡ 0
+  unfolding fitting
+  fitting-full room s [] h = refl
+  fitting-full room s (l ∷ ls) h = simp (lt-leb longest room h)
 
 -- ---- the loop
 
--- these lines are done: what the code holds is what they are answered, and as many are due as they and the rest give
-pub record Going (text : List ℕ) (from room : ℕ) (p : Panel) (t : Tally) (before out : List ℕ) (at : ℕ) (q : Panel) (u : Tally) (n : ℕ) : Type 0 where
-  pub done : List (List ℕ)
-  pub lines : linesOf (drop from text) ≡ done ++ linesOf (drop at text)
-  pub due : fitting room p (linesOf (drop from text)) ≡ length done + fitting (room - n) q (linesOf (drop at text))
-  pub panel : q ≡ panelAfter p done
-  pub legal : Legal q
-  pub tally : u ≡ tallyAfter t (replies p done)
-  pub stored : out ≡ sets before 0 (written (replies p done))
-  pub counted : n ≡ length (written (replies p done))
-  pub within : at ≤ length text
-  pub moved : from + length done ≤ at
-  pub fits : n ≤ room
-  pub paced : n ≤ longest * length done
+module _ {S : Type 0} (answer : LineAnswer S) (Legal : S → Type 0) where
+  -- what one line does: the state after it and its reply are the answer
+  pub record Did (s : S) (line : List ℕ) (s′ : S) (reply : List ℕ) : Type 0 where
+    pub is : record { state = s′; reply = reply } ≡ answer s line
+    pub legal : Legal s′
+    pub short : length (lineOf reply) ≤ longest
 
-pub start : (text : List ℕ) (from room : ℕ) (p : Panel) (t : Tally) (before : List ℕ) → from ≤ length text → Legal p
-    → Going text from room p t before before from p t 0
-unfolding panelAfter replies tallyAfter written
-start text from room p t before w h = record {
-  done = [];
-  lines = refl;
-  due =
-      let all : ℕ = fitting (room - 0) p (linesOf (drop from text)) in
-      let e : all ≡ 0 + all = omega arith in
-      ap (λ (r : ℕ). fitting r p (linesOf (drop from text))) (sym (sub-zero room)) ∙ e;
-  panel = refl;
-  legal = h;
-  tally = refl;
-  stored = refl;
-  counted = refl;
-  within = w;
-  moved = omega arith;
-  fits = omega arith;
-  paced = omega arith;
-}
+  -- these lines are done: what the code holds is what they are answered, and as many are due as they and the rest give
+  pub record Going (text : List ℕ) (from room : ℕ) (s : S) (t : Tally) (before out : List ℕ) (r : Reached S) : Type 0 where
+    pub done : List (List ℕ)
+    pub lines : linesOf (drop from text) ≡ done ++ linesOf (drop (r .next) text)
+    pub due : fitting answer room s (linesOf (drop from text)) ≡ length done + fitting answer (room - r .written) (r .state) (linesOf (drop (r .next) text))
+    pub state : r .state ≡ stateAfter answer s done
+    pub legal : Legal (r .state)
+    pub tally : r .tally ≡ tallyAfter t (replies answer s done)
+    pub stored : out ≡ sets before 0 (written (replies answer s done))
+    pub count : r .written ≡ length (written (replies answer s done))
+    pub within : r .next ≤ length text
+    pub moved : from + length done ≤ r .next
+    pub fits : r .written ≤ room
+    pub paced : r .written ≤ longest * length done
 
-module _ (text : List ℕ) (from room : ℕ) (p : Panel) (t : Tally) (before out : List ℕ) (at : ℕ) (q : Panel) (u : Tally) (n : ℕ)
-    (g : Going text from room p t before out at q u n) where
-  -- one line more
-  pub turn : at < length text → longest ≤ room - n → (end : ℕ) → end ≡ at + upTo (drop at text)
-      → (line : List ℕ) → line ≡ take (end - at) (drop at text)
-      → (q′ : Panel) (reply : Reply) (rows : List ℕ) (count : ℕ) → Did q line q′ reply rows count → (a b : ℕ) → replyBytes reply ≡ a ∷ b ∷ []
-      → (out′ : List ℕ) → out′ ≡ sets out n (lineOf (a ∷ b ∷ take count rows))
-      → (n′ : ℕ) → n′ ≡ n + length (lineOf (a ∷ b ∷ take count rows))
-      → (u′ : Tally) → u′ ≡ tallied u (refusalOf (a ∷ b ∷ []))
-      → (at′ : ℕ) → at′ ≡ behindOf end (length text)
-      → Going text from room p t before out′ at′ q′ u′ n′
-  turn h k end ee line el q′ reply rows count did a b eb out′ eo n′ en u′ eu at′ ea =
-      let r : List ℕ = a ∷ b ∷ take count rows in
-      let rest : List (List ℕ) = linesOf (drop at′ text) in
-      let answer : _≡_ {A = Answer} (record { panel = q′; reply = r }) (lineAnswer q line) =
-      ap (λ (x : List ℕ). record { panel = q′; reply = x ++ take count rows }) (sym eb) ∙ did .answer
-      in
-      let here : lineAnswer q line ≡ lineAnswer (panelAfter p (g .done)) line = ap (λ (x : Panel). lineAnswer x line) (g .panel) in
-      let next : linesOf (drop at text) ≡ line ∷ rest =
-      lines-on text at end h ee ∙ ap₂ (λ (x : List ℕ) (i : ℕ). x ∷ linesOf (drop i text)) (sym el) (sym ea)
-      in
-      let short : length (lineOf r) ≤ longest = omega (arith, length-line r, length-take count rows, did .short) in
-      let one : length (g .done ++ (line ∷ [])) ≡ length (g .done) + 1 = length-append (g .done) (line ∷ []) in
-      let left : room - n - length (lineOf r) ≡ room - n′ = omega arith in
-      let more : replies p (g .done ++ (line ∷ [])) ≡ replies p (g .done) ++ (r ∷ []) =
-      replies-more (g .done) line p ∙ ap (λ (x : Answer). replies p (g .done) ++ (x .reply ∷ [])) (sym (answer ∙ here))
-      in
-      let bytes : written (replies p (g .done ++ (line ∷ []))) ≡ written (replies p (g .done)) ++ lineOf r =
-      ap written more ∙ written-more (replies p (g .done)) r
-      in
-      let place : n ≡ 0 + length (written (replies p (g .done))) = omega (arith, g .counted) in
-      record {
-        done = g .done ++ (line ∷ []);
-        lines =
-            g .lines ∙ ap (λ (ls : List (List ℕ)). g .done ++ ls) next
-            ∙ sym (append-assoc (g .done) (line ∷ []) rest);
-        due =
-            g .due
-            ∙ ap (λ (ls : List (List ℕ)). length (g .done) + fitting (room - n) q ls) next
-            ∙ ap (λ (i : ℕ). length (g .done) + i) (fitting-line (room - n) q line rest _ answer k)
-            ∙ ap (λ (i : ℕ). length (g .done) + suc (fitting i q′ rest)) left
-            ∙ omega (arith, one);
-        panel = ap (λ (x : Answer). x .panel) (answer ∙ here) ∙ sym (panel-more (g .done) line p);
-        legal = did .legal;
-        tally =
-            eu ∙ ap₂ tallied (g .tally) (refusal-rows a b (take count rows))
-            ∙ sym (ap (tallyAfter t) more ∙ tally-more (replies p (g .done)) r t);
-        stored =
-            eo ∙ ap₂ (λ (l : List ℕ) (i : ℕ). sets l i (lineOf r)) (g .stored) place
-            ∙ sets-append before 0 (written (replies p (g .done))) (lineOf r) ∙ ap (sets before 0) (sym bytes);
-        counted = en ∙ omega (arith, g .counted, ap length bytes, length-append (written (replies p (g .done))) (lineOf r));
-        within = rw ea (behind-within text at end h ee);
-        moved = omega (arith, g .moved, one, behind-on text at end h ee);
-        fits = omega arith;
-        paced = omega (arith, g .paced, one);
-      }
+  pub start : (text : List ℕ) (from room : ℕ) (s : S) (t : Tally) (before : List ℕ) → from ≤ length text → Legal s
+      → Going text from room s t before before (record { next = from; state = s; tally = t; written = 0 })
+  unfolding stateAfter replies tallyAfter written
+  start text from room s t before w h = record {
+    done = [];
+    lines = refl;
+    due =
+        let all : ℕ = fitting answer (room - 0) s (linesOf (drop from text)) in
+        let e : all ≡ 0 + all = omega arith in
+        ap (λ (r : ℕ). fitting answer r s (linesOf (drop from text))) (sym (sub-zero room)) ∙ e;
+    state = refl;
+    legal = h;
+    tally = refl;
+    stored = refl;
+    count = refl;
+    within = w;
+    moved = omega arith;
+    fits = omega arith;
+    paced = omega arith;
+  }
 
-  -- what the run's end says
-  abbrev Finished : Type 0
-  Finished =
-      let ls = linesOf (drop from text) in
-      let r : Progress = record { next = at; panel = q; tally = u; written = n } in
-      Ran text ls (fitting room p ls) p t before out r × Paced text from room (fitting room p ls) r
-
-  -- no further line is answered
-  finish : fitting (room - n) q (linesOf (drop at text)) ≡ 0 → (from < length text → longest ≤ room → from < at) → (at < length text → room < n + longest)
-      → Finished
-  finish z progress stops =
-      let ls : List (List ℕ) = linesOf (drop from text) in
-      let rest : List (List ℕ) = linesOf (drop at text) in
-      let all : length (g .done) ≡ fitting room p ls = omega (arith, g .due, z) in
-      let taken : g .done ≡ take (fitting room p ls) ls =
-      sym (ap (take (fitting room p ls)) (g .lines) ∙ take-at (g .done) rest (fitting room p ls) all)
-      in (
+  module _ (text : List ℕ) (from room : ℕ) (s : S) (t : Tally) (before out : List ℕ) (r : Reached S) (g : Going text from room s t before out r) where
+    -- one line more
+    pub line-done : r .next < length text → longest ≤ room - r .written → (end : ℕ) → end ≡ r .next + lineLength (drop (r .next) text)
+        → (line : List ℕ) → line ≡ take (end - r .next) (drop (r .next) text) → (out′ : List ℕ) (r′ : Reached S) (reply : List ℕ)
+        → Did (r .state) line (r′ .state) reply
+        → out′ ≡ sets out (r .written) (lineOf reply) → r′ .written ≡ r .written + length (lineOf reply)
+        → r′ .tally ≡ tallied (r .tally) (refusalOf reply) → r′ .next ≡ behindOf end (length text)
+        → Going text from room s t before out′ r′
+    line-done h k end ee line el out′ r′ reply did eo en eu ea =
+        let rest : List (List ℕ) = linesOf (drop (r′ .next) text) in
+        let was : List (List ℕ) = replies answer s (g .done) in
+        let here : answer (r .state) line ≡ answer (stateAfter answer s (g .done)) line = ap (λ (x : S). answer x line) (g .state) in
+        let next : linesOf (drop (r .next) text) ≡ line ∷ rest =
+        lines-on text (r .next) end h ee ∙ ap₂ (λ (x : List ℕ) (i : ℕ). x ∷ linesOf (drop i text)) (sym el) (sym ea)
+        in
+        let one : length (g .done ++ (line ∷ [])) ≡ length (g .done) + 1 = length-append (g .done) (line ∷ []) in
+        let left : room - r .written - length (lineOf reply) ≡ room - r′ .written = omega arith in
+        let more : replies answer s (g .done ++ (line ∷ [])) ≡ was ++ (reply ∷ []) =
+        replies-more answer (g .done) line s ∙ ap (λ (x : Answered S). was ++ (x .reply ∷ [])) (sym (did .is ∙ here))
+        in
+        let bytes : written (replies answer s (g .done ++ (line ∷ []))) ≡ written was ++ lineOf reply = ap written more ∙ written-more was reply in
+        let place : r .written ≡ 0 + length (written was) = omega (arith, g .count) in
         record {
-          panel = g .panel ∙ ap (panelAfter p) taken;
-          legal = g .legal;
-          tally = g .tally ∙ ap (λ (x : List (List ℕ)). tallyAfter t (replies p x)) taken;
-          rest = sym (ap (drop (fitting room p ls)) (g .lines) ∙ drop-at (g .done) rest (fitting room p ls) all);
-          within = g .within;
-          buffer = g .stored ∙ ap (λ (x : List (List ℕ)). sets before 0 (written (replies p x))) taken;
-          length = g .counted ∙ ap (λ (x : List (List ℕ)). length (written (replies p x))) taken;
-        },
-        record { fits = g .fits; paced = omega (arith, g .paced, all); progress = progress; stops = stops },
-      )
+          done = g .done ++ (line ∷ []);
+          lines = g .lines ∙ ap (λ (ls : List (List ℕ)). g .done ++ ls) next ∙ sym (append-assoc (g .done) (line ∷ []) rest);
+          due =
+              g .due
+              ∙ ap (λ (ls : List (List ℕ)). length (g .done) + fitting answer (room - r .written) (r .state) ls) next
+              ∙ ap (λ (i : ℕ). length (g .done) + i) (fitting-line answer (room - r .written) (r .state) line rest _ (did .is) k)
+              ∙ ap (λ (i : ℕ). length (g .done) + suc (fitting answer i (r′ .state) rest)) left
+              ∙ omega (arith, one);
+          state = ap (λ (x : Answered S). x .state) (did .is ∙ here) ∙ sym (state-more answer (g .done) line s);
+          legal = did .legal;
+          tally = eu ∙ ap (λ (u : Tally). tallied u (refusalOf reply)) (g .tally) ∙ sym (ap (tallyAfter t) more ∙ tally-more was reply t);
+          stored =
+              eo ∙ ap₂ (λ (l : List ℕ) (i : ℕ). sets l i (lineOf reply)) (g .stored) place
+              ∙ sets-append before 0 (written was) (lineOf reply) ∙ ap (sets before 0) (sym bytes);
+          count = en ∙ omega (arith, g .count, ap length bytes, length-append (written was) (lineOf reply));
+          within = rw ea (behind-within text (r .next) end h ee);
+          moved = omega (arith, g .moved, one, ea, behind-on text (r .next) end h ee);
+          fits = omega (arith, en, did .short);
+          paced = omega (arith, g .paced, one, en, did .short);
+        }
 
-  pub finish-end : length text ≤ at
-      → Finished
-  finish-end h = finish (fitting-none (room - n) q (linesOf (drop at text)) (lines-end text at h)) (λ a b. omega arith) (λ a. absurd (omega arith))
+    -- what the run's end says
+    abbrev Finished : Type 0
+    Finished = RanFrom answer Legal text from room s t before out r × Paced text from room (fitting answer room s (linesOf (drop from text))) r
 
-  pub finish-full : room - n < longest
-      → Finished
-  finish-full h = finish (fitting-full (room - n) q (linesOf (drop at text)) h) (λ a b. omega (arith, g .moved, g .paced)) (λ a. omega arith)
+    -- no further line is answered
+    finish : fitting answer (room - r .written) (r .state) (linesOf (drop (r .next) text)) ≡ 0
+        → (from < length text → longest ≤ room → from < r .next) → (r .next < length text → room < r .written + longest) → Finished
+    finish z progress stops =
+        let ls : List (List ℕ) = linesOf (drop from text) in
+        let rest : List (List ℕ) = linesOf (drop (r .next) text) in
+        let n : ℕ = fitting answer room s ls in
+        let all : length (g .done) ≡ n = omega (arith, g .due, z) in
+        let taken : g .done ≡ take n ls = sym (ap (take n) (g .lines) ∙ take-at (g .done) rest n all) in
+        let replied : replies answer s (g .done) ≡ replies answer s (take n ls) = ap (replies answer s) taken in (
+          record {
+            state = g .state ∙ ap (stateAfter answer s) taken;
+            legal = g .legal;
+            tally = g .tally ∙ ap (tallyAfter t) replied;
+            rest = sym (ap (drop n) (g .lines) ∙ drop-at (g .done) rest n all);
+            within = g .within;
+            buffer = g .stored ∙ ap (λ (rs : List (List ℕ)). sets before 0 (written rs)) replied;
+            count = g .count ∙ ap (λ (rs : List (List ℕ)). length (written rs)) replied;
+          },
+          record { fits = g .fits; paced = omega (arith, g .paced, all); progress = progress; stops = stops },
+        )
+
+    pub finish-end : length text ≤ r .next → Finished
+    finish-end h =
+        finish (fitting-none answer (room - r .written) (r .state) (linesOf (drop (r .next) text)) (lines-end text (r .next) h))
+        (λ a b. omega arith) (λ a. absurd (omega arith))
+
+    pub finish-full : room - r .written < longest → Finished
+    finish-full h =
+        finish (fitting-full answer (room - r .written) (r .state) (linesOf (drop (r .next) text)) h)
+        (λ a b. omega (arith, g .moved, g .paced)) (λ a. omega arith)

@@ -1,3 +1,4 @@
-pub mod Arms
+pub mod Outcomes
 pub mod Going
+pub mod Arms
 pub mod Whole

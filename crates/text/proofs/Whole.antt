@@ -1,4 +1,4 @@
--- A run, and the whole output. Assumes nothing.
+-- A run, and the whole output, whatever answers the lines. Assumes nothing.
 use mathlib.Core.Path.{_≡_, refl, sym, ap, ap₂, _∙_}
 use mathlib.Core.List.{List, [], _∷_, _++_}
 use native.Mathlib.Decide.{decLt}
@@ -7,112 +7,111 @@ use native.Mathlib.Omega.{arith}
 use borrow.Author.Tests.{lt-ltb, le-ltb}
 use lib.ListN.{length, getD, take, drop, length-append, length-drop, take-append-drop}
 use lib.Seq.{sets, sets-eq, take-at, drop-at, take-all}
-use Rattle.panel.specs.declared.Panel.{Panel}
-use Rattle.panel.specs.Panels.{opened}
 use Rattle.hex.specs.Hex.{lineOf}
 use Rattle.fieldset.proofs.Tables.{sets-append}
 use Rattle.tally.specs.declared.Tally.{Tally}
 use Rattle.tally.specs.Tallies.{threeBytes, tallyBytes}
-use Rattle.frames.specs.declared.Outcome.the-variants.{Length, TextTooLong}
-use Rattle.frames.specs.Texts.{linesOf, panelAfter, replies, tallyAfter, written, output}
+use Rattle.frames.specs.Texts.{LineAnswer, linesOf, stateAfter, replies, tallyAfter, written, output, textLimit}
 use Rattle.frames.proofs.Lines.{lines-on, lines-end}
 use Rattle.frames.proofs.Outputs.{output-append}
-use Rattle.text.specs.declared.Progress.{Progress}
-use Rattle.text.specs.Runs.{longest, Ran, Paced, Resumed, wholeOutput, outcomeOf, bufferAfter, tallyAtEnd, Told}
-
--- ---- a run that goes on
-
-pub resumed : (text : List ℕ) (from n : ℕ) (p : Panel) (t : Tally) (before after : List ℕ) (r : Progress)
-    → Ran text (linesOf (drop from text)) n p t before after r → Paced text from (length before) n r → Resumed text from p t before after r
-resumed text from n p t before after r ran paced =
-    let ls : List (List ℕ) = linesOf (drop from text) in
-    let bytes : List ℕ = written (replies p (take n ls)) in
-    let size : length bytes ≡ r .written = sym (ran .length) in
-    let fits : 0 + length bytes ≤ length before = omega (arith, paced .fits) in
-    let stored : after ≡ bytes ++ drop (0 + length bytes) before = ran .buffer ∙ sets-eq bytes before 0 fits in
-    let end : 0 + length bytes ≡ r .written = omega arith in
-    record {
-      resumes =
-          ap₂ (λ (w : List ℕ) (o : List ℕ). w ++ o)
-          (ap (take (r .written)) stored ∙ take-at bytes (drop (0 + length bytes) before) (r .written) size)
-          (ap (λ (q : Panel). output q (r .tally) (linesOf (drop (r .next) text))) (ran .panel)
-          ∙ ap₂ (output (panelAfter p (take n ls))) (ran .tally) (ran .rest))
-          ∙ sym (output-append (take n ls) (drop n ls) p t) ∙ ap (output p t) (take-append-drop n ls);
-      behind =
-          ap (drop (r .written)) stored ∙ drop-at bytes (drop (0 + length bytes) before) (r .written) size
-          ∙ ap (λ (k : ℕ). drop k before) end;
-      fits = paced .fits;
-      progress = paced .progress;
-    }
-
--- ---- a whole text
+use Rattle.text.specs.declared.Outcome.the-variants.{Length, TextTooLong}
+use Rattle.text.specs.Runs.{longest, Reached, Ran, Paced, Resumed, wholeOutput, outcomeOf, bufferAfter, tallyAtEnd, Told}
 
 -- the tally's bytes in the parts that are written
 pub tally-parts : (b : List ℕ) (t : Tally) → b ≡ tallyBytes t → getD b 0 0 ∷ getD b 1 0 ∷ take (length b - 2) (drop 2 b) ≡ tallyBytes t
 unfolding tallyBytes threeBytes
 tally-parts b t e = ap (λ (x : List ℕ). getD x 0 0 ∷ getD x 1 0 ∷ take (length x - 2) (drop 2 x)) e
 
--- with room for all of the lines none is left
-none-left : (text : List ℕ) (room n : ℕ) (p : Panel) (t : Tally) (before after : List ℕ) (r : Progress)
-    → Ran text (linesOf text) n p t before after r → Paced text 0 room n r → longest * length (linesOf text) ≤ room → length text ≤ r .next
-none-left text room n p t before after r ran paced h = go (decLt (r .next) (length text)) where
-  go : Dec (r .next < length text) → length text ≤ r .next
-  go (yes l) =
-      let more = ap length (sym (ran .rest) ∙ lines-on text (r .next) _ l refl) in
-      absurd (omega (arith, paced .stops l, paced .paced, more, length-drop n (linesOf text)))
-  go (no l) = omega arith
+module _ {S : Type 0} (answer : LineAnswer S) (Legal : S → Type 0) where
+  -- ---- a run that goes on
 
-module _ (text before middle after : List ℕ) (t : Tally) (n k : ℕ) (p : Panel) (r : Progress) (room : ℕ)
-    (opens : p ≡ opened 0) (ran : Ran text (linesOf text) n p t before middle r) (paced : Paced text 0 room n r)
-    (enough : longest * length (linesOf text) ≤ room) (put : after ≡ sets middle (r .written) (lineOf (tallyBytes (r .tally))))
-    (size : k ≡ r .written + length (lineOf (tallyBytes (r .tally)))) where
-  all-done : take n (linesOf text) ≡ linesOf text
-  all-done =
-      let none : drop n (linesOf text) ≡ [] = sym (ran .rest) ∙ lines-end text (r .next) (none-left text room n p t before middle r ran paced enough) in
-      take-all n (linesOf text) (omega (arith, ap length none, length-drop n (linesOf text)))
-
-  abbrev answers : List (List ℕ)
-  answers = replies (opened 0) (linesOf text)
-
-  -- the lines that were answered are all, on an unopened panel
-  same : replies p (take n (linesOf text)) ≡ answers
-  same = ap₂ replies opens all-done
-
-  tally-done : r .tally ≡ tallyAfter t answers
-  tally-done = ran .tally ∙ ap (tallyAfter t) same
-
-  abbrev last : List ℕ
-  last = lineOf (tallyBytes (tallyAfter t answers))
-
-  ends : wholeOutput t text ≡ written answers ++ last
-  unfolding output
-  ends = refl
-
-  place : r .written ≡ 0 + length (written answers)
-  place = ran .length ∙ ap (λ (rs : List (List ℕ)). length (written rs)) same ∙ omega arith
-
-  stored : after ≡ sets before 0 (wholeOutput t text)
-  stored =
-      put
-      ∙ ap (λ (u : Tally). sets middle (r .written) (lineOf (tallyBytes u))) tally-done
-      ∙ ap₂ (λ (l : List ℕ) (i : ℕ). sets l i last) (ran .buffer ∙ ap (λ (rs : List (List ℕ)). sets before 0 (written rs)) same) place
-      ∙ sets-append before 0 (written answers) last ∙ ap (sets before 0) (sym ends)
-
-  total : k ≡ length (wholeOutput t text)
-  total =
-      let e : k ≡ r .written + length last = size ∙ ap (λ (u : Tally). r .written + length (lineOf (tallyBytes u))) tally-done in
-      omega (arith, e, place, ap length ends, length-append (written answers) last)
-
-  pub whole-text : length text ≤ 65535 → Told text t (r .tally) before after (Length k)
-  unfolding outcomeOf bufferAfter tallyAtEnd
-  whole-text h =
-      let short = le-ltb 65535 (length text) h in
+  pub resumed : (text : List ℕ) (from n : ℕ) (s : S) (t : Tally) (before after : List ℕ) (r : Reached S)
+      → Ran answer Legal text (linesOf (drop from text)) n s t before after r → Paced text from (length before) n r → Resumed answer text from s t before after r
+  resumed text from n s t before after r ran paced =
+      let ls : List (List ℕ) = linesOf (drop from text) in
+      let bytes : List ℕ = written (replies answer s (take n ls)) in
+      let size : length bytes ≡ r .written = sym (ran .count) in
+      let fits : 0 + length bytes ≤ length before = omega (arith, paced .fits) in
+      let stored : after ≡ bytes ++ drop (0 + length bytes) before = ran .buffer ∙ sets-eq bytes before 0 fits in
+      let end : 0 + length bytes ≡ r .written = omega arith in
       record {
-        outcome = simp short (ap (λ (i : ℕ). 0x00 ∷ i ∷ []) total);
-        buffer = simp short stored;
-        tally = simp short tally-done;
+        resumes =
+            ap₂ (λ (w : List ℕ) (o : List ℕ). w ++ o)
+            (ap (take (r .written)) stored ∙ take-at bytes (drop (0 + length bytes) before) (r .written) size)
+            (ap (λ (q : S). output answer q (r .tally) (linesOf (drop (r .next) text))) (ran .state)
+            ∙ ap₂ (output answer (stateAfter answer s (take n ls))) (ran .tally) (ran .rest))
+            ∙ sym (output-append answer (take n ls) (drop n ls) s t) ∙ ap (output answer s t) (take-append-drop n ls);
+        behind =
+            ap (drop (r .written)) stored ∙ drop-at bytes (drop (0 + length bytes) before) (r .written) size
+            ∙ ap (λ (k : ℕ). drop k before) end;
+        fits = paced .fits;
+        progress = paced .progress;
       }
 
-pub too-long : (text before : List ℕ) (t : Tally) → 65535 < length text → Told text t t before before TextTooLong
-unfolding outcomeOf bufferAfter tallyAtEnd
-too-long text before t h = let long = lt-ltb 65535 (length text) h in record { outcome = simp long; buffer = simp long; tally = simp long }
+  -- ---- a whole text
+
+  -- with room for all of the lines none is left
+  none-left : (text : List ℕ) (room n : ℕ) (s : S) (t : Tally) (before after : List ℕ) (r : Reached S)
+      → Ran answer Legal text (linesOf text) n s t before after r → Paced text 0 room n r → longest * length (linesOf text) ≤ room → length text ≤ r .next
+  none-left text room n s t before after r ran paced h = go (decLt (r .next) (length text)) where
+    go : Dec (r .next < length text) → length text ≤ r .next
+    go (yes l) =
+        let more = ap length (sym (ran .rest) ∙ lines-on text (r .next) _ l refl) in
+        absurd (omega (arith, paced .stops l, paced .paced, more, length-drop n (linesOf text)))
+    go (no l) = omega arith
+
+  module _ (text before middle after : List ℕ) (t : Tally) (n k : ℕ) (p s : S) (r : Reached S) (room : ℕ)
+      (starts : p ≡ s) (ran : Ran answer Legal text (linesOf text) n p t before middle r) (paced : Paced text 0 room n r)
+      (enough : longest * length (linesOf text) ≤ room) (put : after ≡ sets middle (r .written) (lineOf (tallyBytes (r .tally))))
+      (size : k ≡ r .written + length (lineOf (tallyBytes (r .tally)))) where
+    all-done : take n (linesOf text) ≡ linesOf text
+    all-done =
+        let none : drop n (linesOf text) ≡ [] = sym (ran .rest) ∙ lines-end text (r .next) (none-left text room n p t before middle r ran paced enough) in
+        take-all n (linesOf text) (omega (arith, ap length none, length-drop n (linesOf text)))
+
+    abbrev answers : List (List ℕ)
+    answers = replies answer s (linesOf text)
+
+    -- the lines that were answered are all, from the start on
+    same : replies answer p (take n (linesOf text)) ≡ answers
+    same = ap₂ (replies answer) starts all-done
+
+    tally-done : r .tally ≡ tallyAfter t answers
+    tally-done = ran .tally ∙ ap (tallyAfter t) same
+
+    abbrev last : List ℕ
+    last = lineOf (tallyBytes (tallyAfter t answers))
+
+    ends : wholeOutput answer s t text ≡ written answers ++ last
+    unfolding output
+    ends = refl
+
+    place : r .written ≡ 0 + length (written answers)
+    place = ran .count ∙ ap (λ (rs : List (List ℕ)). length (written rs)) same ∙ omega arith
+
+    stored : after ≡ sets before 0 (wholeOutput answer s t text)
+    stored =
+        put
+        ∙ ap (λ (u : Tally). sets middle (r .written) (lineOf (tallyBytes u))) tally-done
+        ∙ ap₂ (λ (l : List ℕ) (i : ℕ). sets l i last) (ran .buffer ∙ ap (λ (rs : List (List ℕ)). sets before 0 (written rs)) same) place
+        ∙ sets-append before 0 (written answers) last ∙ ap (sets before 0) (sym ends)
+
+    total : k ≡ length (wholeOutput answer s t text)
+    total =
+        let e : k ≡ r .written + length last = size ∙ ap (λ (u : Tally). r .written + length (lineOf (tallyBytes u))) tally-done in
+        omega (arith, e, place, ap length ends, length-append (written answers) last)
+
+    pub whole-text : length text ≤ textLimit → Told answer s t text (r .tally) before after (Length k)
+    unfolding outcomeOf bufferAfter tallyAtEnd
+    whole-text h =
+        let short = le-ltb textLimit (length text) h in
+        record {
+          outcome = simp short (ap (λ (i : ℕ). 0x00 ∷ i ∷ []) total);
+          buffer = simp short stored;
+          tally = simp short tally-done;
+        }
+
+module _ {S : Type 0} (answer : LineAnswer S) where
+  pub too-long : (text before : List ℕ) (s : S) (t : Tally) → textLimit < length text → Told answer s t text t before before TextTooLong
+  unfolding outcomeOf bufferAfter tallyAtEnd
+  too-long text before s t h = let long = lt-ltb textLimit (length text) h in record { outcome = simp long; buffer = simp long; tally = simp long }

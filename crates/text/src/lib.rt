@@ -1,22 +1,38 @@
 // The two operations on a text of lines.
+use fieldset::wide;
 use frames::Command;
-use frames::Line;
-use frames::Outcome;
 use panel::Link;
 use panel::Panel;
 use panel::Reply;
 use panel::Step;
 use panel::unchanged;
+use tables::fill_tables;
+use tables::stay_levels;
+use taking::reverse;
 use tally::Tally;
 ghost use mathlib.Core.Path.{_≡_};
 ghost use Prim.Native.Nat.{_+_, _*_, _^_, _≤_, _<_};
 ghost use lib.ListN.{length, drop};
 ghost use lib.Seq.{sets};
+ghost use Rattle.panel.specs.Panels.{opened};
 ghost use Rattle.panel.specs.Legal.{Legal};
 ghost use Rattle.hex.specs.Hex.{lineOf};
 ghost use Rattle.tally.specs.Tallies.{tallyBytes};
 ghost use Rattle.frames.specs.Texts.{linesOf};
-ghost use Rattle.text.specs.Runs.{fitting, Ran, Resumed, Told, Paced};
+ghost use Rattle.frames.specs.Frames.{lineAnswer};
+ghost use Rattle.text.specs.Runs.{tallyLength, reached, fitting, RanFrom, Paced, Resumed, Told};
+
+// The characters of the longest reply's line: a plan of 64 fields has 2 + 3 * 64 bytes, and the line an LF.
+const LONGEST: usize = 389;
+
+// The greatest length of a text.
+pub const TEXT_LIMIT: usize = 65535;
+
+// Room for a longest reply to each line of a text.
+const ROOM: usize = LONGEST * TEXT_LIMIT;
+
+// The bytes of a plan's rows, three for each of 64 fields.
+const ROWS: usize = 192;
 
 // Where a run over a text stands: the position of the next line, the panel, the tally, and how many bytes were written.
 pub struct Progress {
@@ -26,58 +42,26 @@ pub struct Progress {
     pub written: usize,
 }
 
-// What a line comes to: its step, and how many bytes of the buffer for rows belong to its reply.
-pub struct Decision {
-    pub step: Step,
-    pub rest: usize,
+// What a text is answered: the length of the whole output, or that it is too long.
+pub enum Outcome {
+    Length(usize),
+    TextTooLong,
 }
 
-// Decides on a line by its command; `named` is the link that stands under the number in the frame's second byte.
-fn decide_line(
-    p: Panel,
-    named: Link,
-    levels: &[u8; 64],
-    others: &[u64; 64],
-    reads: &[u64; 64],
-    line: Line,
-    path: &mut [u8; 64],
-    rows: &mut [u8; 192],
-) -> Decision {
-    let command = line.command;
-    let mut rest: usize = 0;
-    let step = match command {
-        Command::Open(n) => opening::open(p, named, n),
-        Command::Add(id, level) => {
-            let frame = line.frame;
-            let len = line.len;
-            let bytes = &frame[..len];
-            adding::add(p, named, levels, others, reads, id, level, &bytes[3..], path)
-        }
-        Command::Remove(id) => removing::remove(p, named, levels, others, reads, id, path),
-        Command::Touch(f) => touching::touch(p, named, levels, others, reads, f, path),
-        Command::Plan => {
-            let reply = planning::plan(p, levels, others, reads, rows);
-            rest = rest_of(reply);
-            keep(p, named, reply)
-        }
-        Command::Refused(r) => keep(p, named, Reply::Refused(r)),
-    };
-    Decision {
-        step: step,
-        rest: rest,
-    }
-}
-
-fn keep(p: Panel, named: Link, reply: Reply) -> Step {
-    let place = p.place;
-    unchanged(p.size, &place, named, reply)
-}
-
+// How many bytes behind its head the reply to a plan has: three for each field.
 fn rest_of(reply: Reply) -> usize {
     match reply {
-        Reply::Accepted(n) => 3 * fieldset::wide(n),
+        Reply::Accepted(n) => 3 * wide(n),
         Reply::Refused(_) => 0,
     }
+}
+
+// The step of a line that changes nothing.
+fn keep(p: Panel, named: Link, reply: Reply) -> Step
+    ensures { λ r. ⌜ r ≡ unchanged (p .size) (p .place) named reply ⌝ }
+{
+    let place = p.place;
+    unchanged(p.size, &place, named, reply)
 }
 
 // Answers whole lines while the room has place for a longest reply; what does not fit the buffer is counted, not stored.
@@ -90,31 +74,32 @@ fn answer_lines(
     room: usize,
 ) -> Progress
     requires { ⌜ (from ≤ length (now text)) × Legal p × (room < 2 ^ 63) ⌝ }
-    ensures { λ r. ⌜ Ran (now (text .entry)) (linesOf (drop from (now (text .entry)))) (fitting room p (linesOf (drop from (now (text .entry))))) p t (now (out .entry)) (now (out .exit)) r ⌝ }
-    ensures { λ r. ⌜ Paced (now (text .entry)) from room (fitting room p (linesOf (drop from (now (text .entry))))) r ⌝ }
+    ensures { λ r. ⌜ RanFrom lineAnswer Legal (now (text .entry)) from room p t (now (out .entry)) (now (out .exit)) (reached r) ⌝ }
+    ensures { λ r. ⌜ Paced (now (text .entry)) from room (fitting lineAnswer room p (linesOf (drop from (now (text .entry))))) (reached r) ⌝ }
 {
     let mut at = from;
     let mut q = p;
     let mut u = t;
     let mut n: usize = 0;
-    let mut rows = [0u8; 192];
+    let mut rows = [0u8; ROWS];
     let mut path = [0u8; 64];
     let mut levels = [0u8; 64];
     let mut others = [0u64; 64];
     let mut reads = [0u64; 64];
-    tables::fill_tables(q, &mut levels, &mut others, &mut reads);
-    while at < text.len() && 389 <= room - n {
+    fill_tables(q, &mut levels, &mut others, &mut reads);
+    while at < text.len() && LONGEST <= room - n {
         let end = frames::line_end(text, at);
         let line = frames::read_line(&text[at..end]);
-        let k = fieldset::wide(frames::number_of(line.command));
-        let named = q.links[k];
         let command = line.command;
+        let frame = line.frame;
+        let len = line.len;
+        let k = wide(frames::number_of(command));
+        let named = q.links[k];
         let mut count: usize = 0;
+        // a call for each kind: through one function the panel would be copied for every line, since a removal scans its links
         let step = match command {
-            Command::Open(n) => opening::open(q, named, n),
+            Command::Open(size) => opening::open(q, named, size),
             Command::Add(id, level) => {
-                let frame = line.frame;
-                let len = line.len;
                 let bytes = &frame[..len];
                 adding::add(q, named, &levels, &others, &reads, id, level, &bytes[3..], &mut path)
             }
@@ -129,19 +114,19 @@ fn answer_lines(
         };
         // the panel takes the step
         let place = step.place;
-        q.place = place;
-        let setter = q.setter;
         let link = step.link;
-        q.links[k] = link;
+        let setter = q.setter;
         q.size = step.size;
-        tables::stay_levels(&mut levels, &setter, &place);
+        q.place = place;
+        q.links[k] = link;
+        stay_levels(&mut levels, &setter, &place);
         if step.changed != 0 {
-            q = taking::reverse(q, step.freed, step.setter, &path, step.count, &mut levels, &mut others, &mut reads);
+            q = reverse(q, step.freed, step.setter, &path, step.count, &mut levels, &mut others, &mut reads);
         }
         let reply = step.reply;
         let b = frames::reply_bytes(reply);
         n = hex::put_line(out, n, b[0], b[1], &rows[..count]);
-        u = tally::counted_line(u, frames::refusal_of(b[0], b[1]));
+        u = tally::tallied_line(u, frames::refusal_of(b[0], b[1]));
         at = frames::behind(text, end);
     }
     Progress {
@@ -155,8 +140,8 @@ fn answer_lines(
 // Goes on from a position of a text: answers whole lines while a longest reply, with its LF, still fits the buffer.
 pub fn lines_from(text: &[u8], from: usize, p: Panel, t: Tally, out: &mut [u8]) -> Progress
     requires { ⌜ (from ≤ length (now text)) × Legal p ⌝ }
-    ensures { λ r. ⌜ Ran (now (text .entry)) (linesOf (drop from (now (text .entry)))) (fitting (length (now (out .entry))) p (linesOf (drop from (now (text .entry))))) p t (now (out .entry)) (now (out .exit)) r ⌝ }
-    ensures { λ r. ⌜ Resumed (now (text .entry)) from p t (now (out .entry)) (now (out .exit)) r ⌝ }
+    ensures { λ r. ⌜ RanFrom lineAnswer Legal (now (text .entry)) from (length (now (out .entry))) p t (now (out .entry)) (now (out .exit)) (reached r) ⌝ }
+    ensures { λ r. ⌜ Resumed lineAnswer (now (text .entry)) from p t (now (out .entry)) (now (out .exit)) (reached r) ⌝ }
 {
     let room = out.len();
     answer_lines(text, from, p, t, out, room)
@@ -164,40 +149,39 @@ pub fn lines_from(text: &[u8], from: usize, p: Panel, t: Tally, out: &mut [u8]) 
 
 // The tally's line at a position, as far as it fits; the position behind it.
 pub fn put_tally(out: &mut [u8], at: usize, t: Tally) -> usize
-    requires { ⌜ at + 23 < 2 ^ 64 ⌝ }
+    requires { ⌜ at + tallyLength < 2 ^ 64 ⌝ }
     ensures { λ r. ⌜ now (out .exit) ≡ sets (now (out .entry)) at (lineOf (tallyBytes t)) ⌝ }
     ensures { λ r. ⌜ r ≡ at + length (lineOf (tallyBytes t)) ⌝ }
 {
     let bytes = tally::tally_bytes(t);
     let first = bytes[0];
     let second = bytes[1];
-    let all = &bytes[..11];
+    let all = &bytes[..tally::TALLY_BYTES];
     hex::put_line(out, at, first, second, &all[2..])
 }
 
 // A text's outcome, and the tally after it.
-pub struct Counted {
+pub struct Ending {
     pub outcome: Outcome,
     pub tally: Tally,
 }
 
 // The length of a text's whole output, from an unopened panel and a tally on, and as many of its first bytes as fit the buffer.
-pub fn run_counted(text: &[u8], out: &mut [u8], t: Tally) -> Counted
-    ensures { λ r. ⌜ Told (now (text .entry)) t (r .tally) (now (out .entry)) (now (out .exit)) (r .outcome) ⌝ }
+pub fn run_tallied(text: &[u8], out: &mut [u8], t: Tally) -> Ending
+    ensures { λ r. ⌜ Told lineAnswer (opened 0) t (now (text .entry)) (r .tally) (now (out .entry)) (now (out .exit)) (r .outcome) ⌝ }
 {
-    if 65535 < text.len() {
+    if TEXT_LIMIT < text.len() {
         let outcome = Outcome::TextTooLong;
-        return Counted {
+        return Ending {
             outcome: outcome,
             tally: t,
         };
     }
-    // room for a longest reply to each of 65,535 lines
-    let r = answer_lines(text, 0, opening::unopened(), t, out, 25493115);
+    let r = answer_lines(text, 0, opening::unopened(), t, out, ROOM);
     let u = r.tally;
     let n = put_tally(out, r.written, u);
     let outcome = Outcome::Length(n);
-    Counted {
+    Ending {
         outcome: outcome,
         tally: u,
     }
@@ -205,10 +189,10 @@ pub fn run_counted(text: &[u8], out: &mut [u8], t: Tally) -> Counted
 
 // The same, from a panel that is not opened and the tally that the caller lends.
 pub fn run_text(text: &[u8], out: &mut [u8], t: &mut Tally) -> Outcome
-    ensures { λ r. ⌜ Told (now (text .entry)) (now (t .entry)) (now (t .exit)) (now (out .entry)) (now (out .exit)) r ⌝ }
+    ensures { λ r. ⌜ Told lineAnswer (opened 0) (now (t .entry)) (now (text .entry)) (now (t .exit)) (now (out .entry)) (now (out .exit)) r ⌝ }
 {
     let before = *t;
-    let a = run_counted(text, out, before);
+    let a = run_tallied(text, out, before);
     *t = a.tally;
     a.outcome
 }

@@ -5,13 +5,13 @@ use mathlib.Core.Path.{_≡_, refl, _∙_}
 use Prim.Native.Nat.{_+_, _-_}
 use native.Mathlib.Omega.{arith}
 use lib.ListN.{length, drop}
-use Rattle.frames.specs.Reading.{upTo}
-use Rattle.frames.proofs.Lines.{up-to-on, up-to-stop, up-to-end}
+use Rattle.frames.specs.Reading.{lineLength}
+use Rattle.frames.proofs.Lines.{length-on, length-stop, length-end}
 use Rattle.frames.proofs.line_end.Statement.{statement}
 use Rattle.frames.proofs.line_end.Tie as tie
 
 abbrev Inv-loop : tie.InvT-loop
-Inv-loop text from i₀ i = i + upTo (drop i text) ≡ from + upTo (drop from text)
+Inv-loop text from i₀ i = i + lineLength (drop i text) ≡ from + lineLength (drop from text)
 
 abbrev μ-loop : tie.MeasureT-loop
 μ-loop text from i₀ i = length text - i
@@ -26,7 +26,7 @@ returns : tie.Need-returns Inv-loop μ-loop
 returns c =
     let a = c .before .before .before .loop in
     let b = c .before .before .before .before in
-    up-to-stop (b .args .text .now) (a .i) (omega arith) (c .if1 .taken) ∙ a .inv
+    length-stop (b .args .text .now) (a .i) (omega arith) (c .if1 .taken) ∙ a .inv
 
 add-i : tie.Need-add-i Inv-loop μ-loop
 add-i c = search needs
@@ -38,13 +38,13 @@ loop-again : tie.Need-loop-again Inv-loop μ-loop
 loop-again c =
     let a = c .before .before .before .loop in
     let b = c .before .before .before .before in
-    up-to-on (b .args .text .now) (a .i) (omega arith) (c .if1 .left) ∙ a .inv
+    length-on (b .args .text .now) (a .i) (omega arith) (c .if1 .left) ∙ a .inv
 
 returns-2 : tie.Need-returns-2 Inv-loop μ-loop
 returns-2 c =
     let a = c .before .loop in
     let b = c .before .before in
-    up-to-end (b .args .text .now) (a .i) (omega arith) ∙ a .inv
+    length-end (b .args .text .now) (a .i) (omega arith) ∙ a .inv
 
 pub line-end-spec : {M : Type 1} → statement M
 line-end-spec =

@@ -1,100 +1,110 @@
--- `frames::read_frame` meets its contract. Assumes nothing.
-use mathlib.Core.Path.{sym, _∙_}
-use native.Mathlib.Omega.{arith}
-use Rattle.frames.proofs.Reading.{open-is, open-not, remove-is, remove-not, touch-is, touch-not}
-use Rattle.frames.proofs.Reading.{pair-read, pair-other, plan-read, plan-other, add-read, add-few, add-bit6, many-read, other-read}
+-- `frames::read_frame` meets its contract: by the kind, whose length fits. Assumes nothing.
 use borrow.Author.Needs.{needs}
+use borrow.Author.Tests.{not-true, not-false}
+use mathlib.Core.Path.{_≡_, refl, sym, _∙_}
+use mathlib.Core.Bool.{true, false, _&&_}
+use mathlib.Core.List.{_∷_}
+use lib.Dec.{eqb}
+use lib.ListN.{take, drop}
+use Rattle.panel.specs.Commands.{hasBit6, anyOf}
+use Prim.Native.Nat.{ℕ, _≤_}
+use native.Mathlib.Omega.{arith}
+use Rattle.fieldset.specs.Tables.{at}
+use Rattle.frames.specs.Frames.{fitsKind, checkedFrame}
+use Rattle.frames.proofs.Reading.{fits-other, fits-short, unfit-read, bit6-read, exact-read, range-read}
 use Rattle.frames.proofs.read_frame.Statement.{statement}
 use Rattle.frames.proofs.read_frame.Tie as tie
 
 element-copy-out-kind : tie.Need-element-copy-out-kind
 element-copy-out-kind c = search needs
 
-element-copy-out-t11 : tie.Need-element-copy-out-t11
-element-copy-out-t11 c = search needs
+fits-kind-requires : tie.Need-fits-kind-requires
+fits-kind-requires c κs = search needs
 
 returns : tie.Need-returns
-returns c = (pair-read _ _ (c .before .before .before .before .pre) 1 (c .before .before .if1 .taken) (c .before .if2 .taken) open-is, omega arith)
+returns c =
+    let s = c .before .before .before in
+    unfit-read (s .args .frame .now) (s .args .n) (s .pre) (sym (c .before .fits-kind .ensures) ∙ not-true _ (c .if1 .taken))
 
-returns-2 : tie.Need-returns-2
-returns-2 c = (pair-other _ _ (c .before .before .before .pre) 1 (c .before .if1 .taken) (c .if2 .left) open-not, omega arith)
+-- where the match begins the length fits the kind
+fits : (c : tie.Else1) → let s = c .before .before .before .args in fitsKind (at (s .frame .now) 0) (s .n) ≡ true
+fits c = sym (c .before .fits-kind .ensures) ∙ not-false _ (c .if1 .left)
 
-returns-3 : tie.Need-returns-3
-returns-3 c = (add-few _ _ (c .before .before .before .before .pre) (c .before .if3 .taken) (c .if4 .taken), omega arith)
+-- a kind with one length
+exactly : (c : tie.Else1) → let s = c .before .before .before .args in
+    (k : ℕ) → at (s .frame .now) 0 ≡ k → (m : ℕ) → fitsKind k (s .n) ≡ eqb (s .n) m → eqb k 0x02 && anyOf hasBit6 (drop 3 (take (s .n) (s .frame .now))) ≡ false
+    → take m (k ∷ at (s .frame .now) 1 ∷ at (s .frame .now) 2 ∷ drop 3 (s .frame .now)) ≡ checkedFrame (take (s .n) (s .frame .now))
+exactly c k kind m one low = let s = c .before .before .before in exact-read (s .args .frame .now) (s .args .n) (s .pre) k kind (fits c) m one low
 
-returns-4 : tie.Need-returns-4
-returns-4 c = (many-read _ _ (c .before .before .before .before .before .pre) (omega arith), omega arith)
+element-copy-out-t13 : tie.Need-element-copy-out-t13
+element-copy-out-t13 c = search needs
 
 has-bit6-requires : tie.Need-has-bit6-requires
-has-bit6-requires c κs = search needs
+has-bit6-requires c κs = let s = c .before .before .before .before in (omega (arith, fits-short _ (s .args .n) (fits (c .before))), s .pre)
 
-returns-5 : tie.Need-returns-5
-returns-5 c =
-    let a = c .before .before .before .before in
-    (add-bit6 _ _ (a .before .before .before .pre) (a .if3 .taken) (sym (c .before .has-bit6 .ensures) ∙ c .if6 .taken), omega arith)
+returns-2 : tie.Need-returns-2
+returns-2 c =
+    let s = c .before .before .before .before .before .before in
+    bit6-read (s .args .frame .now) (s .args .n) (s .pre) 0x02 (c .before .before .match .keys2) (fits (c .before .before .before)) (sym (c .before .has-bit6 .ensures) ∙ c .if2 .taken)
 
-element-copy-out-t20 : tie.Need-element-copy-out-t20
-element-copy-out-t20 c = search needs
+element-copy-out-t18 : tie.Need-element-copy-out-t18
+element-copy-out-t18 c = search needs
 
-element-copy-out-t23 : tie.Need-element-copy-out-t23
-element-copy-out-t23 c = search needs
+element-copy-out-t21 : tie.Need-element-copy-out-t21
+element-copy-out-t21 c = search needs
 
-returns-6 : tie.Need-returns-6
-returns-6 c =
-    let a = c .before .before .before .before .before .before in
-    let h = c .before .before in
-    (add-read _ _ (a .before .before .before .pre) (a .if3 .taken) (omega arith) (omega arith) (sym (h .before .has-bit6 .ensures) ∙ h .if6 .left), omega arith)
+element-copy-out-t24 : tie.Need-element-copy-out-t24
+element-copy-out-t24 c = search needs
 
 element-copy-out-t27 : tie.Need-element-copy-out-t27
 element-copy-out-t27 c = search needs
 
+returns-3 : tie.Need-returns-3
+unfolding fitsKind
+returns-3 c = exactly (c .before .before) 0x01 (c .before .match .keys1) 2 refl refl
+
+returns-4 : tie.Need-returns-4
+unfolding fitsKind
+returns-4 c =
+    let h = c .before .before in
+    let m = h .before .before in
+    let s = m .before .before .before .before in
+    range-read (s .args .frame .now) (s .args .n) (s .pre) 0x02 (m .match .keys2) (fits (m .before)) 4 11 refl (omega arith) (sym (h .before .has-bit6 .ensures) ∙ h .if2 .left)
+
+returns-5 : tie.Need-returns-5
+unfolding fitsKind
+returns-5 c = exactly (c .before .before) 0x03 (c .before .match .keys3) 2 refl refl
+
+returns-6 : tie.Need-returns-6
+unfolding fitsKind
+returns-6 c = exactly (c .before .before) 0x04 (c .before .match .keys4) 2 refl refl
+
 returns-7 : tie.Need-returns-7
-returns-7 c = (pair-read _ _ (c .before .before .before .before .before .before .pre) 3 (c .before .before .if7 .taken) (c .before .if8 .taken) remove-is, omega arith)
+unfolding fitsKind
+returns-7 c = exactly (c .before) 0x05 (c .match .keys5) 1 refl refl
 
 returns-8 : tie.Need-returns-8
-returns-8 c = (pair-other _ _ (c .before .before .before .before .before .pre) 3 (c .before .if7 .taken) (c .if8 .left) remove-not, omega arith)
-
-element-copy-out-t32 : tie.Need-element-copy-out-t32
-element-copy-out-t32 c = search needs
-
-returns-9 : tie.Need-returns-9
-returns-9 c = (pair-read _ _ (c .before .before .before .before .before .before .before .pre) 4 (c .before .before .if9 .taken) (c .before .if10 .taken) touch-is, omega arith)
-
-returns-10 : tie.Need-returns-10
-returns-10 c = (pair-other _ _ (c .before .before .before .before .before .before .pre) 4 (c .before .if9 .taken) (c .if10 .left) touch-not, omega arith)
-
-returns-11 : tie.Need-returns-11
-returns-11 c = (plan-read _ _ (c .before .before .before .before .before .before .before .pre) (c .before .if11 .taken) (c .if12 .taken), omega arith)
-
-returns-12 : tie.Need-returns-12
-returns-12 c = (plan-other _ _ (c .before .before .before .before .before .before .before .pre) (c .before .if11 .taken) (c .if12 .left), omega arith)
-
-returns-13 : tie.Need-returns-13
-returns-13 c =
-    let a = c .before .before in
-    (other-read _ _ (a .before .before .before .before .pre) (a .before .before .if1 .left) (a .before .if3 .left) (a .if7 .left) (c .before .if9 .left) (c .if11 .left), omega arith)
+returns-8 c =
+    let s = c .before .before .before .before in
+    unfit-read (s .args .frame .now) (s .args .n) (s .pre) (sym (fits-other _ _ (c .match .rest)))
 
 pub read-frame-spec : {M : Type 1} → statement M
 read-frame-spec =
     tie.close
     (tie.spec
     element-copy-out-kind
-    element-copy-out-t11
+    fits-kind-requires
     returns
+    element-copy-out-t13
+    has-bit6-requires
     returns-2
+    element-copy-out-t18
+    element-copy-out-t21
+    element-copy-out-t24
+    element-copy-out-t27
     returns-3
     returns-4
-    has-bit6-requires
     returns-5
-    element-copy-out-t20
-    element-copy-out-t23
     returns-6
-    element-copy-out-t27
     returns-7
-    returns-8
-    element-copy-out-t32
-    returns-9
-    returns-10
-    returns-11
-    returns-12
-    returns-13)
+    returns-8)

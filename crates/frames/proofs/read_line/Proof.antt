@@ -1,8 +1,9 @@
 -- `frames::read_line` meets its contract. Assumes nothing.
+use borrow.Author.Needs.{needs}
 use mathlib.Core.Path.{refl}
 use lib.ListN.{replicate}
-use Rattle.frames.proofs.Reading.{full, read-bad, read-short, read-long}
-use borrow.Author.Needs.{needs}
+use Rattle.hex.specs.Hex.{frameRoom}
+use Rattle.frames.proofs.Reading.{full, read-bad, read-good}
 use Rattle.frames.proofs.read_line.Statement.{statement}
 use Rattle.frames.proofs.read_line.Tie as tie
 
@@ -15,29 +16,25 @@ enum-told c = search needs
 enum-known-d : tie.Need-enum-known-d
 enum-known-d c = search needs
 
+kept-requires : tie.Need-kept-requires
+kept-requires c κs = search needs
+
 read-frame-requires : tie.Need-read-frame-requires
 read-frame-requires c κs =
-    let d = c .before .before .before .before .decode in
-    full _ (replicate 12 0) _ (d .result) refl (d .ensures .0) (d .ensures .1)
+    let d = c .before .before .before .before .before .decode in
+    full _ (replicate frameRoom 0) _ (d .result) refl (d .ensures .0) (d .ensures .1)
 
 returns : tie.Need-returns
 returns c =
     let d = c .before .before .decode in
-    read-bad _ (replicate 12 0) _ (d .result) refl (d .ensures .0) (d .ensures .1) (c .enum-told .given .1)
+    read-bad _ (replicate frameRoom 0) _ (d .result) refl (d .ensures .0) (d .ensures .1) (c .enum-told .given .1)
 
 returns-2 : tie.Need-returns-2
 returns-2 c =
     let d = c .before .before .before .before .before .before .decode in
     let n = c .before .before .before .before .d .given in
-    let r = c .before .read-frame in
-    read-short _ (replicate 12 0) _ (d .result) refl (d .ensures .0) (d .ensures .1) (n .0 .0) (n .1) (r .result) (r .ensures .0) (r .ensures .1) (c .if1 .taken)
-
-returns-3 : tie.Need-returns-3
-returns-3 c =
-    let d = c .before .before .before .before .before .before .decode in
-    let n = c .before .before .before .before .d .given in
-    let r = c .before .read-frame in
-    read-long _ (replicate 12 0) _ (d .result) refl (d .ensures .0) (d .ensures .1) (n .0 .0) (n .1) (r .result) (r .ensures .0) (c .if1 .left)
+    let r = c .read-frame in
+    read-good _ (replicate frameRoom 0) _ (d .result) refl (d .ensures .0) (d .ensures .1) (n .0 .0) (n .1) _ (c .before .before .kept .ensures) (r .result) (r .ensures)
 
 pub read-line-spec : {M : Type 1} → statement M
 read-line-spec =
@@ -46,7 +43,7 @@ read-line-spec =
     decode-requires
     enum-told
     enum-known-d
+    kept-requires
     read-frame-requires
     returns
-    returns-2
-    returns-3)
+    returns-2)

@@ -3,10 +3,10 @@ use borrow.Author.Needs.{needs}
 use Rattle.panel_c.proofs.Told.{told-length, told-too-long}
 use Rattle.panel_c.proofs.panel_run_text.Statement.{statement}
 use Rattle.panel_c.proofs.panel_run_text.Tie as tie
-use Rattle.text.proofs.run_counted.Reads as run-counted-reads
+use Rattle.text.proofs.run_tallied.Reads as run-tallied-reads
 
-run-counted-requires : tie.Need-run-counted-requires
-run-counted-requires c κs = search needs
+run-tallied-requires : tie.Need-run-tallied-requires
+run-tallied-requires c κs = search needs
 
 enum-known-outcome : tie.Need-enum-known-outcome
 enum-known-outcome c = search needs
@@ -19,22 +19,22 @@ same-length c = search needs
 
 returns : tie.Need-returns
 returns c =
-    let a = c .before .before .before .before .before .run-counted .ensures in
-    (told-length _ _ _ (a .outcome) _ (c .before .outcome .given .1), a .buffer)
+    let a = c .before .before .before .before .before .run-tallied .ensures in
+    (told-length _ _ _ _ _ (a .outcome) _ (c .before .outcome .given .1), a .buffer)
 
 same-length-2 : tie.Need-same-length-2
 same-length-2 c = search needs
 
 returns-2 : tie.Need-returns-2
 returns-2 c =
-    let a = c .before .before .before .before .run-counted .ensures in
-    (told-too-long _ _ _ (a .outcome) (c .enum-told .given .1), a .buffer)
+    let a = c .before .before .before .before .run-tallied .ensures in
+    (told-too-long _ _ _ _ _ (a .outcome) (c .enum-told .given .1), a .buffer)
 
 pub panel-run-text-spec : {M : Type 1} → statement M
 panel-run-text-spec =
     tie.close
     (tie.spec
-    run-counted-requires
+    run-tallied-requires
     enum-known-outcome
     enum-told
     same-length

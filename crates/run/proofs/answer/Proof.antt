@@ -5,6 +5,9 @@ use Prim.Native.Nat.{_-_, _≤_}
 use native.Mathlib.Omega.{arith}
 use lib.ListN.{length}
 use lib.Seq.{length-take-le}
+use Rattle.panel.specs.Panels.{opened}
+use Rattle.panel.specs.Legal.{Legal}
+use Rattle.frames.specs.Frames.{lineAnswer}
 use Rattle.run.proofs.Sending.{Sent, sent-none, piece-fits, sent-more, last-fits}
 use Rattle.run.proofs.answer.Statement.{statement}
 use Rattle.run.proofs.answer.Tie as tie
@@ -15,7 +18,7 @@ use Rattle.text.proofs.lines_from.Reads as lines-from-reads
 use Rattle.text.proofs.put_tally.Reads as put-tally-reads
 
 abbrev Inv-loop : tie.InvT-loop
-Inv-loop text out₀ next₀ p₀ t₀ out next p t = Sent text out next p t
+Inv-loop text out₀ next₀ p₀ t₀ out next p t = Sent lineAnswer Legal (opened 0) text out next p t
 
 abbrev μ-loop : tie.MeasureT-loop
 μ-loop text out₀ next₀ p₀ t₀ out next p t = length text - next
@@ -27,7 +30,7 @@ unopened-requires : tie.Need-unopened-requires Inv-loop μ-loop
 unopened-requires c κs = search needs
 
 loop-holds : tie.Need-loop-holds Inv-loop μ-loop
-loop-holds c = sent-none _ _ _ (sym (c .before .large-buffer .ensures)) (c .unopened .ensures .0) (c .unopened .ensures .1)
+loop-holds c = sent-none _ _ _ _ _ _ (sym (c .before .large-buffer .ensures)) (c .unopened .ensures .0) (c .unopened .ensures .1)
 
 slice-aggregate-lines-from : tie.Need-slice-aggregate-lines-from Inv-loop μ-loop
 slice-aggregate-lines-from c = search needs
@@ -37,7 +40,7 @@ lines-from-requires c κs = let s = c .before .before .loop .inv in (s .within, 
 
 -- the piece that is written
 fits : (c : tie.After-lines-from Inv-loop μ-loop) → c .lines-from .result .written ≤ length (c .lines-from .last .1 .1 .1 .1 .0)
-fits c = let e = c .lines-from .ensures in piece-fits _ _ _ _ _ (c .before .before .before .loop .inv) _ _ _ _ (e .0) (e .1)
+fits c = let e = c .lines-from .ensures in piece-fits _ _ _ _ _ _ _ _ (c .before .before .before .loop .inv) _ _ _ _ (e .0) (e .1)
 
 array-share-prefix-out : tie.Need-array-share-prefix-out Inv-loop μ-loop
 array-share-prefix-out c = fits (c .before .before .before)
@@ -61,7 +64,7 @@ loop-again : tie.Need-loop-again Inv-loop μ-loop
 loop-again c =
     let l = c .before .before .before .before .before .before in
     let e = l .lines-from .ensures in
-    sent-more _ _ _ _ _ (l .before .before .before .loop .inv) _ _ _ _ (e .0) (e .1)
+    sent-more _ _ _ _ _ _ _ _ (l .before .before .before .loop .inv) _ _ _ _ (e .0) (e .1)
 
 slice-aggregate-put-tally : tie.Need-slice-aggregate-put-tally Inv-loop μ-loop
 slice-aggregate-put-tally c = search needs
@@ -71,7 +74,7 @@ put-tally-requires c κs = search needs
 
 -- the tally that ends it
 ends : (c : tie.After-put-tally Inv-loop μ-loop) → c .put-tally .result ≤ length (c .put-tally .last .0)
-ends c = let e = c .put-tally .ensures in last-fits _ _ _ _ _ (c .before .before .before .loop .inv) _ _ (e .0) (e .1)
+ends c = let e = c .put-tally .ensures in last-fits _ _ _ _ _ _ _ _ (c .before .before .before .loop .inv) _ _ (e .0) (e .1)
 
 array-share-prefix-out-2 : tie.Need-array-share-prefix-out-2 Inv-loop μ-loop
 array-share-prefix-out-2 c = ends (c .before)

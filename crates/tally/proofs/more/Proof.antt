@@ -1,6 +1,6 @@
 -- `tally::more` meets its contract. Assumes nothing.
 use borrow.Author.Tests.{lt-ltb, le-ltb}
-use Rattle.tally.specs.Tallies.{counted}
+use Rattle.tally.specs.Tallies.{more}
 use borrow.Author.Needs.{needs}
 use Rattle.tally.proofs.more.Statement.{statement}
 use Rattle.tally.proofs.more.Tie as tie
@@ -9,11 +9,11 @@ add-result : tie.Need-add-result
 add-result c = search needs
 
 returns : tie.Need-returns
-unfolding counted
+unfolding more
 returns c = simp (lt-ltb _ _ (c .if1 .taken))
 
 returns-2 : tie.Need-returns-2
-unfolding counted
+unfolding more
 returns-2 c = simp (le-ltb _ _ (c .if1 .left))
 
 pub more-spec : {M : Type 1} → statement M

@@ -1,50 +1,60 @@
--- `text::answer_lines` meets its contract.
+-- `text::answer_lines` meets its contract. What one line does is the law `line-does`; the loop knows of a line's answer no more. Assumes nothing.
 use borrow.Author.Needs.{needs}
 use borrow.Author.Tests.{leb-true, leb-false}
 use mathlib.Core.Path.{_≡_, refl, sym, ap, _∙_, subst}
 use mathlib.Core.Logic.{⊎-elim}
-use mathlib.Core.List.{List}
-use Prim.Native.Nat.{ℕ, _-_, _≤_}
+use mathlib.Core.List.{List, _∷_}
+use Prim.Native.Nat.{ℕ, _-_, _≤_, _<_}
 use native.Mathlib.Omega.{arith}
-use lib.ListN.{length, take, drop, length-take}
+use lib.ListN.{length, getD, take, drop, length-take}
 use lib.Seq.{length-sets, length-take-le}
-use Rattle.panel.specs.Commands.{opening, adding, removing, touching, performed}
+use Rattle.panel.specs.Commands.{adding, performed}
+use Rattle.panel.specs.Legal.{Legal}
 use Rattle.turning.specs.Outcomes.{Gives}
 use Rattle.tally.specs.Tallies.{tallied}
-use Rattle.frames.specs.declared.Command.the-variants.{Open, Add, Remove, Touch}
+use Rattle.frames.specs.declared.Command.the-variants.{Open, Add, Remove, Touch, Refused}
+use Rattle.frames.specs.Frames.{lineAnswer}
 use Rattle.frames.proofs.Lines.{end-within, behind-on}
-use Rattle.text.proofs.Arms.{Did, open-command, add-command, remove-command, touch-command, did, did-refuse, did-plan, tail, add-reaches, both}
-use Rattle.text.proofs.Going.{Going, start, turn, finish-end, finish-full}
+use Rattle.frames.proofs.Outputs.{refusal-rows}
+use Rattle.frames.proofs.Reading.{add-reaches}
+use Rattle.text.proofs.Arms.{rowsLength, Performed, plain, gave, planned, did, tail}
+use Rattle.text.proofs.Going.{Did, Going, start, line-done, finish-end, finish-full}
 use Rattle.text.proofs.answer_lines.Statement.{statement}
 use Rattle.text.proofs.answer_lines.Tie as tie
-use Rattle.adding.proofs.add.Reads as add-reads
-use Rattle.frames.proofs.behind.Reads as behind-reads
-use Rattle.frames.proofs.line_end.Reads as line-end-reads
-use Rattle.frames.proofs.read_line.Reads as read-line-reads
-use Rattle.frames.proofs.refusal_of.Reads as refusal-of-reads
-use Rattle.frames.proofs.reply_bytes.Reads as reply-bytes-reads
-use Rattle.hex.proofs.put_line.Reads as put-line-reads
-use Rattle.opening.proofs.open.Reads as open-reads
-use Rattle.planning.proofs.plan.Reads as plan-reads
-use Rattle.removing.proofs.remove.Reads as remove-reads
-use Rattle.tally.proofs.counted_line.Reads as counted-line-reads
-use Rattle.touching.proofs.touch.Reads as touch-reads
 
 abbrev Inv-loop : tie.InvT-loop
-Inv-loop text from out₀ room at₀ q₀ u₀ n₀ rows₀ out at q u n rows = (length rows ≡ 192) × Going text from room q₀ u₀ out₀ out at q u n
+Inv-loop text from out₀ room at₀ q₀ u₀ n₀ rows₀ out at q u n rows =
+    (length rows ≡ rowsLength) × Going lineAnswer Legal text from room q₀ u₀ out₀ out (record { next = at; state = q; tally = u; written = n })
 
 abbrev μ-loop : tie.MeasureT-loop
 μ-loop text from out₀ room at₀ q₀ u₀ n₀ rows₀ out at q u n rows = length text - at
 
--- the loop, as the code behind the line's reading sees it
-abbrev loop-of : tie.After-frame Inv-loop μ-loop → tie.At-loop Inv-loop μ-loop
-loop-of c = c .before .before .before .before .before .before
+-- ---- waypoints
+
+-- the loop's test, from where the line's end is known, and from where the line is read
+abbrev loop-of : tie.Then1 Inv-loop μ-loop → tie.At-loop Inv-loop μ-loop
+loop-of c = c .before .before
+
+abbrev end-of : tie.After-frame Inv-loop μ-loop → tie.After-line-end Inv-loop μ-loop
+end-of c = c .before .before .before
+
+abbrev was : tie.After-frame Inv-loop μ-loop → tie.At-loop Inv-loop μ-loop
+was c = loop-of (end-of c .before)
 
 abbrev text-of : tie.At-loop Inv-loop μ-loop → List ℕ
 text-of c = c .before .before .before .args .text .now
 
+-- the arms of the match meet, from where the line is done
+abbrev met-of : tie.After-behind Inv-loop μ-loop → tie.After-reply-bytes Inv-loop μ-loop
+met-of c = c .before .before .before .before .before .before .before .before
+
+is-legal : (c : tie.After-frame Inv-loop μ-loop) → Legal (was c .loop .q)
+is-legal c = was c .loop .inv .1 .legal
+
+-- ---- the loop begins, and a line is read
+
 loop-holds : tie.Need-loop-holds Inv-loop μ-loop
-loop-holds c = (refl, start _ _ _ _ _ _ (c .before .before .pre .0) (c .before .before .pre .1))
+loop-holds c = (refl, start _ _ _ _ _ _ _ _ (c .before .before .pre .0) (c .before .before .pre .1))
 
 sub-if1 : tie.Need-sub-if1 Inv-loop μ-loop
 sub-if1 c = c .before .loop .inv .1 .fits
@@ -58,17 +68,23 @@ sub-read-line c = search needs
 part-read-line-start : tie.Need-part-read-line-start Inv-loop μ-loop
 part-read-line-start c = search needs
 
+-- where the line ends, and where the next begins
+ends : (c : tie.After-line-end Inv-loop μ-loop) → c .line-end .result ≤ length (text-of (loop-of (c .before)))
+ends c = let l = loop-of (c .before) in end-within (text-of l) (l .loop .at) (c .line-end .result) (c .before .before .loop-test .taken) (c .line-end .ensures)
+
 part-read-line-end : tie.Need-part-read-line-end Inv-loop μ-loop
-part-read-line-end c = end-within (text-of (c .before .before .before)) (c .before .before .before .loop .at) (c .line-end .result) (c .before .before .loop-test .taken) (c .line-end .ensures)
+part-read-line-end c = ends c
 
 read-line-requires : tie.Need-read-line-requires Inv-loop μ-loop
 read-line-requires c κs = search needs
+
+-- ---- the arms
 
 enum-known-command : tie.Need-enum-known-command Inv-loop μ-loop
 enum-known-command c = search needs
 
 open-requires : tie.Need-open-requires Inv-loop μ-loop
-open-requires c κs = loop-of (c .before .before .before) .loop .inv .1 .legal
+open-requires c κs = is-legal (c .before .before .before)
 
 enum-known-command-2 : tie.Need-enum-known-command-2 Inv-loop μ-loop
 enum-known-command-2 c = search needs
@@ -81,10 +97,10 @@ slice-aggregate-bytes c = let r = c .before .before .before .before .before .rea
 
 -- an add's frame reaches its field bytes
 tail-there : (c : tie.After-frame2 Inv-loop μ-loop)
-    → 3 ≤ length (take (c .before .before .before .before .before .read-line .result .len) (c .before .before .before .before .before .read-line .result .frame))
+    → let r = c .before .before .before .before .before .read-line .result in 3 ≤ length (take (r .len) (r .frame))
 tail-there c =
     let r = c .before .before .before .before .before .read-line in
-    let h = add-reaches (r .result .command) (r .result .len) _ _ (c .before .before .command2 .given .1) (r .ensures .reaches) in
+    let h = add-reaches _ (r .result) _ _ (r .ensures) (c .before .before .command2 .given .1) in
     omega (arith, h, r .ensures .short, r .ensures .full, length-take (r .result .len) (r .result .frame))
 
 sub-add : tie.Need-sub-add Inv-loop μ-loop
@@ -97,66 +113,85 @@ part-add-end : tie.Need-part-add-end Inv-loop μ-loop
 part-add-end c = search needs
 
 add-requires : tie.Need-add-requires Inv-loop μ-loop
-add-requires c κs = loop-of (c .before .before .before .before .before) .loop .inv .1 .legal
+add-requires c κs = is-legal (c .before .before .before .before .before)
 
 enum-known-command-3 : tie.Need-enum-known-command-3 Inv-loop μ-loop
 enum-known-command-3 c = search needs
 
 remove-requires : tie.Need-remove-requires Inv-loop μ-loop
-remove-requires c κs = loop-of (c .before .before .before) .loop .inv .1 .legal
+remove-requires c κs = is-legal (c .before .before .before)
 
 enum-known-command-4 : tie.Need-enum-known-command-4 Inv-loop μ-loop
 enum-known-command-4 c = search needs
 
 touch-requires : tie.Need-touch-requires Inv-loop μ-loop
-touch-requires c κs = loop-of (c .before .before .before) .loop .inv .1 .legal
+touch-requires c κs = is-legal (c .before .before .before)
 
 enum-told : tie.Need-enum-told Inv-loop μ-loop
 enum-told c = search needs
 
 mul-count : tie.Need-mul-count Inv-loop μ-loop
-mul-count c = omega (arith, loop-of (c .before .before .before) .loop .inv .1 .legal .few)
+mul-count c = omega (arith, is-legal (c .before .before .before) .few)
 
 plan-requires : tie.Need-plan-requires Inv-loop μ-loop
-plan-requires c κs = let l = loop-of (c .before .before .before .before) .loop .inv in (l .1 .legal, l .0)
+plan-requires c κs = let f = c .before .before .before .before in (is-legal f, was f .loop .inv .0)
 
 enum-known-command-5 : tie.Need-enum-known-command-5 Inv-loop μ-loop
 enum-known-command-5 c = search needs
 
--- the line, and what it was answered
-abbrev line-of : tie.At-match-came Inv-loop μ-loop → List ℕ
-line-of c =
-    let l = loop-of (c .before) in
-    take (c .before .before .before .before .line-end .result - l .loop .at) (drop (l .loop .at) (text-of l))
+-- the field bytes beside the command
+abbrev fields-of : tie.After-frame Inv-loop μ-loop → List ℕ
+fields-of c = let r = c .before .read-line .result in drop 3 (take (r .len) (r .frame))
 
-answered : (c : tie.At-match-came Inv-loop μ-loop) → Did (loop-of (c .before) .loop .q) (line-of c) (c .match .q) (c .match .reply) (c .match .rows) (c .match .count)
+-- by the arm that was taken
+answered : (c : tie.At-match-came Inv-loop μ-loop)
+    → let m = c .match in Performed (was (c .before) .loop .q) (c .before .before .read-line .result .command) (fields-of (c .before)) (m .q) (m .reply) (m .rows) (m .count)
 answered c =
-    let l = loop-of (c .before) .loop in
-    let r = c .before .before .read-line in
+    let l = was (c .before) .loop in
     let m = c .match in
-    let fields = drop 3 (take (r .result .len) (r .result .frame)) in
+    let r = c .before .before .read-line .result in
+    let simply = plain (l .q) (r .command) (fields-of (c .before)) (l .rows) (l .inv .0) (m .q) (m .reply) (m .rows) (m .count) in
+    let gives = gave (l .q) (r .command) (fields-of (c .before)) (l .rows) (l .inv .0) (m .q) (m .reply) (m .rows) (m .count) in
     ⊎-elim
-    (λ w. did (l .q) (line-of c) (r .result .command) fields (r .ensures .bytes) (l .rows) (l .inv .0) (Open _) (w .1 .given .1)
-    (opening _) (open-command _ fields) _ (w .3 .ensures) (m .q) (m .reply) (m .rows) (m .count) (w .5) (w .6) (w .7) (w .8))
+    (λ w. gives (Open _) (w .1 .given .1) _ _ (w .3 .ensures) refl (w .5) (w .6) (w .7) (w .8))
     (⊎-elim
-    (λ w. let g = subst (λ (x : List ℕ). Gives (w .5 .result) (performed (l .q) (adding (w .1 .given .0 .0) (w .1 .given .0 .1 .0) x))) (tail 3 (take (r .result .len) (r .result .frame))) (w .5 .ensures) in
-    did (l .q) (line-of c) (r .result .command) fields (r .ensures .bytes) (l .rows) (l .inv .0) (Add _ _) (w .1 .given .1)
-    (adding _ _ fields) (add-command _ _ fields) _ (g) (m .q) (m .reply) (m .rows) (m .count) (w .7) (w .8) (w .9) (w .10))
+    (λ w. let g = subst (λ (x : List ℕ). Gives (w .5 .result) (performed (l .q) (adding (w .1 .given .0 .0) (w .1 .given .0 .1 .0) x))) (tail 3 (take (r .len) (r .frame))) (w .5 .ensures) in
+    gives (Add _ _) (w .1 .given .1) _ _ g refl (w .7) (w .8) (w .9) (w .10))
     (⊎-elim
-    (λ w. did (l .q) (line-of c) (r .result .command) fields (r .ensures .bytes) (l .rows) (l .inv .0) (Remove _) (w .1 .given .1)
-    (removing _) (remove-command _ fields) _ (w .3 .ensures) (m .q) (m .reply) (m .rows) (m .count) (w .5) (w .6) (w .7) (w .8))
+    (λ w. gives (Remove _) (w .1 .given .1) _ _ (w .3 .ensures) refl (w .5) (w .6) (w .7) (w .8))
     (⊎-elim
-    (λ w. did (l .q) (line-of c) (r .result .command) fields (r .ensures .bytes) (l .rows) (l .inv .0) (Touch _) (w .1 .given .1)
-    (touching _) (touch-command _ fields) _ (w .3 .ensures) (m .q) (m .reply) (m .rows) (m .count) (w .5) (w .6) (w .7) (w .8))
+    (λ w. gives (Touch _) (w .1 .given .1) _ _ (w .3 .ensures) refl (w .5) (w .6) (w .7) (w .8))
     (⊎-elim
-    (λ w. did-plan (l .q) (line-of c) (r .result .command) fields (r .ensures .bytes) (l .rows) (l .inv .0) (w .1 .given .1) (l .inv .1 .legal)
-    _ _ (w .4 .ensures) (m .q) (m .reply) (m .rows) (m .count) (w .5) (w .6) (w .7) (w .8))
-    (λ w. did-refuse (l .q) (line-of c) (r .result .command) fields (r .ensures .bytes) (l .rows) (l .inv .0) _ (w .1 .given .1) (l .inv .1 .legal)
-    (m .q) (m .reply) (m .rows) (m .count) (w .3) (w .4) (w .5) (w .6))))))
+    (λ w. planned (l .q) (r .command) (fields-of (c .before)) (l .rows) (l .inv .0) (m .q) (m .reply) (m .rows) (m .count) (w .1 .given .1) (is-legal (c .before))
+    _ _ (w .4 .ensures) (w .5) (w .6) (w .7) (w .8))
+    (λ w. simply (Refused _) (w .1 .given .1) (l .q) _ refl (is-legal (c .before)) (w .3) (w .4) (w .5) (w .6))))))
     (m .came)
+
+-- ---- what one line does
 
 reply-bytes-requires : tie.Need-reply-bytes-requires Inv-loop μ-loop
 reply-bytes-requires c κs = search needs
+
+-- the line, and its reply
+abbrev line-of : tie.After-frame Inv-loop μ-loop → List ℕ
+line-of c = let l = was c in take (end-of c .line-end .result - l .loop .at) (drop (l .loop .at) (text-of l))
+
+abbrev reply-of : tie.After-reply-bytes Inv-loop μ-loop → List ℕ
+reply-of c = let m = c .before .match in getD (c .reply-bytes .result) 0 0 ∷ getD (c .reply-bytes .result) 1 0 ∷ take (m .count) (m .rows)
+
+line-does : (c : tie.After-reply-bytes Inv-loop μ-loop)
+    → let f = c .before .before in Did lineAnswer Legal (was f .loop .q) (line-of f) (c .before .match .q) (reply-of c)
+line-does c =
+    let f = c .before .before in
+    let m = c .before .match in
+    let b = c .reply-bytes in
+    did _ (line-of f) _ (fields-of f) (f .before .read-line .ensures .bytes) (m .q) (m .reply) (m .rows) (m .count) (answered (c .before)) (b .result) (b .ensures .0) (b .ensures .1)
+
+-- the rows that are written
+rows-fit : (c : tie.At-match-came Inv-loop μ-loop) → c .match .count ≤ length (c .match .rows)
+rows-fit c = let d = answered c in omega (arith, d .full, d .short)
+
+-- ---- the line is written, and the loop goes on
 
 array-read-put-line : tie.Need-array-read-put-line Inv-loop μ-loop
 array-read-put-line c = search needs
@@ -165,15 +200,15 @@ array-read-put-line-2 : tie.Need-array-read-put-line-2 Inv-loop μ-loop
 array-read-put-line-2 c = search needs
 
 array-share-prefix-rows : tie.Need-array-share-prefix-rows Inv-loop μ-loop
-array-share-prefix-rows c = let d = answered (c .before .before) in omega (arith, d .full, d .short)
+array-share-prefix-rows c = rows-fit (c .before .before)
 
 slice-aggregate-put-line : tie.Need-slice-aggregate-put-line Inv-loop μ-loop
-slice-aggregate-put-line c = let d = answered (c .before .before .before) in sym (length-take-le _ _ (omega (arith, d .full, d .short)))
+slice-aggregate-put-line c = sym (length-take-le _ _ (rows-fit (c .before .before .before)))
 
 put-line-requires : tie.Need-put-line-requires Inv-loop μ-loop
 put-line-requires c κs =
     let m = c .before .before .before in
-    let l = loop-of (m .before) in
+    let l = was (m .before) in
     omega (arith, answered m .short, length-take (m .match .count) (m .match .rows), l .loop .inv .1 .fits, l .before .before .before .pre .2)
 
 array-read-refusal-of : tie.Need-array-read-refusal-of Inv-loop μ-loop
@@ -185,45 +220,41 @@ array-read-refusal-of-2 c = search needs
 refusal-of-requires : tie.Need-refusal-of-requires Inv-loop μ-loop
 refusal-of-requires c κs = search needs
 
-counted-line-requires : tie.Need-counted-line-requires Inv-loop μ-loop
-counted-line-requires c κs = search needs
+tallied-line-requires : tie.Need-tallied-line-requires Inv-loop μ-loop
+tallied-line-requires c κs = search needs
 
 behind-requires : tie.Need-behind-requires Inv-loop μ-loop
 behind-requires c κs = search needs
 
 loop-less : tie.Need-loop-less Inv-loop μ-loop
 loop-less c =
-    let m = c .before .before .before .before .before .before .before .before .before in
-    let l = loop-of (m .before) in
-    let e = m .before .before .before .before .line-end in
-    omega (arith, c .behind .ensures, behind-on (text-of l) (l .loop .at) (e .result) (m .before .before .before .before .before .before .loop-test .taken) (e .ensures), end-within (text-of l) (l .loop .at) (e .result) (m .before .before .before .before .before .before .loop-test .taken) (e .ensures))
+    let e = end-of (met-of c .before .before) in
+    let l = loop-of (e .before) in
+    omega (arith, c .behind .ensures, behind-on (text-of l) (l .loop .at) (e .line-end .result) (e .before .before .loop-test .taken) (e .line-end .ensures), ends e)
 
 loop-again : tie.Need-loop-again Inv-loop μ-loop
 loop-again c =
-    let m = c .before .before .before .before .before .before .before .before .before in
-    let l = loop-of (m .before) in
-    let e = m .before .before .before .before .line-end in
-    let b = c .before .before .before .before .before .before .before .before .reply-bytes in
+    let m = met-of c in
+    let f = m .before .before in
+    let e = end-of f in
     let w = c .before .before .before .before .before .put-line .ensures in (
-      answered m .full,
-      turn _ _ _ _ _ _ _ _ _ _ _ (l .loop .inv .1) (m .before .before .before .before .before .before .loop-test .taken) (leb-true _ _ (m .before .before .before .before .before .if1 .taken)) (e .result) (e .ensures) (line-of m) refl
-          (m .match .q) (m .match .reply) (m .match .rows) (m .match .count) (answered m) _ _ (sym (b .ensures .0) ∙ both (b .result) (b .ensures .1))
-          _ (w .0) _ (w .1)
-          _ (c .before .counted-line .ensures ∙ ap (tallied (l .loop .u)) (c .before .before .refusal-of .ensures))
-          _ (c .behind .ensures),
+      answered (m .before) .full,
+      line-done _ _ _ _ _ _ _ _ _ _ (was f .loop .inv .1) (e .before .before .loop-test .taken) (leb-true _ _ (e .before .if1 .taken)) (e .line-end .result) (e .line-end .ensures)
+          (line-of f) refl _ _ (reply-of m) (line-does m) (w .0) (w .1)
+          (c .before .tallied-line .ensures ∙ ap (tallied (was f .loop .u)) (c .before .before .refusal-of .ensures ∙ refusal-rows _ _ _)) (c .behind .ensures),
     )
 
 same-length : tie.Need-same-length Inv-loop μ-loop
 same-length c = ap length (c .before .before .loop .inv .1 .stored) ∙ simp length-sets
 
 returns : tie.Need-returns Inv-loop μ-loop
-returns c = finish-full _ _ _ _ _ _ _ _ _ _ _ (c .before .before .loop .inv .1) (omega (arith, leb-false))
+returns c = finish-full _ _ _ _ _ _ _ _ _ _ (c .before .before .loop .inv .1) (omega (arith, leb-false))
 
 same-length-2 : tie.Need-same-length-2 Inv-loop μ-loop
 same-length-2 c = ap length (c .before .loop .inv .1 .stored) ∙ simp length-sets
 
 returns-2 : tie.Need-returns-2 Inv-loop μ-loop
-returns-2 c = finish-end _ _ _ _ _ _ _ _ _ _ _ (c .before .loop .inv .1) (omega arith)
+returns-2 c = finish-end _ _ _ _ _ _ _ _ _ _ (c .before .loop .inv .1) (omega arith)
 
 pub answer-lines-spec : {M : Type 1} → statement M
 answer-lines-spec =
@@ -264,7 +295,7 @@ answer-lines-spec =
     array-read-refusal-of
     array-read-refusal-of-2
     refusal-of-requires
-    counted-line-requires
+    tallied-line-requires
     behind-requires
     loop-less
     loop-again

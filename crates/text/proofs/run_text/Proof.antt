@@ -1,6 +1,6 @@
--- `text::run_text` meets its contract: a walk of its MIR, by hand. The borrow of the tally is opened and the record copied out; `run_counted` is called on the text, the buffer and the copy; the new tally is stored out of its answer, and the borrow is closed at it.
--- The text's borrow can be copied: one copy goes to `run_counted`, and one is kept for the exit. The buffer's goes to `run_counted` for good. The borrow of the tally stays open over the call, at a lifetime of its own.
--- All that is known of `run_counted` is that it meets its contract. Assumes nothing.
+-- `text::run_text` meets its contract: a walk of its MIR, by hand. The borrow of the tally is opened and the record copied out; `run_tallied` is called on the text, the buffer and the copy; the new tally is stored out of its answer, and the borrow is closed at it.
+-- The text's borrow can be copied: one copy goes to `run_tallied`, and one is kept for the exit. The buffer's goes to `run_tallied` for good. The borrow of the tally stays open over the call, at a lifetime of its own.
+-- All that is known of `run_tallied` is that it meets its contract. Assumes nothing.
 use mathlib.Core.Path.{_≡_, refl, ap}
 use Prim.Native.Nat.{ℕ}
 use mathlib.Core.List.{[], _∷_, List}
@@ -44,23 +44,25 @@ use denote.Exit.{yes}
 use Rattle.tally.specs.declared.Tally.{Tally}
 use Rattle.tally.proofs.Tally as T
 use Rattle.tally.proofs.Tally.Laws as T′
-use Rattle.text.specs.declared.Counted.{Counted}
-use Rattle.frames.specs.declared.Outcome.{Outcome}
-use Rattle.frames.proofs.Outcome as O
-use Rattle.frames.proofs.Outcome.Laws as O′
+use Rattle.text.specs.declared.Ending.{Ending}
+use Rattle.text.specs.declared.Outcome.{Outcome}
+use Rattle.text.proofs.Outcome as O
+use Rattle.text.proofs.Outcome.Laws as O′
+use Rattle.panel.specs.Panels.{opened}
+use Rattle.frames.specs.Frames.{lineAnswer}
 use Rattle.text.specs.Runs.{Told}
-use Rattle.text.proofs.Counted as S
-use Rattle.text.proofs.Counted.Laws as S′
-use Rattle.text.proofs.run_counted as run-counted
-use Rattle.text.proofs.run_counted.Symbol as run-counted-def
-use Rattle.text.proofs.run_counted.Symbol.{name as #text·run-counted}
-use Rattle.text.proofs.run_counted.Met as run-counted-thm
+use Rattle.text.proofs.Ending as S
+use Rattle.text.proofs.Ending.Laws as S′
+use Rattle.text.proofs.run_tallied as run-tallied
+use Rattle.text.proofs.run_tallied.Symbol as run-tallied-def
+use Rattle.text.proofs.run_tallied.Symbol.{name as #text·run-tallied}
+use Rattle.text.proofs.run_tallied.Met as run-tallied-thm
 use Rattle.text.proofs.run_text.Key.{name as #text·run-text}
 use Rattle.text.proofs.run_text as f
 use Rattle.text.proofs.run_text.Statement as stated
 use Rattle.text.proofs.run_text.Code as code
 
--- the text is still owned at exit; the buffer was given to `run_counted`; the borrow of the tally is still owned
+-- the text is still owned at exit; the buffer was given to `run_tallied`; the borrow of the tally is still owned
 abbrev stayed : Stays (f.ended .signature .params) (f.ended .kept)
 stayed = (stay-none-slice (0 ∷ []) tt (plain (λ _. u8)) yes, (gave-slice (1 ∷ []) tt (plain (λ _. u8)), (stay-ref (2 ∷ []) tt (plain (λ _. T.the-row)), tt)))
 
@@ -76,13 +78,13 @@ outcome-vals = EL.vals O.the-type O′.the-laws
 abbrev outcome-val : Outcome → Val
 outcome-val = EL.val O.the-type O′.the-laws
 
--- what `run_counted`'s parameters are at exit: the last list of the `&mut`, and nothing of the others
+-- what `run_tallied`'s parameters are at exit: the last list of the `&mut`, and nothing of the others
 abbrev Last : Type 0
 Last = Unit {0} × (List ℕ × (Unit {0} × Unit {0}))
 
 module _ {M : Type 1} (𝓤 : URA M) (H : Heap 𝓤) (A : Atoms 𝓤) (at-mem : Memory → SProp 𝓤) (run : Routine → Fun 𝓤) where
   abbrev Called : Contract 𝓤
-  Called = tripleOf 𝓤 H A run-counted.signature (run-counted.spec 𝓤 H A at-mem run)
+  Called = tripleOf 𝓤 H A run-tallied.signature (run-tallied.spec 𝓤 H A at-mem run)
 
 module _ {M : Type 1} (𝓤 : URA M) (H : Heap 𝓤) (A : Atoms 𝓤) (W : Given 𝓤 H A) (at-mem : Memory → SProp 𝓤) (run : Routine → Fun 𝓤) (κ₁ κ₂ κ : Lft) (q₁ q₂ q : Share) (x₁ x₂ : RefT (List ℕ)) (b o : ℕ) (γ : GName) (h : Tally) where
   abbrev Arg : Type 0
@@ -110,15 +112,15 @@ module _ {M : Type 1} (𝓤 : URA M) (H : Heap 𝓤) (A : Atoms 𝓤) (W : Given
   abbrev Post : Val → SProp 𝓤
   Post = walkOf 𝓤 H A f.ended stayed (f.clauses 𝓤 H A at-mem run) .post (((κ₁, (κ₂, (κ, tt))), (q₁, (q₂, (q, tt))), tt, a, at), tt)
 
-  -- what `run_counted` ensures of its answer and of the buffer's last bytes
-  abbrev Given-told : Counted → List ℕ → Type 0
-  Given-told r zs = Told (x₁ .now) h (r .tally) (x₂ .now) zs (r .outcome)
+  -- what `run_tallied` ensures of its answer and of the buffer's last bytes
+  abbrev Given-told : Ending → List ℕ → Type 0
+  Given-told r zs = Told lineAnswer (opened 0) h (x₁ .now) (r .tally) (x₂ .now) zs (r .outcome)
 
   -- what whoever holds an answer knows of its fields
-  fields : (r : Counted) (v : Val) → Is S.the-row r (v ∷ []) → Is O.the-row (r .outcome) (outcome-vals (r .outcome)) × Is T.the-row (r .tally) (vals (r .tally))
+  fields : (r : Ending) (v : Val) → Is S.the-row r (v ∷ []) → Is O.the-row (r .outcome) (outcome-vals (r .outcome)) × Is T.the-row (r .tally) (vals (r .tally))
   fields r v is = let g = LL.owed S.the-type S′.the-laws r _ is in (g .0, g .1 .0)
 
-  exits : (r : Counted) (zs : List ℕ) → Given-told r zs → length zs ≡ length (x₂ .now) → Is O.the-row (r .outcome) (outcome-vals (r .outcome))
+  exits : (r : Ending) (zs : List ℕ) → Given-told r zs → length zs ≡ length (x₂ .now) → Is O.the-row (r .outcome) (outcome-vals (r .outcome))
       → ent 𝓤 (⋆ 𝓤 H A (‵ (fobs γ (T.the-row .coded .code (r .tally))) ∷ ‵ (fbor κ (Body (mem T.the-row) b o γ)) ∷ ‵ (flft κ q) ∷ (‵ (flft κ₁ q₁) ⊛ ‵ (flft κ₂ q₂) ⊛ ‵ ftrue) ∷ ‵ (finally u8 (x₂ .name) zs) ∷ ‵ Text ∷ [])) (Post (outcome-val (r .outcome)))
   exits r zs e l is =
       qed W (‵ (fobs γ (T.the-row .coded .code (r .tally))) ∷ ‵ (fbor κ (Body (mem T.the-row) b o γ)) ∷ ‵ (flft κ q) ∷ (‵ (flft κ₁ q₁) ⊛ ‵ (flft κ₂ q₂) ⊛ ‵ ftrue) ∷ ‵ (finally u8 (x₂ .name) zs) ∷ ‵ Text ∷ []) ∵
@@ -130,18 +132,18 @@ module _ {M : Type 1} (𝓤 : URA M) (H : Heap 𝓤) (A : Atoms 𝓤) (W : Given
       feqI ! (List Val) (vptr b o ∷ []) (vptr b o ∷ []) refl $ fjoin3 ! $ nothing ! $ move ! (1 ∷ 0 ∷ []) $ fjoin ! $ move ! (1 ∷ 0 ∷ []) $ fjoin ! $ move ! (1 ∷ 0 ∷ []) $ fjoin ! $ frame ! $
       owned ! O.the-row (Is O.the-row) (EL.makes O.the-type O′.the-plain 𝓤 H A) (r .outcome) (outcome-vals (r .outcome)) is $ done !
 
-  abbrev to-run-counted : Called 𝓤 H A at-mem run .Ghost
-  to-run-counted = (((κ₁, (κ₂, tt)), (q₁, (q₂, tt)), tt, (x₁, (x₂, (h, tt))), (s₁ ∷ [], (s₂ ∷ [], (vals h, tt)))), tt)
+  abbrev to-run-tallied : Called 𝓤 H A at-mem run .Ghost
+  to-run-tallied = (((κ₁, (κ₂, tt)), (q₁, (q₂, tt)), tt, (x₁, (x₂, (h, tt))), (s₁ ∷ [], (s₂ ∷ [], (vals h, tt)))), tt)
 
-  goes-run-counted : Is T.the-row h (vals h) → ent 𝓤 (sep 𝓤 (sep 𝓤 (A .lft κ₁ q₁) (A .lft κ₂ q₂)) (sep 𝓤 (sem 𝓤 H A Text) (sem 𝓤 H A Out))) (Called 𝓤 H A at-mem run .pre to-run-counted)
-  goes-run-counted was =
+  goes-run-tallied : Is T.the-row h (vals h) → ent 𝓤 (sep 𝓤 (sep 𝓤 (A .lft κ₁ q₁) (A .lft κ₂ q₂)) (sep 𝓤 (sem 𝓤 H A Text) (sem 𝓤 H A Out))) (Called 𝓤 H A at-mem run .pre to-run-tallied)
+  goes-run-tallied was =
       qed W ((‵ (flft κ₁ q₁) ⊛ ‵ (flft κ₂ q₂)) ∷ ‵ Text ∷ ‵ Out ∷ []) ∵
       -- what the parameters own
       nothing ! $ owned ! T.the-row (Is T.the-row) (LL.makes T.the-type T′.the-plain 𝓤 H A) h (vals h) was $ fjoin ! $ move ! (3 ∷ 0 ∷ []) $ fjoin ! $ move ! (2 ∷ 0 ∷ []) $ fjoin ! $
       -- the tokens
       move ! (1 ∷ []) $ split ! $ nothing ! $ move ! (2 ∷ 0 ∷ []) $ join ! $ move ! (1 ∷ 0 ∷ []) $ join ! $ join ! $ frame ! $ done !
 
-  module _ (C : Calls 𝓤 H) (Λ : Loops 𝓤 H) (fm : FmC 𝓤 H (W .laws) C) (known : Triple 𝓤 (C #text·run-counted) (Called 𝓤 H A at-mem run)) where
+  module _ (C : Calls 𝓤 H) (Λ : Loops 𝓤 H) (fm : FmC 𝓤 H (W .laws) C) (known : Triple 𝓤 (C #text·run-tallied) (Called 𝓤 H A at-mem run)) where
     walk : Is (ShrSlice (named 0) κ₁ u8) x₁ (s₁ ∷ []) → Is (MutSlice (named 1) κ₂ u8) x₂ (s₂ ∷ [])
         → ent 𝓤 (onEntry 𝓤 H A f.signature (κ₁, (κ₂, (κ, tt))) (q₁, (q₂, (q, tt))) a at) (WpFn 𝓤 H C Λ code.function (s₁ ∷ s₂ ∷ vptr b o ∷ []) Post)
     walk is₁ is₂ =
@@ -162,13 +164,13 @@ module _ {M : Type 1} (𝓤 : URA M) (H : Heap 𝓤) (A : Atoms 𝓤) (W : Given
         assigns ! (of-opd ! (load ! (from ! (hop ! (look ! 12 refl) (stop !))) (look-raw ! 0 refl))) (from ! (stop !)) (init ! 10 refl (LL.lawful T.the-type T′.the-laws 𝓤 H A W .typed h _ was .0)) $
         assigns ! (addr ! (from ! (fld ! refl (hop ! (look-in ! 14 (sub ! 0 refl (whole !))) (stop !))))) (from ! (stop !)) (init ! 6 refl (tt, tt)) $
         assigns ! (agg ! (and-then ! (load ! (from ! (stop !)) (look ! 6 refl)) (and-then ! (load ! (from ! (fld ! refl (stop !))) (look-in ! 14 (sub ! 1 refl (whole !)))) (no-more !)))) (from ! (stop !)) (init ! 4 refl (tt, (tt, (record { fits = is₂ .0 .1 .0 }, tt)))) $
-        -- `run_counted`
-        move ! (20 ∷ 21 ∷ []) $ join ! $ move ! (0 ∷ 22 ∷ 21 ∷ []) $ use3 W (raw (Called 𝓤 H A at-mem run .pre to-run-counted)) (goes-run-counted was) $
+        -- `run_tallied`
+        move ! (20 ∷ 21 ∷ []) $ join ! $ move ! (0 ∷ 22 ∷ 21 ∷ []) $ use3 W (raw (Called 𝓤 H A at-mem run .pre to-run-tallied)) (goes-run-tallied was) $
         -- [0 what the call asks; 1 the struct's cell; 2 the open borrow; 3 obs; 4 auth; 5 _7; 7 _6; 9 room for _5; 11 _4; 13 _3; 15 _2; 17 _1; 19 room for _0; 21 Text]
-        calls-at ! fm (Called 𝓤 H A at-mem run) known to-run-counted (and-then ! (load ! (from ! (stop !)) (look ! 17 refl)) (and-then ! (load ! (from ! (stop !)) (look ! 5 refl)) (and-then ! (load ! (from ! (stop !)) (look ! 11 refl)) (no-more !)))) (λ v.
-        use1 W (later (some (λ (r : Counted). ((‵ (flft κ₁ q₁) ⊛ ‵ (flft κ₂ q₂) ⊛ ‵ ftrue) ⊛ ‵ (S.the-row .own r (v ∷ []))) ⊛ raw (ensured 𝓤 H A run-counted.ended (run-counted.clauses 𝓤 H A at-mem run) (κ₁, (κ₂, tt)) (x₁, (x₂, (h, tt))) tt r)))) (id⊢ 𝓤 _) $ await ! tt $ pick ! (λ r.
-        -- what `run_counted` ensures, at some last list
-        split ! $ move ! (1 ∷ []) $ use1 W (some (λ (zs : Last). ‵ (lasts run-counted.ended (κ₁, (κ₂, tt)) (x₁, (x₂, (h, tt))) zs) ⊛ raw (fact 𝓤 (Given-told r (zs .1 .0))))) (id⊢ 𝓤 _) $ pick ! (λ zs.
+        calls-at ! fm (Called 𝓤 H A at-mem run) known to-run-tallied (and-then ! (load ! (from ! (stop !)) (look ! 17 refl)) (and-then ! (load ! (from ! (stop !)) (look ! 5 refl)) (and-then ! (load ! (from ! (stop !)) (look ! 11 refl)) (no-more !)))) (λ v.
+        use1 W (later (some (λ (r : Ending). ((‵ (flft κ₁ q₁) ⊛ ‵ (flft κ₂ q₂) ⊛ ‵ ftrue) ⊛ ‵ (S.the-row .own r (v ∷ []))) ⊛ raw (ensured 𝓤 H A run-tallied.ended (run-tallied.clauses 𝓤 H A at-mem run) (κ₁, (κ₂, tt)) (x₁, (x₂, (h, tt))) tt r)))) (id⊢ 𝓤 _) $ await ! tt $ pick ! (λ r.
+        -- what `run_tallied` ensures, at some last list
+        split ! $ move ! (1 ∷ []) $ use1 W (some (λ (zs : Last). ‵ (lasts run-tallied.ended (κ₁, (κ₂, tt)) (x₁, (x₂, (h, tt))) zs) ⊛ raw (fact 𝓤 (Given-told r (zs .1 .0))))) (id⊢ 𝓤 _) $ pick ! (λ zs.
         split ! $ move ! (1 ∷ []) $ heard ! (Given-told r (zs .1 .0)) (λ e. fsplit ! $ drop ! $ fsplit ! $ move ! (1 ∷ []) $ drop ! $ fsplit ! $ move ! (1 ∷ []) $ feqL ! (λ l.
         -- [0 the last list; 1 the tokens and the answer; 2 the struct's cell; ..]
         move ! (1 ∷ []) $ split ! $ move ! (1 ∷ []) $ facts ! S.the-row (Is S.the-row) (shows 𝓤 H A S.the-row) r (v ∷ []) (λ is.
@@ -184,7 +186,7 @@ module _ {M : Type 1} (𝓤 : URA M) (H : Heap 𝓤) (A : Atoms 𝓤) (W : Given
         by ! (exits r (zs .1 .0) e l (fields r v is .0))))))))))))))))))
 
 module _ {M : Type 1} (𝓤 : URA M) (H : Heap 𝓤) (A : Atoms 𝓤) (W : Given 𝓤 H A) (at-mem : Memory → SProp 𝓤) (run : Routine → Fun 𝓤) where
-  run-text-walks : (C : Calls 𝓤 H) (Λ : Loops 𝓤 H) → FmC 𝓤 H (W .laws) C → Triple 𝓤 (C #text·run-counted) (Called 𝓤 H A at-mem run)
+  run-text-walks : (C : Calls 𝓤 H) (Λ : Loops 𝓤 H) → FmC 𝓤 H (W .laws) C → Triple 𝓤 (C #text·run-tallied) (Called 𝓤 H A at-mem run)
       → Walks 𝓤 H A f.ended stayed (WpFn 𝓤 H C Λ code.function) (f.clauses 𝓤 H A at-mem run)
   run-text-walks C Λ fm known = walked 𝓤 H A f.ended stayed (f.clauses 𝓤 H A at-mem run) (WpFn 𝓤 H C Λ code.function) (λ κs. (slice-vals, (slice-vals, (ptr-vals, tt))))
       (λ κs. (shr-slice-tells (named 0) (κs .0) u8, (mut-slice-tells (named 1) (κs .1 .0) u8, (mut-tells (named 2) (κs .1 .1 .0) T.the-row, tt))))
@@ -194,7 +196,7 @@ module _ {M : Type 1} (𝓤 : URA M) (H : Heap 𝓤) (A : Atoms 𝓤) (W : Given
   goes = (goes-none-slice 𝓤 H A W 3 (0 ∷ []) tt (plain (λ _. u8)) yes, (goes-gave-slice 𝓤 H A W 3 1 tt (plain (λ _. u8)), (goes-ref 𝓤 H A W 3 2 tt (plain (λ _. T.the-row)), tt)))
 
 run-text-meets : {M : Type 1} (𝓤 : URA M) (H : Heap 𝓤) (A : Atoms 𝓤) (W : Given 𝓤 H A) (at-mem : Memory → SProp 𝓤) (run : Routine → Fun 𝓤) (𝓣 : Tables 𝓤 H)
-    → Triple 𝓤 (𝓣 .C #text·run-counted) (Called 𝓤 H A at-mem run) → Meets 𝓤 H A f.signature (WpFn 𝓤 H (𝓣 .C) (𝓣 .Λ) code.function) (f.spec 𝓤 H A at-mem run)
+    → Triple 𝓤 (𝓣 .C #text·run-tallied) (Called 𝓤 H A at-mem run) → Meets 𝓤 H A f.signature (WpFn 𝓤 H (𝓣 .C) (𝓣 .Λ) code.function) (f.spec 𝓤 H A at-mem run)
 run-text-meets 𝓤 H A W at-mem run 𝓣 known =
     walk-meets 𝓤 H A f.ended stayed W (goes 𝓤 H A W at-mem run) (f.clauses 𝓤 H A at-mem run) (WpFn 𝓤 H (𝓣 .C) (𝓣 .Λ) code.function) (WpFn-mono 𝓤 H (W .laws) 𝓣 code.function)
     (run-text-walks 𝓤 H A W at-mem run (𝓣 .C) (𝓣 .Λ) (fmOf 𝓤 H (W .laws) 𝓣) known)
@@ -205,4 +207,4 @@ run-text-spec 𝓤 H 𝓜 𝓖 𝓡 =
     entered 𝓤 H (tripleOf 𝓤 H (𝓖 .A) f.signature (f.spec 𝓤 H (𝓖 .A) (𝓜 .mem) (𝓡 .run)))
     (tables 𝓤 H 𝓜 𝓡 code.env .C) (tables 𝓤 H 𝓜 𝓡 code.env .Λ) #text·run-text code.function (code.unfolded 𝓤 H 𝓜 𝓡)
     (run-text-meets 𝓤 H (𝓖 .A) (givenOf 𝓤 H 𝓜 𝓖) (𝓜 .mem) (𝓡 .run) (tablesOf 𝓤 H 𝓜 (tables 𝓤 H 𝓜 𝓡 code.env))
-    (cited 𝓤 H (Called 𝓤 H (𝓖 .A) (𝓜 .mem) (𝓡 .run)) 𝓜 𝓡 code.env #text·run-counted run-counted-def.routine code.calls-text·run-counted (run-counted-thm.met 𝓤 H 𝓜 𝓖 𝓡)))
+    (cited 𝓤 H (Called 𝓤 H (𝓖 .A) (𝓜 .mem) (𝓡 .run)) 𝓜 𝓡 code.env #text·run-tallied run-tallied-def.routine code.calls-text·run-tallied (run-tallied-thm.met 𝓤 H 𝓜 𝓖 𝓡)))

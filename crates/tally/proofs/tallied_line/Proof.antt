@@ -1,4 +1,4 @@
--- `tally::counted_line` meets its contract: a walk of its MIR, by hand. The local `u` is lent for a lifetime that is made for the call, and taken back once it is over, at the last value that `tally_line`'s contract says.
+-- `tally::tallied_line` meets its contract: a walk of its MIR, by hand. The local `u` is lent for a lifetime that is made for the call, and taken back once it is over, at the last value that `tally_line`'s contract says.
 -- All that is known of `tally_line` is that it meets its contract. Assumes nothing.
 use mathlib.Core.Path.{_≡_, refl}
 use Prim.Native.Nat.{ℕ, _<_, _^_}
@@ -45,10 +45,10 @@ use Rattle.tally.proofs.tally_line as tally-line
 use Rattle.tally.proofs.tally_line.Symbol as tally-line-def
 use Rattle.tally.proofs.tally_line.Symbol.{name as #tally·tally-line}
 use Rattle.tally.proofs.tally_line.Met as tally-line-thm
-use Rattle.tally.proofs.counted_line.Key.{name as #tally·counted-line}
-use Rattle.tally.proofs.counted_line as f
-use Rattle.tally.proofs.counted_line.Statement as stated
-use Rattle.tally.proofs.counted_line.Code as code
+use Rattle.tally.proofs.tallied_line.Key.{name as #tally·tallied-line}
+use Rattle.tally.proofs.tallied_line as f
+use Rattle.tally.proofs.tallied_line.Statement as stated
+use Rattle.tally.proofs.tallied_line.Code as code
 
 abbrev stayed : Stays (f.ended .signature .params) (f.ended .kept)
 stayed = (stay-none (λ _. T.the-row) yes, (stay-none (λ _. u8) yes, tt))
@@ -132,24 +132,24 @@ module _ {M : Type 1} (𝓤 : URA M) (H : Heap 𝓤) (A : Atoms 𝓤) (W : Given
         keep ! (0 ∷ []) $ by ! (exits (ws .0) e)))))))))))))))
 
 module _ {M : Type 1} (𝓤 : URA M) (H : Heap 𝓤) (A : Atoms 𝓤) (W : Given 𝓤 H A) (at-mem : Memory → SProp 𝓤) (run : Routine → Fun 𝓤) where
-  counted-line-walks : (C : Calls 𝓤 H) (Λ : Loops 𝓤 H) → FmC 𝓤 H (W .laws) C → Triple 𝓤 (C #tally·tally-line) (Called 𝓤 H A at-mem run)
+  tallied-line-walks : (C : Calls 𝓤 H) (Λ : Loops 𝓤 H) → FmC 𝓤 H (W .laws) C → Triple 𝓤 (C #tally·tally-line) (Called 𝓤 H A at-mem run)
       → Walks 𝓤 H A f.ended stayed (WpFn 𝓤 H C Λ code.function) (f.clauses 𝓤 H A at-mem run)
-  counted-line-walks C Λ fm known = walked 𝓤 H A f.ended stayed (f.clauses 𝓤 H A at-mem run) (WpFn 𝓤 H C Λ code.function) (λ κs. (vals, (uint-vals w8, tt))) (λ κs. (LL.tells T.the-type T′.the-laws, (uint-tells w8, tt)))
+  tallied-line-walks C Λ fm known = walked 𝓤 H A f.ended stayed (f.clauses 𝓤 H A at-mem run) (WpFn 𝓤 H C Λ code.function) (λ κs. (vals, (uint-vals w8, tt))) (λ κs. (LL.tells T.the-type T′.the-laws, (uint-tells w8, tt)))
       (λ κs qs bounds a g are. via 𝓤 _ (fst∗ 𝓤 _ (emp 𝓤)) (walk 𝓤 H A W at-mem run (a .0) (a .1 .0) (are .0) (are .1 .0 .1) C Λ fm known))
 
   goes : AllGo 𝓤 H A W 0 (f.signature .params) (f.ended .kept) stayed
   goes = (goes-none 𝓤 H A W 0 (λ _. T.the-row) yes (λ κs x f. refl), (goes-none 𝓤 H A W 0 (λ _. u8) yes (λ κs x f. refl), tt))
 
-counted-line-meets : {M : Type 1} (𝓤 : URA M) (H : Heap 𝓤) (A : Atoms 𝓤) (W : Given 𝓤 H A) (at-mem : Memory → SProp 𝓤) (run : Routine → Fun 𝓤) (𝓣 : Tables 𝓤 H)
+tallied-line-meets : {M : Type 1} (𝓤 : URA M) (H : Heap 𝓤) (A : Atoms 𝓤) (W : Given 𝓤 H A) (at-mem : Memory → SProp 𝓤) (run : Routine → Fun 𝓤) (𝓣 : Tables 𝓤 H)
     → Triple 𝓤 (𝓣 .C #tally·tally-line) (Called 𝓤 H A at-mem run) → Meets 𝓤 H A f.signature (WpFn 𝓤 H (𝓣 .C) (𝓣 .Λ) code.function) (f.spec 𝓤 H A at-mem run)
-counted-line-meets 𝓤 H A W at-mem run 𝓣 known =
+tallied-line-meets 𝓤 H A W at-mem run 𝓣 known =
     walk-meets 𝓤 H A f.ended stayed W (goes 𝓤 H A W at-mem run) (f.clauses 𝓤 H A at-mem run) (WpFn 𝓤 H (𝓣 .C) (𝓣 .Λ) code.function) (WpFn-mono 𝓤 H (W .laws) 𝓣 code.function)
-    (counted-line-walks 𝓤 H A W at-mem run (𝓣 .C) (𝓣 .Λ) (fmOf 𝓤 H (W .laws) 𝓣) known)
+    (tallied-line-walks 𝓤 H A W at-mem run (𝓣 .C) (𝓣 .Λ) (fmOf 𝓤 H (W .laws) 𝓣) known)
 
-pub counted-line-spec : {M : Type 1} → stated.statement M
+pub tallied-line-spec : {M : Type 1} → stated.statement M
 unfolding code.routine tablesOf
-counted-line-spec 𝓤 H 𝓜 𝓖 𝓡 =
+tallied-line-spec 𝓤 H 𝓜 𝓖 𝓡 =
     entered 𝓤 H (tripleOf 𝓤 H (𝓖 .A) f.signature (f.spec 𝓤 H (𝓖 .A) (𝓜 .mem) (𝓡 .run)))
-    (tables 𝓤 H 𝓜 𝓡 code.env .C) (tables 𝓤 H 𝓜 𝓡 code.env .Λ) #tally·counted-line code.function (code.unfolded 𝓤 H 𝓜 𝓡)
-    (counted-line-meets 𝓤 H (𝓖 .A) (givenOf 𝓤 H 𝓜 𝓖) (𝓜 .mem) (𝓡 .run) (tablesOf 𝓤 H 𝓜 (tables 𝓤 H 𝓜 𝓡 code.env))
+    (tables 𝓤 H 𝓜 𝓡 code.env .C) (tables 𝓤 H 𝓜 𝓡 code.env .Λ) #tally·tallied-line code.function (code.unfolded 𝓤 H 𝓜 𝓡)
+    (tallied-line-meets 𝓤 H (𝓖 .A) (givenOf 𝓤 H 𝓜 𝓖) (𝓜 .mem) (𝓡 .run) (tablesOf 𝓤 H 𝓜 (tables 𝓤 H 𝓜 𝓡 code.env))
     (cited 𝓤 H (Called 𝓤 H (𝓖 .A) (𝓜 .mem) (𝓡 .run)) 𝓜 𝓡 code.env #tally·tally-line tally-line-def.routine code.calls-tally·tally-line (tally-line-thm.met 𝓤 H 𝓜 𝓖 𝓡)))

@@ -1,0 +1,77 @@
+-- The five sham panels of document 01 ("Agreement on the work"), each with a text for which it writes another output than document 01's. A sham
+-- panel has document 01's states and its own answer to a line; lines and tally are as in document 01.
+use Prim.Native.Nat.{_+_}
+use Prim.Native.String.{String}
+use mathlib.Core.Logic.{_≢_}
+use mathlib.Core.Bool.{not, _&&_, cond}
+use mathlib.Core.List.{List, [], _∷_, map}
+use lib.Dec.{ltb}
+use Rattle.fieldset.specs.Numbers.{any}
+use Rattle.fieldset.specs.Tables.{at}
+use Rattle.panel.specs.declared.Panel.{Panel}
+use Rattle.panel.specs.declared.Standing.the-variants.{Waiting}
+use Rattle.panel.specs.declared.Refusal.the-variants.{BadFrame}
+use Rattle.panel.specs.Items.{linkAt}
+use Rattle.panel.specs.Answers.{isRefusal, refusalBytes}
+use Rattle.panel.specs.Panels.{opened, standing}
+use Rattle.fieldset.specs.Lists.{All}
+use Rattle.frames.specs.Texts.{LineAnswer, outputOf}
+use Rattle.frames.specs.Frames.{frameOf, lineAnswer, panelOutput}
+use Rattle.items.specs.Characters.{characters}
+
+-- ---- "Five sham panels"
+
+-- "one refusing all lines": each as a BadFrame
+unfoldable pub refusesAll : LineAnswer Panel
+refusesAll p line = record { state = p; reply = 0xFF ∷ refusalBytes BadFrame }
+
+-- "one replying 0000 always": it does what the line asks for
+unfoldable pub repliesZeros : LineAnswer Panel
+repliesZeros p line = record { state = lineAnswer p line .state; reply = 0x00 ∷ 0x00 ∷ [] }
+
+-- "one never changing a setter": it does all else and replies as document 01; its links wait
+unfoldable pub keepsSetters : LineAnswer Panel
+keepsSetters p line =
+    let a = lineAnswer p line in
+    let q = a .state in
+    record {
+      state = record { size = q .size; links = map (λ l. standing l Waiting) (q .links); place = q .place; setter = p .setter };
+      reply = a .reply;
+    }
+
+-- "one that solves the first link and afterwards only replies": once a link is in use the reply is document 01's and the panel stays
+unfoldable pub solvesFirstLinkOnly : LineAnswer Panel
+solvesFirstLinkOnly p line =
+    let a = lineAnswer p line in
+    record { state = cond (any (λ i. linkAt (p .links) i .used) 128) p (a .state); reply = a .reply }
+
+-- "one that invents the moved count": one more than it is, for each add, remove and touch (kinds 02 to 04) that is not refused
+unfoldable pub inventsMoved : LineAnswer Panel
+inventsMoved p line =
+    let a = lineAnswer p line in
+    let kind = at (frameOf line) 0 in
+    let counts = ltb 1 kind && ltb kind 5 && not (isRefusal (a .reply)) in
+    record { state = a .state; reply = cond counts (0x00 ∷ (at (a .reply) 1 + 1) ∷ []) (a .reply) }
+
+-- ---- each with a text
+
+pub record ShamPanel : Type 0 where
+  pub answer : LineAnswer Panel
+  pub text : String
+
+abbrev sham : LineAnswer Panel → String → ShamPanel
+sham a t = record { answer = a; text = t }
+
+-- where setters tell them apart, the text ends in a plan
+unfoldable pub shamPanels : List ShamPanel
+shamPanels =
+    sham refusesAll "0101\n"
+    ∷ sham repliesZeros "0101\n05\n"
+    ∷ sham keepsSetters "0101\n02000080\n05\n"
+    ∷ sham solvesFirstLinkOnly "0101\n02000180\n02010080\n05\n"
+    ∷ sham inventsMoved "0101\n0400\n"
+    ∷ []
+
+-- "Five sham panels fall foul of the contracts"
+abbrev pub ShamPanelsDiffer : Type 0
+ShamPanelsDiffer = All (λ w. outputOf (w .answer) (opened 0) (characters (w .text)) ≢ panelOutput (characters (w .text))) shamPanels

@@ -1,0 +1,51 @@
+-- `text::run_tallied` meets its contract.
+use borrow.Author.Needs.{needs}
+use native.Mathlib.Omega.{arith}
+use Prim.Native.Nat.{_*_}
+use Rattle.panel.specs.Panels.{opened}
+use Rattle.frames.specs.Texts.{textLimit}
+use Rattle.frames.specs.Frames.{lineAnswer}
+use Rattle.frames.proofs.Lines.{lines-few}
+use Rattle.text.specs.Runs.{longest}
+use Rattle.text.proofs.Whole.{too-long, whole-text}
+use Rattle.text.proofs.run_tallied.Statement.{statement}
+use Rattle.text.proofs.run_tallied.Tie as tie
+use Rattle.opening.proofs.unopened.Reads as unopened-reads
+use Rattle.text.proofs.answer_lines.Reads as answer-lines-reads
+use Rattle.text.proofs.put_tally.Reads as put-tally-reads
+
+returns : tie.Need-returns
+returns c = let s = c .before .before .before .args in too-long lineAnswer (s .text .now) (s .out .now) (opened 0) (s .t) (c .if1 .taken)
+
+unopened-requires : tie.Need-unopened-requires
+unopened-requires c κs = search needs
+
+answer-lines-requires : tie.Need-answer-lines-requires
+answer-lines-requires c κs = (omega arith, c .before .unopened .ensures .1, omega arith)
+
+put-tally-requires : tie.Need-put-tally-requires
+put-tally-requires c κs = search needs
+
+same-length : tie.Need-same-length
+same-length c = search needs
+
+returns-2 : tie.Need-returns-2
+returns-2 c =
+    let o = c .before .before .before .before .before .before .before .before .before in
+    let s = o .before .before .before .before .args in
+    let short = o .before .if1 .left in
+    let a = c .before .before .before .before .before .before .before .answer-lines .ensures in
+    let t = c .before .before .put-tally .ensures in
+    whole-text _ _ (s .text .now) (s .out .now) _ _ (s .t) _ _ _ (opened 0) _ (longest * textLimit) (o .unopened .ensures .0) (a .0) (a .1)
+    (omega (arith, lines-few (s .text .now), short)) (t .0) (t .1) short
+
+pub run-tallied-spec : {M : Type 1} → statement M
+run-tallied-spec =
+    tie.close
+    (tie.spec
+    returns
+    unopened-requires
+    answer-lines-requires
+    put-tally-requires
+    same-length
+    returns-2)
