@@ -11,7 +11,7 @@ use borrow.Author.Tests.{lt-ltb, le-ltb, eq-eqb, ne-eqb}
 use lib.Dec.{eqb, ltb}
 use lib.Pow.{pow-pos, pow-mono, mod-pow-add}
 use Rattle.fieldset.specs.Numbers.{lowest}
-use Rattle.fieldset.specs.Fields.{member, setOf, with, without, union, only, below, lowestOf, size, within}
+use Rattle.fieldset.specs.Fields.{member, setOf, with, without, union, only, below, lowestOf, filter, size, within, Within}
 use Rattle.fieldset.proofs.Numbers.{clash, but, but-same, but-other, sum, sum-cong, sum-but, count-cong, count-none, count-but, count-mono, Lowest, lowest-is, lowest-before, lowest-bound, lowest-lt, lowest-true, any-here, any-none}
 
 -- ---- sets by their members
@@ -154,6 +154,37 @@ member-without-same m i = member-setOf (but (member m) i) 64 i ∙ rw (but-same 
 
 pub member-without-other : (m i j : ℕ) → j < 64 → j ≢ i → member (without m i) j ≡ member m j
 member-without-other m i j l h = member-without m i j l ∙ but-other (member m) i j h
+
+-- a field of the set but for i
+pub without-cases : (m i j : ℕ) → j < 64 → member (without m i) j ≡ true → (member m j ≡ true) × (j ≢ i)
+without-cases m i j l e = go (ℕ-discrete j i)
+  where
+    go : Dec (j ≡ i) → (member m j ≡ true) × (j ≢ i)
+    go (yes d) = absurd (clash (rw d at e) (member-without-same m i))
+    go (no d) = (sym (member-without-other m i j l d) ∙ e, d)
+
+pub without-of : (m i j : ℕ) → j < 64 → member m j ≡ true → j ≢ i → member (without m i) j ≡ true
+without-of m i j l e d = member-without-other m i j l d ∙ e
+
+pub within-with : (m u : ℕ) → Within m (with m u)
+within-with m u j l e = go (ℕ-discrete j u)
+  where
+    go : Dec (j ≡ u) → member (with m u) j ≡ true
+    go (yes d) = rw d (member-with-same m u (rw d at l))
+    go (no d) = member-with-other m u j l d ∙ e
+
+-- the fields of a set that pass a test
+pub member-filter : (p : ℕ → Bool) (m j : ℕ) → j < 64 → member (filter p m) j ≡ (member m j && p j)
+unfolding filter
+member-filter p m j l = member-setOf-lt (λ j. member m j && p j) 64 j l
+
+-- a field that does not pass may go
+pub without-failing : (p : ℕ → Bool) (m u : ℕ) → p u ≡ false → (j : ℕ) → j < 64 → (member (without m u) j && p j) ≡ (member m j && p j)
+without-failing p m u e j l = go (ℕ-discrete j u)
+  where
+    go : Dec (j ≡ u) → (member (without m u) j && p j) ≡ (member m j && p j)
+    go (yes d) = rw (d, e, and-false (member m u)) (and-false (member (without m u) u))
+    go (no d) = rw (member-without-other m u j l d)
 
 -- ---- the lowest field, and the size
 

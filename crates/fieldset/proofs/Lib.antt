@@ -2,5 +2,6 @@
 pub mod Tests
 pub mod Numbers
 pub mod Fields
+pub mod Emptying
 pub mod Bits
 pub mod Tables

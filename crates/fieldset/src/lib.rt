@@ -1,7 +1,7 @@
 // A set of fields as one u64, bit i for field i.
 ghost use mathlib.Core.Path.{_≡_};
 ghost use Prim.Native.Nat.{_≤_, _<_};
-ghost use Rattle.fieldset.specs.Fields.{member, with, without, union, meets, within, only, below, lowestOf, size};
+ghost use Rattle.fieldset.specs.Fields.{member, with, without, union, meets, within, only, below, lowestOf, First, size};
 
 // Whether the field i is in the set m.
 pub fn member(m: u64, i: usize) -> bool
@@ -71,6 +71,14 @@ pub fn lowest(m: u64) -> usize
     u64::trailing_zeros(m) as usize
 }
 
+// The same of a set that is not empty, so that the field is in it.
+pub fn first(m: u64) -> usize
+    requires { ⌜ 0 < m ⌝ }
+    ensures { λ r. ⌜ First m r ⌝ }
+{
+    lowest(m)
+}
+
 // The set m but for its lowest-numbered field.
 pub fn without_lowest(m: u64) -> u64
     requires { ⌜ 0 < m ⌝ }
@@ -84,4 +92,11 @@ pub fn size(m: u64) -> usize
     ensures { λ r. ⌜ r ≡ size m ⌝ }
 {
     u64::count_ones(m) as usize
+}
+
+// The same number, wider.
+pub fn wide(x: u8) -> usize
+    ensures { λ r. ⌜ r ≡ x ⌝ }
+{
+    x as usize
 }

@@ -9,9 +9,9 @@ use native.Mathlib.Omega.{arith}
 use lib.ListN.{length, set, take, drop, length-set, take-append-drop}
 use lib.Seq.{take-suc-set, drop-set-lt, drop-drop, append-snoc, length-take-le}
 use Rattle.fieldset.specs.Tables.{at}
-use Rattle.fieldset.specs.Fields.{member, without}
+use Rattle.fieldset.specs.Fields.{member, without, lowestOf, First}
 use Rattle.strength.specs.Strength.{strength, lowestAt, path}
-use Rattle.strength.specs.Filling.{Acyclic, Strengths, First, lastOf, Walked}
+use Rattle.strength.specs.Filling.{Acyclic, Strengths, lastOf, PathFound}
 use Rattle.strength.proofs.Paths.{Tie, lowestAt-cong, lowestAt-empty, lowestAt-hit, lowestAt-pass, path-stop, path-go, path-onto}
 
 last-snoc : (d : ℕ) (xs : List ℕ) (x : ℕ) → lastOf d (xs ++ (x ∷ [])) ≡ x
@@ -46,8 +46,8 @@ module _ {table : List ℕ} {s set rest : ℕ} (C : Scan table s set rest) where
       go zero e = absurd (omega (arith, C .some, lowestAt-empty (at table) s))
       go (suc m) e = omega arith
 
-  pub scan-pass : {u : ℕ} → First rest u → at table u ≢ s → Scan table s set (without rest u)
-  scan-pass {u} U h = record { same = lowestAt-pass (at table) s rest u h ∙ C .same; some = C .some }
+  pub scan-pass : {u rest′ : ℕ} → First rest u → at table u ≢ s → rest′ ≡ without rest (lowestOf rest) → Scan table s set rest′
+  scan-pass {u} U h e = rw (e, ← U .is-lowest) (record { same = lowestAt-pass (at table) s rest u h ∙ C .same; some = C .some })
 
   pub scan-found : {u : ℕ} → First rest u → at table u ≡ s → u ≡ lowestAt (at table) s set
   scan-found U h = sym (lowestAt-hit (at table) s U h) ∙ C .same
@@ -119,7 +119,7 @@ module _ {levels others table : List ℕ} {n known v s : ℕ} {before buffer : L
         }
 
   -- the setter's level is the strength: the path ends
-  pub way-stop : s ≡ strength (at levels) (at others) n v → at levels here ≡ s → Walked levels others n v before (set buffer count here) here (count + 1)
+  pub way-stop : s ≡ strength (at levels) (at others) n v → at levels here ≡ s → PathFound levels others n v before (set buffer count here) here (count + 1)
   way-stop es h =
       let whole : take (suc count) (set buffer count here) ≡ pathFrom levels others n s n v =
       taken-after

@@ -1,31 +1,25 @@
 // Strengths of fields and the reversible path, over small tables of one entry for each field: `levels` has the level of its setter,
 // `others` the set of its setter's other outputs.
+use fieldset::first;
 use fieldset::lowest;
 use fieldset::member;
 use fieldset::with;
 use fieldset::without_lowest;
 ghost use mathlib.Core.Path.{_≡_};
 ghost use mathlib.Core.Bool.{true};
+ghost use lib.Dec.{eqb};
 ghost use mathlib.Core.List.{_++_};
 ghost use Prim.Native.Nat.{_<_, max};
 ghost use lib.ListN.{length, drop};
 ghost use Rattle.fieldset.specs.Tables.{at, tabulate};
-ghost use Rattle.fieldset.specs.Fields.{member, below};
+ghost use Rattle.fieldset.specs.Fields.{member, below, filter, Within};
 ghost use Rattle.strength.specs.Strength.{greatest, strength, lowestAt};
-ghost use Rattle.strength.specs.Filling.{Acyclic, Strengths, Within, First, Ready, Filled, Topped, Walked, tiesOf};
+ghost use Rattle.strength.specs.Filling.{Acyclic, Strengths, Fillable, Filled, Topped, PathFound};
 
 fn larger(a: u8, b: u8) -> u8
     ensures { λ r. ⌜ r ≡ max a b ⌝ }
 {
     if a < b { b } else { a }
-}
-
-// The lowest-numbered field of a set that is not empty.
-fn first(m: u64) -> usize
-    requires { ⌜ 0 < m ⌝ }
-    ensures { λ r. ⌜ First m r ⌝ }
-{
-    lowest(m)
 }
 
 // Works out the strength of v, and those that it depends on, each once; the answer is the set of the fields that the table then has.
@@ -38,7 +32,7 @@ fn fill(
     v: usize,
     depth: usize,
 ) -> u64
-    requires { ⌜ Ready (now levels) (now others) known (now table) v depth ⌝ }
+    requires { ⌜ Fillable (now levels) (now others) known (now table) v depth ⌝ }
     ensures { λ r. ⌜ Filled (now (levels .entry)) (now (others .entry)) known v r (now (table .entry)) (now (table .exit)) ⌝ }
 {
     if member(known, v) {
@@ -91,7 +85,7 @@ pub fn greatest(
     }
 }
 
-// The strengths of all fields below n.
+// The strengths of all fields below n. Most setters have no other output: their level is the strength, with no call.
 pub fn strengths(levels: &[u8; 64], others: &[u64; 64], n: usize, table: &mut [u8; 64])
     requires { ⌜ Acyclic (now others) n × (length (now table) ≡ 64) ⌝ }
     ensures { λ r. ⌜ now (table .exit) ≡ tabulate (strength (at (now (levels .entry))) (at (now (others .entry))) n) n ++ drop n (now (table .entry)) ⌝ }
@@ -99,7 +93,12 @@ pub fn strengths(levels: &[u8; 64], others: &[u64; 64], n: usize, table: &mut [u
     let mut k = 0u64;
     let mut v = 0usize;
     while v < n {
-        k = fill(levels, others, k, table, v, n);
+        if others[v] == 0 {
+            table[v] = levels[v];
+            k = with(k, v);
+        } else if !member(k, v) {
+            k = fill(levels, others, k, table, v, n);
+        }
         v += 1;
     }
 }
@@ -120,7 +119,7 @@ pub fn top_of(table: &[u8; 64], set: u64) -> u8
 
 // The fields of a set that have the strength s.
 fn tied(table: &[u8; 64], s: u8, set: u64) -> u64
-    ensures { λ r. ⌜ r ≡ tiesOf (at (now (table .entry))) s set ⌝ }
+    ensures { λ r. ⌜ r ≡ filter (λ u. eqb (at (now (table .entry)) u) s) set ⌝ }
 {
     let mut ties = 0u64;
     let mut rest = set;
@@ -158,16 +157,16 @@ pub fn path_from(
     path: &mut [u8; 64],
 ) -> Path
     requires { ⌜ Acyclic (now others) n × Strengths (now levels) (now others) n known (now table) × (v < n) × (member known v ≡ true) × (length (now path) ≡ 64) ⌝ }
-    ensures { λ r. ⌜ Walked (now (levels .entry)) (now (others .entry)) n v (now (path .entry)) (now (path .exit)) (r .end) (r .count) ⌝ }
+    ensures { λ r. ⌜ PathFound (now (levels .entry)) (now (others .entry)) n v (now (path .entry)) (now (path .exit)) (r .end) (r .count) ⌝ }
 {
     let s = table[v];
     let mut at = v;
     let mut count: usize = 0;
-    let end = 'walk: loop {
+    let end = 'follow: loop {
         path[count] = at as u8;
         count += 1;
         if levels[at] == s {
-            break 'walk at;
+            break 'follow at;
         }
         let mut rest = others[at];
         at = 'scan: loop {

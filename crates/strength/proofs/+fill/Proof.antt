@@ -8,17 +8,16 @@ use mathlib.Core.Logic.{⊎-elim}
 use native.Mathlib.Omega.{arith}
 use borrow.Author.Tests.{not-false}
 use Rattle.fieldset.specs.Tables.{at}
-use Rattle.strength.specs.Strength.{strength}
 use Rattle.strength.specs.Filling.{Filled}
-use Rattle.strength.proofs.Ties.{first-falls}
-use Rattle.strength.proofs.Gather.{Gather, step, known-already, fill-start, fill-asks, fill-done}
+use Rattle.fieldset.proofs.Emptying.{first-falls}
+use Rattle.strength.proofs.Gather.{Gather, start, step, known-already, fill-asks, fill-done}
 use Rattle.strength.proofs.fill.Reads as fill
 use Rattle.strength.proofs.fill.Kinds as fill-kinds
 use Rattle.strength.proofs.+fill.Lts-fill as fill-lts
 use Rattle.fieldset.proofs.member.Reads as member-reads
 use Rattle.fieldset.proofs.with.Reads as with-reads
 use Rattle.fieldset.proofs.without_lowest.Reads as without-lowest-reads
-use Rattle.strength.proofs.first.Reads as first-reads
+use Rattle.fieldset.proofs.first.Reads as first-reads
 use Rattle.strength.proofs.larger.Reads as larger-reads
 use Rattle.strength.proofs.+fill.{statement}
 use Rattle.strength.proofs.+fill.Tie.{close}
@@ -37,7 +36,7 @@ abbrev claims : ℕ → fill-lts.Claims
 claims t = (member-reads.Asked, member-reads.Learnt, first-reads.Asked, first-reads.Learnt, fill-below t, fill.Post, larger-reads.Asked, larger-reads.Learnt, without-lowest-reads.Asked, without-lowest-reads.Learnt, with-reads.Asked, with-reads.Learnt)
 
 abbrev fill-Inv-loop : fill-lts.InvT-loop
-fill-Inv-loop levels others known table₀ v depth k₀ s₀ rest₀ table k s rest = Gather levels others known (at others v) (strength (at levels) (at others) 64 v) table₀ table rest k s
+fill-Inv-loop levels others known table₀ v depth k₀ s₀ rest₀ table k s rest = Gather levels others known (at others v) (at levels v) table₀ table rest k s
 
 abbrev fill-μ-loop : fill-lts.MeasureT-loop
 fill-μ-loop levels others known table₀ v depth k₀ s₀ rest₀ table k s rest = rest
@@ -58,7 +57,7 @@ fill-element-copy-out-rest : (t : ℕ) → fill-lts.Need-element-copy-out-rest (
 fill-element-copy-out-rest t c = c .before .before .before .pre .1 .field
 
 fill-loop-holds : (t : ℕ) → fill-lts.Need-loop-holds (claims t) (fill-at t) fill.Post fill-Inv-loop fill-μ-loop
-fill-loop-holds t c = fill-start (c .before .before .before .before .pre .1)
+fill-loop-holds t c = start (c .before .before .before .before .pre .1 .strengths)
 
 fill-first-requires : (t : ℕ) → fill-lts.Need-first-requires (claims t) (fill-at t) fill.Post fill-Inv-loop fill-μ-loop
 fill-first-requires t c κs = omega arith
@@ -98,8 +97,7 @@ fill-loop-less t c = first-falls (c .before .before .before .before .before .fir
 
 fill-loop-again : (t : ℕ) → fill-lts.Need-loop-again (claims t) (fill-at t) fill.Post fill-Inv-loop fill-μ-loop
 fill-loop-again t c =
-    let U = c .before .before .before .before .before .first .ensures in
-    rw (c .without-lowest .ensures, ← U .is-lowest) (step (c .before .before .before .before .before .before .before .loop .inv) U (filled t (c .before .before .before)) (c .before .larger .ensures))
+    step (c .before .before .before .before .before .before .before .loop .inv) (c .before .before .before .before .before .first .ensures) (filled t (c .before .before .before)) (c .before .larger .ensures) (c .without-lowest .ensures)
 
 fill-element-write-table : (t : ℕ) → fill-lts.Need-element-write-table (claims t) (fill-at t) fill.Post fill-Inv-loop fill-μ-loop
 fill-element-write-table t c = c .before .before .before .before .before .before .pre .1 .field
@@ -109,7 +107,7 @@ fill-with-requires t c κs = c .before .before .before .before .before .before .
 
 fill-returns-2 : (t : ℕ) → fill-lts.Need-returns-2 (claims t) (fill-at t) fill.Post fill-Inv-loop fill-μ-loop
 fill-returns-2 t c =
-    rw (c .with .ensures) (fill-done (c .before .before .before .before .before .before .before .pre .1) (rw (c .before .loop-test .left) at (c .before .before .loop .inv)))
+    rw (c .with .ensures) (fill-done (c .before .before .before .before .before .before .before .pre .1) (c .before .before .loop .inv) (c .before .loop-test .left))
 
 pub +fill-spec : {M : Type 1} → statement M
 +fill-spec = close μ-fill λ t. fill-lts.spec (claims t)

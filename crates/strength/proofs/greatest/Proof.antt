@@ -1,21 +1,18 @@
 -- `strength::greatest` meets its contract. The loop keeps `Gather`, and its measure is what is left of the set.
 use native.Mathlib.Omega.{arith}
-use Rattle.fieldset.specs.Tables.{at}
-use Rattle.fieldset.specs.Fields.{member}
-use Rattle.strength.specs.Strength.{strength, greatest}
-use Rattle.strength.proofs.Ties.{first-falls}
+use Rattle.fieldset.proofs.Emptying.{first-falls}
 use Rattle.strength.proofs.Gather.{Gather, start, step, none-known, fill-below, left-below, topped}
 use Rattle.strength.proofs.greatest.Statement.{statement}
 use Rattle.strength.proofs.greatest.Tie as tie
 
 abbrev Inv-loop : tie.InvT-loop
-Inv-loop levels others n set table₀ k₀ top₀ rest₀ table k top rest = Gather levels others 0 set (greatest (member set) (strength (at levels) (at others) 64) 64) table₀ table rest k top
+Inv-loop levels others n set table₀ k₀ top₀ rest₀ table k top rest = Gather levels others 0 set 0 table₀ table rest k top
 
 abbrev μ-loop : tie.MeasureT-loop
 μ-loop levels others n set table₀ k₀ top₀ rest₀ table k top rest = rest
 
 loop-holds : tie.Need-loop-holds Inv-loop μ-loop
-loop-holds c = start (none-known _ _ _ (c .pre .2)) (omega arith)
+loop-holds c = start (none-known _ _ _ (c .pre .2))
 
 first-requires : tie.Need-first-requires Inv-loop μ-loop
 first-requires c κs = omega arith
@@ -40,13 +37,12 @@ loop-less c = first-falls (c .before .before .before .before .before .first .ens
 
 loop-again : tie.Need-loop-again Inv-loop μ-loop
 loop-again c =
-    let U = c .before .before .before .before .before .first .ensures in
-    rw (c .without-lowest .ensures, ← U .is-lowest) (step (c .before .before .before .before .before .before .before .loop .inv) U (c .before .before .before .fill .ensures) (c .before .larger .ensures))
+    step (c .before .before .before .before .before .before .before .loop .inv) (c .before .before .before .before .before .first .ensures) (c .before .before .before .fill .ensures) (c .before .larger .ensures) (c .without-lowest .ensures)
 
 returns : tie.Need-returns Inv-loop μ-loop
 returns c =
     let p = c .before .before .pre in
-    topped (p .0) (p .1) (rw (c .loop-test .left) at (c .before .loop .inv))
+    topped (p .0) (p .1) (c .before .loop .inv) (c .loop-test .left)
 
 pub greatest-spec : {M : Type 1} → statement M
 greatest-spec =
