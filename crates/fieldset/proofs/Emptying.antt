@@ -6,7 +6,7 @@ use mathlib.Core.Logic.{_⊎_, inl, inr, _≢_}
 use native.Mathlib.Decide.{ℕ-discrete}
 use lib.Pow.{pow-pos}
 use Rattle.fieldset.specs.Fields.{member, with, without, lowestOf, First, filter, Within}
-use Rattle.fieldset.proofs.Fields.{ext-member, setOf-lt, with-lt, member-filter, member-empty, member-with-same, member-with-other, member-without-same, member-without-other, without-cases, lowestOf-lt, lowestOf-member, without-falls}
+use Rattle.fieldset.proofs.Fields.{ext-member, filter-lt, with-lt, member-filter, member-empty, member-with-same, member-with-other, member-without-same, member-without-other, without-cases, lowestOf-lt, lowestOf-member, without-falls}
 
 -- ---- the field that is taken
 
@@ -79,7 +79,6 @@ module _ {p : ℕ → Bool} {set : ℕ} where
   })
 
   pub filter-end : {out rest : ℕ} → Filtering p set out rest → rest ≡ 0 → out ≡ filter p set
-  unfolding filter
   filter-end {out} F z =
-      ext-member 64 out (filter p set) (F .fits) (setOf-lt (λ j. member set j && p j) 64)
+      ext-member 64 out (filter p set) (F .fits) (filter-lt p set)
       (λ j l. empty-end (F .loop) z j l ∙ sym (member-filter p set j l))

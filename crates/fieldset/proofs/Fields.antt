@@ -2,9 +2,9 @@
 use Prim.Native.Nat.{ℕ, zero, suc, _+_, _*_, _/_, _%_, _^_, _≤_, _<_}
 use mathlib.Core.Path.{_≡_, refl, sym, ap, _∙_}
 use mathlib.Core.Bool.{Bool, true, false, not, _&&_, _||_, cond, and-false, or-true, or-false}
-use mathlib.Core.Logic.{inl, inr, _≢_}
+use mathlib.Core.Logic.{_⊎_, inl, inr, _≢_}
 use native.Mathlib.Nat.{le-refl, not-suc-le-zero, zero-div, div-eq-of-lt, mod-one, mod-eq-of-lt, lt-of-lt-of-le, lt-of-not-le}
-use native.Mathlib.Numerals.{one-add}
+use native.Mathlib.Numerals.{one-add, add-one}
 use native.Mathlib.Decide.{ℕ-discrete, decLt}
 use native.Mathlib.Omega.{arith}
 use borrow.Author.Tests.{lt-ltb, le-ltb, eq-eqb, ne-eqb}
@@ -12,7 +12,7 @@ use lib.Dec.{eqb, ltb}
 use lib.Pow.{pow-pos, pow-mono, mod-pow-add}
 use Rattle.fieldset.specs.Numbers.{lowest}
 use Rattle.fieldset.specs.Fields.{member, setOf, with, without, union, only, below, lowestOf, filter, size, within, Within}
-use Rattle.fieldset.proofs.Numbers.{clash, but, but-same, but-other, sum, sum-cong, sum-but, count-cong, count-none, count-but, count-mono, Lowest, lowest-is, lowest-before, lowest-bound, lowest-lt, lowest-true, any-here, any-none}
+use Rattle.fieldset.proofs.Numbers.{clash, ltb-suc, but, but-same, but-other, sum, sum-cong, sum-but, count-cong, count-none, count-but, count-mono, Lowest, lowest-is, lowest-before, lowest-bound, lowest-lt, lowest-true, any-here, any-none}
 
 -- ---- sets by their members
 
@@ -155,6 +155,20 @@ member-without-same m i = member-setOf (but (member m) i) 64 i ∙ rw (but-same 
 pub member-without-other : (m i j : ℕ) → j < 64 → j ≢ i → member (without m i) j ≡ member m j
 member-without-other m i j l h = member-without m i j l ∙ but-other (member m) i j h
 
+-- the fields below n that pass a test, and n if it does
+pub setOf-step : (p : ℕ → Bool) (n : ℕ) {m m′ : ℕ} → n < 64 → m ≡ setOf p n
+    → ((p n ≡ true) × (m′ ≡ with m n)) ⊎ ((p n ≡ false) × (m′ ≡ m)) → m′ ≡ setOf p (n + 1)
+unfolding setOf
+setOf-step p n l e (inl (h, q)) = q ∙ rw (e, add-one n)
+    (ext-member 64 (with (setOf p n) n) (setOf p (suc n)) (with-lt (setOf p n) n) (lt-of-lt-of-le (setOf-lt p (suc n)) (pow-mono l))
+    (λ j k. go j k (ℕ-discrete j n)))
+  where
+    go : (j : ℕ) → j < 64 → Dec (j ≡ n) → member (with (setOf p n) n) j ≡ member (setOf p (suc n)) j
+    go j k (yes d) = rw d (member-with-same (setOf p n) n l ∙ sym (member-setOf-lt p (suc n) n (le-refl (suc n)) ∙ h))
+    go j k (no d) =
+        member-with-other (setOf p n) n j k d ∙ member-setOf p n j ∙ rw (ltb-suc j n d) (sym (member-setOf p (suc n) j))
+setOf-step p n l e (inr (h, q)) = q ∙ e ∙ rw (add-one n, h) (omega arith)
+
 -- a field of the set but for i
 pub without-cases : (m i j : ℕ) → j < 64 → member (without m i) j ≡ true → (member m j ≡ true) × (j ≢ i)
 without-cases m i j l e = go (ℕ-discrete j i)
@@ -174,6 +188,10 @@ within-with m u j l e = go (ℕ-discrete j u)
     go (no d) = member-with-other m u j l d ∙ e
 
 -- the fields of a set that pass a test
+pub filter-lt : (p : ℕ → Bool) (m : ℕ) → filter p m < 2 ^ 64
+unfolding filter
+filter-lt p m = setOf-lt (λ j. member m j && p j) 64
+
 pub member-filter : (p : ℕ → Bool) (m j : ℕ) → j < 64 → member (filter p m) j ≡ (member m j && p j)
 unfolding filter
 member-filter p m j l = member-setOf-lt (λ j. member m j && p j) 64 j l

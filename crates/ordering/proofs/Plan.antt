@@ -15,7 +15,7 @@ use Rattle.fieldset.specs.Fields.{member, with, within}
 use Rattle.fieldset.proofs.Numbers.{clash, but, count-cong, count-but, count-pos, count-all, Lowest, lowest-is, lowest-cong}
 use Rattle.fieldset.proofs.Fields.{member-empty, member-with, member-with-same, member-with-other, within-member}
 use Rattle.ordering.specs.Order.{next, following, order, hasLoop}
-use Rattle.ordering.specs.Walks.{Ranked}
+use Rattle.fieldset.specs.Ranks.{Ranked}
 use Rattle.fieldset.proofs.Tests.{and-left, and-right}
 use Rattle.ordering.proofs.Sets.{within-cong}
 
@@ -269,9 +269,9 @@ module _ (reads : ℕ → ℕ) (n : ℕ) where
     order-all e f l = following-all reads n few n 0 f (no-loop-length e ∙ sym (unlisted-all n)) l (member-empty f)
 
     -- with no loop the places in the plan are ranks
-    pub no-loop-ranked : hasLoop reads n ≡ false → Ranked reads n rankOf
+    pub no-loop-ranked : hasLoop reads n ≡ false → Ranked reads n n rankOf
     no-loop-ranked e = record {
-      rises = λ f g r. order-before g f (omega arith) (r .reads-it) (order-all e g (r .to));
+      falls = λ g f lg lf m. order-before g f (omega arith) m (order-all e g lg);
       small = λ f l. omega (arith, order-all e f l, order-length);
     }
 
