@@ -1,6 +1,6 @@
 // The field-byte reader.
+use fieldset::wide;
 use fieldset::with;
-use tables::wide;
 ghost use Rattle.fieldbytes.specs.Bytes.{FieldsOf};
 
 // The fields of field bytes, those of them that are outputs, and whether they rise strictly, with bit 6 of each byte zero.
