@@ -1,7 +1,7 @@
 -- What the machine's operations on numbers of 64 bits do to sets of fields.
 use Prim.Native.Nat.{ℕ, zero, suc, _+_, _-_, _*_, _/_, _%_, _^_, _≤_, _<_, min, max}
 use mathlib.Core.Path.{_≡_, refl, sym, ap, _∙_}
-use mathlib.Core.Bool.{Bool, true, false, not, _&&_, _||_, cond, and-true}
+use mathlib.Core.Bool.{Bool, true, false, not, _&&_, _||_, cond, and-true, Bool·not-not}
 use mathlib.Core.Logic.{inl, inr}
 use native.Mathlib.Nat.{le-refl, pow-suc, mod-one, mod-lt, add-zero, le-of-suc-le-suc, not-suc-le-zero, div-one, mod-eq-of-lt, one-mul, lt-of-lt-of-le}
 use native.Mathlib.Numerals.{one-add}
@@ -192,16 +192,12 @@ is-empty x q small same = go (any q 64) refl
         ne-eqb x 0 (λ z. clash (same (r .0) (r .1) ∙ r .2) (rw z (member-empty (r .0))))
     go false e = eq-eqb x 0 (empty-of-none 64 x small (λ i l. same i l ∙ any-false q 64 i e l))
 
-not-not : (b : Bool) → not (not b) ≡ b
-not-not true = refl
-not-not false = refl
-
 -- the fields of a and b, none or some
 pub and-meets : (a b : ℕ) → a < 2 ^ 64 → b < 2 ^ 64 → not (eqb (bitAnd a b) 0) ≡ meets a b
 unfolding meets
 and-meets a b ha hb =
     ap not (is-empty (bitAnd a b) (λ j. member a j && member b j) (omega (arith, and-le-l a b)) (λ i l. member-and a b i))
-    ∙ not-not (any (λ j. member a j && member b j) 64)
+    ∙ Bool·not-not (any (λ j. member a j && member b j) 64)
 
 -- the fields of a that are not in b, none
 pub and-within : (a b : ℕ) → a < 2 ^ 64 → b < 2 ^ 64 → eqb (bitAnd a (2 ^ 64 - 1 - b)) 0 ≡ within a b

@@ -180,12 +180,8 @@ without-cases m i j l e = go (ℕ-discrete j i)
 pub without-of : (m i j : ℕ) → j < 64 → member m j ≡ true → j ≢ i → member (without m i) j ≡ true
 without-of m i j l e d = member-without-other m i j l d ∙ e
 
-pub within-with : (m u : ℕ) → Within m (with m u)
-within-with m u j l e = go (ℕ-discrete j u)
-  where
-    go : Dec (j ≡ u) → member (with m u) j ≡ true
-    go (yes d) = rw d (member-with-same m u (rw d at l))
-    go (no d) = member-with-other m u j l d ∙ e
+pub with-of : (m i j : ℕ) → j < 64 → member m j ≡ true → member (with m i) j ≡ true
+with-of m i j l e = member-with m i j l ∙ rw e
 
 -- the fields of a set that pass a test
 pub filter-lt : (p : ℕ → Bool) (m : ℕ) → filter p m < 2 ^ 64

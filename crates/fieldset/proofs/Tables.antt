@@ -3,10 +3,11 @@ use Prim.Native.Nat.{ℕ, zero, suc, _+_, _<_}
 use mathlib.Core.Path.{_≡_, refl, sym, ap, _∙_}
 use mathlib.Core.List.{List, [], _∷_, _++_}
 use native.Mathlib.Nat.{not-suc-le-zero, add-zero, add-suc, suc-add}
+use native.Mathlib.Numerals.{add-one}
 use native.Mathlib.Decide.{ℕ-discrete}
 use native.Mathlib.Omega.{arith}
-use lib.ListN.{length, getD, set, length-append, List·getD-append}
-use lib.Seq.{getD-at, sets}
+use lib.ListN.{length, getD, set, drop, length-append, List·getD-append}
+use lib.Seq.{getD-at, sets, set-at, drop-cons, append-snoc}
 use Rattle.fieldset.specs.Tables.{tabulate}
 
 module _ {ℓ} {A : Type ℓ} (f : ℕ → A) where
@@ -31,3 +32,10 @@ pub sets-append : (l : List ℕ) (i : ℕ) (a b : List ℕ) → sets (sets l i a
 sets-append l i [] b = ap (λ (k : ℕ). sets l k b) (add-zero i)
 sets-append l i (x ∷ a) b =
     ap (λ (k : ℕ). sets (sets (set l i x) (suc i) a) k b) (add-suc i (length a) ∙ sym (suc-add i (length a))) ∙ sets-append (set l i x) (suc i) a b
+
+-- a store behind those that stand at the start of a buffer
+pub store-next : (before xs : List ℕ) (k x : ℕ) → length xs ≡ k → k < length before
+    → set (xs ++ drop k before) k x ≡ (xs ++ (x ∷ [])) ++ drop (k + 1) before
+store-next before xs k x e l =
+    rw (add-one k, drop-cons before k 0 l)
+    (set-at xs (getD before k 0) (drop (suc k) before) x k e ∙ sym (append-snoc xs x (drop (suc k) before)))

@@ -3,6 +3,13 @@ ghost use mathlib.Core.Path.{_≡_};
 ghost use Prim.Native.Nat.{_≤_, _<_};
 ghost use Rattle.fieldset.specs.Fields.{member, with, without, union, meets, within, only, below, lowestOf, First, size};
 
+// The same number, wider.
+pub fn wide(x: u8) -> usize
+    ensures { λ r. ⌜ r ≡ x ⌝ }
+{
+    x as usize
+}
+
 // Whether the field i is in the set m.
 pub fn member(m: u64, i: usize) -> bool
     requires { ⌜ i < 64 ⌝ }
@@ -92,11 +99,4 @@ pub fn size(m: u64) -> usize
     ensures { λ r. ⌜ r ≡ size m ⌝ }
 {
     u64::count_ones(m) as usize
-}
-
-// The same number, wider.
-pub fn wide(x: u8) -> usize
-    ensures { λ r. ⌜ r ≡ x ⌝ }
-{
-    x as usize
 }

@@ -1,23 +1,13 @@
--- Laws of `strength`: it depends on the levels and the other outputs alone; below a rank the depth does not matter, and the strength of a
--- field is the largest of its level and the strengths of its setter's other outputs; a potential bounds it.
+-- Laws of `strength`: below a rank the depth does not matter, and the strength of a field is the largest of its level and the strengths of
+-- its setter's other outputs; a potential bounds it.
 use Prim.Native.Nat.{ℕ, zero, suc, _≤_, _<_, max, zero-le}
-use mathlib.Core.Path.{_≡_, refl, ap, ap₂}
+use mathlib.Core.Path.{_≡_, refl, ap}
 use mathlib.Core.Bool.{true}
 use native.Mathlib.Nat.{le-trans, not-suc-le-zero}
 use native.Mathlib.Omega.{arith}
 use Rattle.fieldset.specs.Fields.{member}
 use Rattle.strength.specs.Strength.{greatest, strength}
 use Rattle.strength.proofs.Maxima.{greatest-cong, greatest-ge, greatest-le}
-
--- only the fields below 64 matter
-pub strength-cong : (level level′ others others′ : ℕ → ℕ) → ((v : ℕ) → v < 64 → level v ≡ level′ v)
-    → ((v : ℕ) → v < 64 → others v ≡ others′ v) → (k v : ℕ) → v < 64 → strength level others k v ≡ strength level′ others′ k v
-unfolding strength
-strength-cong level level′ others others′ hl ho zero v l = refl
-strength-cong level level′ others others′ hl ho (suc k) v l =
-    ap₂ max (hl v l)
-    (greatest-cong (member (others v)) (member (others′ v)) (strength level others k) (strength level′ others′ k) 64
-    (λ u h. ap (λ (m : ℕ). member m u) (ho v l)) (λ u h e. strength-cong level level′ others others′ hl ho k u h))
 
 -- rank falls from each field to the other outputs of its setter
 abbrev pub Falls : (ℕ → ℕ) → (ℕ → ℕ) → Type 0

@@ -12,7 +12,7 @@ use Rattle.fieldset.specs.Tables.{at, tabulate}
 use Rattle.fieldset.specs.Fields.{member, with, without, below, lowestOf, First, Within}
 use Rattle.fieldset.proofs.Numbers.{clash}
 use Rattle.fieldset.proofs.Tables.{length-tabulate, getD-tabulate}
-use Rattle.fieldset.proofs.Fields.{member-empty, member-below, member-with-same, member-with-other, within-with}
+use Rattle.fieldset.proofs.Fields.{member-empty, member-below, member-with-same, member-with-other, with-of}
 use Rattle.fieldset.proofs.Emptying.{Emptying, empty-start, empty-step, empty-end, taken-in}
 use Rattle.strength.specs.Strength.{greatest, strength}
 use Rattle.strength.specs.Filling.{Acyclic, Strengths, Closed, Fillable, Filled, Topped}
@@ -91,9 +91,9 @@ module _ {levels others : List ℕ} {known v depth : ℕ} {before : List ℕ} (R
       strengths = record {
         full = length-set table v s ∙ G .strengths .full;
         right = λ u l e. right u l e (ℕ-discrete u v);
-        closed = λ w u hw hu e f. within-with k v u hu (closed w u hw hu e f (ℕ-discrete w v));
+        closed = λ w u hw hu e f. with-of k v u hu (closed w u hw hu e f (ℕ-discrete w v));
       };
-      more = λ u l e. within-with k v u l (G .more u l e);
+      more = λ u l e. with-of k v u l (G .more u l e);
       has = member-with-same k v (R .field);
       inside = λ m c w h u l e. in-set m c w h u l e (ℕ-discrete u v);
       kept = λ u l e. kept u l e (ℕ-discrete u v);

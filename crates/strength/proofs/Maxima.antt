@@ -1,12 +1,11 @@
 -- Laws of `greatest`: the greatest s u of the numbers u below n that pass a test.
 use Prim.Native.Nat.{ℕ, zero, suc, _≤_, _<_, max, zero-le}
-use mathlib.Core.Path.{_≡_, refl, sym, ap, ap₂, _∙_}
+use mathlib.Core.Path.{_≡_, refl, ap, ap₂, _∙_}
 use mathlib.Core.Bool.{Bool, true, false, false≢true}
 use native.Mathlib.Nat.{le-refl, not-suc-le-zero}
 use native.Mathlib.Decide.{ℕ-discrete, decLt}
 use native.Mathlib.Omega.{arith}
 use Rattle.fieldset.specs.Fields.{member, without, lowestOf, First}
-use Rattle.fieldset.proofs.Fields.{member-empty}
 use Rattle.fieldset.proofs.Emptying.{Emptying, empty-start, empty-step, empty-end, taken-in}
 use Rattle.strength.specs.Strength.{greatest}
 
@@ -27,11 +26,6 @@ greatest-cong p q s t (suc n) h e =
     go false f = refl
 
 module _ (p : ℕ → Bool) (s : ℕ → ℕ) where
-  pub greatest-none : (n : ℕ) → ((u : ℕ) → u < n → p u ≡ false) → greatest p s n ≡ 0
-  unfolding greatest
-  greatest-none zero h = refl
-  greatest-none (suc n) h = rw (h n (le-refl (suc n)), greatest-none n (λ u l. h u (omega arith)))
-
   -- no number that passes has more
   pub greatest-ge : (n u : ℕ) → u < n → p u ≡ true → s u ≤ greatest p s n
   unfolding greatest
@@ -74,15 +68,6 @@ module _ (p : ℕ → Bool) (s : ℕ → ℕ) where
       go : Dec (0 < greatest p s n) → (w : ℕ) × (w < n) × (p w ≡ true) × (s w ≡ greatest p s n)
       go (yes k) = greatest-found n k
       go (no k) = (u, l, e, omega (arith, greatest-ge n u l e))
-
-pub greatest-empty : (s : ℕ → ℕ) (n : ℕ) → greatest (member 0) s n ≡ 0
-greatest-empty s n = greatest-none (member 0) s n (λ u l. member-empty u)
-
--- a greater test and greater numbers
-pub greatest-mono : (p q : ℕ → Bool) (s t : ℕ → ℕ) (n : ℕ) → ((u : ℕ) → u < n → p u ≡ true → q u ≡ true)
-    → ((u : ℕ) → u < n → p u ≡ true → s u ≤ t u) → greatest p s n ≤ greatest q t n
-greatest-mono p q s t n h e =
-    greatest-le p s n (greatest q t n) (λ u l k. omega (arith, e u l k, greatest-ge q t n u l (h u l k)))
 
 -- the loop over the fields of a set: the greatest number of those that are done, from b on
 pub record Topping (s : ℕ → ℕ) (set b top rest : ℕ) : Type 0 where

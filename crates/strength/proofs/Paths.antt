@@ -18,7 +18,7 @@ use Rattle.fieldset.proofs.Fields.{member-empty, member-filter, without-failing
 use Rattle.strength.specs.Strength.{greatest, strength, lowestAt, strongest, path}
 use Rattle.strength.specs.Filling.{lastOf}
 use Rattle.strength.proofs.Maxima.{greatest-found, greatest-some}
-use Rattle.strength.proofs.Depth.{Falls, strength-cong, strength-fixed}
+use Rattle.strength.proofs.Depth.{Falls, strength-fixed}
 
 -- ---- the lowest-numbered field at a strength
 
@@ -83,10 +83,6 @@ strongest-found str m u l e =
 -- ---- the path
 
 module _ (level others str : ℕ → ℕ) (s : ℕ) where
-  pub path-none : (v : ℕ) → path level others str s 0 v ≡ []
-  unfolding path
-  path-none v = refl
-
   -- it starts at v
   pub path-starts : (k v : ℕ) → 0 < k → (vs : List ℕ) × (path level others str s k v ≡ v ∷ vs)
   unfolding path
@@ -126,10 +122,6 @@ module _ {level others str : ℕ → ℕ} {s : ℕ} where
   pub chain-last : {vs : List ℕ} → Chain level others str s vs → (d : ℕ) → level (lastOf d vs) ≡ s
   chain-last (last l e h) d = h
   chain-last (next {v = v} l e h f c) d = chain-last c v
-
-  pub chain-strong : {vs : List ℕ} → Chain level others str s vs → All (λ v. str v ≡ s) vs
-  chain-strong (last l e h) = (e, tt)
-  chain-strong (next l e h f c) = (e, chain-strong c)
 
   pub chain-fields : {vs : List ℕ} → Chain level others str s vs → All (λ v. v < 64) vs
   chain-fields (last l e h) = (l, tt)
@@ -223,32 +215,3 @@ path-reversible level others rank falls n few closed v l r =
           short = rw w (omega (arith, chain-short rank falls c′));
           distinct = chain-distinct rank falls c;
         }
-
--- levels and other outputs that agree below 64 have the same path
-pub path-cong : (level level′ others others′ rank : ℕ → ℕ) → Falls others rank → ((v : ℕ) → v < 64 → level v ≡ level′ v)
-    → ((v : ℕ) → v < 64 → others v ≡ others′ v) → (n s k v : ℕ) → v < 64 → rank v < n → strength level others n v ≡ s
-    → path level others (strength level others n) s k v ≡ path level′ others′ (strength level′ others′ n) s k v
-path-cong level level′ others others′ rank falls hl ho n s zero v l r e =
-    path-none level others (strength level others n) s v ∙ sym (path-none level′ others′ (strength level′ others′ n) s v)
-path-cong level level′ others others′ rank falls hl ho n s (suc k) v l r e =
-    go (ℕ-discrete (level v) s) (path-cong level level′ others others′ rank falls hl ho n s k)
-  where
-    go : Dec (level v ≡ s)
-        → ((u : ℕ) → u < 64 → rank u < n → strength level others n u ≡ s
-        → path level others (strength level others n) s k u ≡ path level′ others′ (strength level′ others′ n) s k u)
-        → path level others (strength level others n) s (suc k) v ≡ path level′ others′ (strength level′ others′ n) s (suc k) v
-    go (yes d) ih =
-        path-stop level others (strength level others n) s k v d
-        ∙ sym (path-stop level′ others′ (strength level′ others′ n) s k v (sym (hl v l) ∙ d))
-    go (no d) ih =
-        let u = lowestAt (strength level others n) s (others v) in
-        let T = path-onto level others rank falls n s v l r e d .1 in
-        let f : rank u < rank v = falls v u l (T .field) (T .is-in) in
-        let same : u ≡ lowestAt (strength level′ others′ n) s (others′ v) =
-        lowestAt-cong (strength level others n) (strength level′ others′ n) s (others v)
-        (λ w h q. strength-cong level level′ others others′ hl ho n w h)
-        ∙ ap (lowestAt (strength level′ others′ n) s) (ho v l) in
-        path-go level others (strength level others n) s k v d
-        ∙ ap (λ (vs : List ℕ). v ∷ vs)
-        (ih u (T .field) (omega arith) (T .strong) ∙ ap (path level′ others′ (strength level′ others′ n) s k) same)
-        ∙ sym (path-go level′ others′ (strength level′ others′ n) s k v (λ q. d (hl v l ∙ q)))
