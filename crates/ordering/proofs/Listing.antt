@@ -40,25 +40,6 @@ entering-step {f} {after = after} {x = x} p U e q = rw e (record {
       (getD-set-same after x (with (at after x) f) 0 (rw (p .long) (U .field)) ∙ ap (λ (m : ℕ). with m f) (taken-was (p .loop) U));
 })
 
-pub readers-start : (reads : ℕ → ℕ) (readers : List ℕ) → ((g : ℕ) → g < 64 → at readers g ≡ 0) → Readers reads 0 readers
-readers-start reads readers h = record {
-  each = λ g j l k. ap (λ x. member x j) (h g l) ∙ member-empty j ∙ rw (le-ltb j 0 (omega arith));
-}
-
-pub readers-step : (reads : ℕ → ℕ) (f : ℕ) (before after : List ℕ) → f < 64 → Readers reads f before → Entered f (reads f) before after → Readers reads (suc f) after
-readers-step reads f before after low r e = record {
-  each = λ g j l k. ap (λ x. member x j) (e .each g l) ∙ go g j l k (member (reads f) g) refl (ℕ-discrete j f);
-}
-  where
-    go : (g j : ℕ) → g < 64 → j < 64 → (b : Bool) → member (reads f) g ≡ b → Dec (j ≡ f) → member (cond b (with (at before g) f) (at before g)) j ≡ (ltb j (suc f) && member (reads j) g)
-    go g j l k true m (yes d) = rw (d, m, lt-ltb f (suc f) (le-refl (suc f))) (member-with-same (at before g) f low)
-    go g j l k false m (yes d) = rw (d, m, lt-ltb f (suc f) (le-refl (suc f))) (r .each g f l low ∙ rw (le-ltb f f (le-refl f)))
-    go g j l k b m (no d) = kept b ∙ r .each g j l k ∙ ap (λ x. x && member (reads j) g) (ltb-suc j f d)
-      where
-        kept : (b : Bool) → member (cond b (with (at before g) f) (at before g)) j ≡ member (at before g) j
-        kept true = member-with-other (at before g) f j k d
-        kept false = refl
-
 -- the readers among the first f of n fields
 pub record Turned (reads : ℕ → ℕ) (n f : ℕ) (readers : List ℕ) : Type 0 where
   pub few : f ≤ n
@@ -69,7 +50,9 @@ pub turned-start : {reads : ℕ → ℕ} {n : ℕ} → Turned reads n 0 (replica
 turned-start {reads} = record {
   few = zero-le;
   long = length-replicate {A = ℕ} 64 0;
-  readers-of = readers-start reads (replicate 64 0) (λ g l. getD-replicate 64 g 0 0 l);
+  readers-of = record {
+    each = λ g j l k. ap (λ x. member x j) (getD-replicate 64 g 0 0 l) ∙ member-empty j ∙ rw (le-ltb j 0 (omega arith));
+  };
 }
 
 pub turned-step : {reads : ℕ → ℕ} {n f : ℕ} {before after : List ℕ} → n ≤ 64 → f < n → Turned reads n f before → length after ≡ 64 → Entered f (reads f) before after
@@ -77,8 +60,22 @@ pub turned-step : {reads : ℕ → ℕ} {n f : ℕ} {before after : List ℕ} �
 turned-step {reads} {n} {f} {before} {after} few l t long e = rw (add-one f) (record {
   few = l;
   long = long;
-  readers-of = readers-step reads f before after (omega arith) (t .readers-of) e;
+  readers-of = record {
+    each = λ g j l k. ap (λ x. member x j) (e .each g l) ∙ go g j l k (member (reads f) g) refl (ℕ-discrete j f);
+  };
 })
+  where
+    low : f < 64
+    low = omega arith
+
+    go : (g j : ℕ) → g < 64 → j < 64 → (b : Bool) → member (reads f) g ≡ b → Dec (j ≡ f) → member (cond b (with (at before g) f) (at before g)) j ≡ (ltb j (suc f) && member (reads j) g)
+    go g j l k true m (yes d) = rw (d, m, lt-ltb f (suc f) (le-refl (suc f))) (member-with-same (at before g) f low)
+    go g j l k false m (yes d) = rw (d, m, lt-ltb f (suc f) (le-refl (suc f))) (t .readers-of .each g f l low ∙ rw (le-ltb f f (le-refl f)))
+    go g j l k b m (no d) = kept b ∙ t .readers-of .each g j l k ∙ ap (λ x. x && member (reads j) g) (ltb-suc j f d)
+      where
+        kept : (b : Bool) → member (cond b (with (at before g) f) (at before g)) j ≡ member (at before g) j
+        kept true = member-with-other (at before g) f j k d
+        kept false = refl
 
 pub turned-end : {reads : ℕ → ℕ} {n f : ℕ} {readers : List ℕ} → Turned reads n f readers → n ≤ f → Readers reads n readers
 turned-end {reads} {n} {f} {readers} t l = let e : f ≡ n = omega (arith, t .few) in rw e at (t .readers-of)

@@ -1,13 +1,14 @@
 -- Laws of tests and of two sets of fields.
 use Prim.Native.Nat.{ℕ, _<_}
-use mathlib.Core.Path.{_≡_, refl, sym, ap}
-use mathlib.Core.Bool.{Bool, true, false, not, _&&_, _||_}
+use mathlib.Core.Path.{_≡_, refl, sym, ap, _∙_}
+use mathlib.Core.Bool.{Bool, true, false, not, _&&_, _||_, and-comm}
 use mathlib.Core.Logic.{_⊎_, inl, inr}
 use borrow.Author.Tests.{not-true, not-false}
-use Rattle.fieldset.specs.Fields.{member, meets, within}
-use Rattle.fieldset.proofs.Tests.{and-left, and-right}
+use Rattle.fieldset.specs.Fields.{member, without, meets, within}
+use Rattle.fieldset.proofs.Tests.{and-left, and-right, and-both}
+use Rattle.fieldset.proofs.Fields.{without-failing}
 pub use Rattle.fieldset.proofs.Fields.{without-cases}
-use Rattle.fieldset.proofs.Numbers.{any-none, any-found, any-false, any-cong}
+use Rattle.fieldset.proofs.Numbers.{any-here, any-none, any-found, any-false, any-cong}
 
 pub or-cases : (a b : Bool) → (a || b) ≡ true → (a ≡ true) ⊎ (b ≡ true)
 or-cases true b e = inl refl
@@ -48,3 +49,13 @@ module _ (a b : ℕ) where
   pub meets-not : meets a b ≡ false → (i : ℕ) → i < 64 → member a i ≡ true → member b i ≡ false
   unfolding meets
   meets-not e i l f = rw f at (any-false (λ j. member a j && member b j) 64 i e l)
+
+  pub meets-some : (i : ℕ) → i < 64 → member a i ≡ true → member b i ≡ true → meets a b ≡ true
+  unfolding meets
+  meets-some i l e f = any-here (λ j. member a j && member b j) 64 i l (and-both (member a i) (member b i) e f)
+
+  -- a field that a has not may go
+  pub meets-without : (f : ℕ) → member a f ≡ false → meets a (without b f) ≡ meets a b
+  unfolding meets
+  meets-without f e =
+      any-cong _ _ 64 (λ j l. and-comm (member a j) (member (without b f) j) ∙ without-failing (member a) b f e j l ∙ and-comm (member b j) (member a j))
