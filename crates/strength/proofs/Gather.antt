@@ -190,7 +190,6 @@ module _ {levels others : List ℕ} {n : ℕ} (A : Acyclic others n) where
 
 -- the fields below v are known, and only fields below n
 pub record Listing (levels others : List ℕ) (n : ℕ) (before table : List ℕ) (k v : ℕ) : Type 0 where
-  pub few : n ≤ 64
   pub count : v ≤ n
   pub strengths : Strengths levels others 64 k table
   pub inside : Within k (below n)
@@ -200,7 +199,6 @@ pub record Listing (levels others : List ℕ) (n : ℕ) (before table : List ℕ
 module _ {levels others : List ℕ} {n : ℕ} (A : Acyclic others n) {before : List ℕ} where
   pub listing-start : length before ≡ 64 → Listing levels others n before before 0 0
   listing-start h = record {
-    few = A .few;
     count = omega arith;
     strengths = none-known levels others before h;
     inside = λ u l e. absurd (clash e (member-empty u));
@@ -211,7 +209,6 @@ module _ {levels others : List ℕ} {n : ℕ} (A : Acyclic others n) {before : L
   pub listing-step : {table table′ : List ℕ} {k r v : ℕ} → Listing levels others n before table k v → v < n
       → Filled levels others k v r table table′ → Listing levels others n before table′ r (v + 1)
   listing-step {table} {table′} {k} {r} {v} L l F = record {
-    few = A .few;
     count = omega arith;
     strengths = F .strengths;
     inside = F .inside (below n) (below-closed A) (L .inside) (lt-below n v (omega (arith, A .few)) l);

@@ -22,8 +22,8 @@ fn larger(a: u8, b: u8) -> u8
     if a < b { b } else { a }
 }
 
-// Works out the strength of v, and those that it depends on, each once; the answer is the set of the fields that the table then has.
-// The depth starts at the number of fields and falls at each call.
+// Sees that the table has the strength of v, and those that it depends on; the answer is the set of the fields that the table then has.
+// A setter with no other output gives its level. The depth starts at the number of fields and falls from field to field.
 fn fill(
     levels: &[u8; 64],
     others: &[u64; 64],
@@ -38,14 +38,31 @@ fn fill(
     if member(known, v) {
         return known;
     }
+    if others[v] == 0 {
+        table[v] = levels[v];
+        return with(known, v);
+    }
+    work_out(levels, others, known, table, v, depth)
+}
+
+// The same by way of the other outputs. It stands apart so that the two tests above are compiled into its loop, without a call.
+fn work_out(
+    levels: &[u8; 64],
+    others: &[u64; 64],
+    known: u64,
+    table: &mut [u8; 64],
+    v: usize,
+    depth: usize,
+) -> u64
+    requires { ⌜ Fillable (now levels) (now others) known (now table) v depth ⌝ }
+    ensures { λ r. ⌜ Filled (now (levels .entry)) (now (others .entry)) known v r (now (table .entry)) (now (table .exit)) ⌝ }
+{
     let mut k = known;
     let mut s = levels[v];
     let mut rest = others[v];
     while rest != 0 {
         let u = first(rest);
-        if !member(k, u) {
-            k = fill(levels, others, k, table, u, depth - 1);
-        }
+        k = fill(levels, others, k, table, u, depth - 1);
         s = larger(s, table[u]);
         rest = without_lowest(rest);
     }
@@ -85,7 +102,7 @@ pub fn greatest(
     }
 }
 
-// The strengths of all fields below n. Most setters have no other output: their level is the strength, with no call.
+// The strengths of all fields below n.
 pub fn strengths(levels: &[u8; 64], others: &[u64; 64], n: usize, table: &mut [u8; 64])
     requires { ⌜ Acyclic (now others) n × (length (now table) ≡ 64) ⌝ }
     ensures { λ r. ⌜ now (table .exit) ≡ tabulate (strength (at (now (levels .entry))) (at (now (others .entry))) n) n ++ drop n (now (table .entry)) ⌝ }
@@ -93,12 +110,7 @@ pub fn strengths(levels: &[u8; 64], others: &[u64; 64], n: usize, table: &mut [u
     let mut k = 0u64;
     let mut v = 0usize;
     while v < n {
-        if others[v] == 0 {
-            table[v] = levels[v];
-            k = with(k, v);
-        } else if !member(k, v) {
-            k = fill(levels, others, k, table, v, n);
-        }
+        k = fill(levels, others, k, table, v, n);
         v += 1;
     }
 }
