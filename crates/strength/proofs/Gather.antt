@@ -1,4 +1,4 @@
--- What the loops over the fields of a set that call `fill` keep from turn to turn, and what `fill` leaves.
+-- What `fill` keeps from turn to turn, and what it leaves.
 use Prim.Native.Nat.{ℕ, _+_, _-_, _≤_, _<_, max}
 use mathlib.Core.Path.{_≡_, refl, sym, ap, _∙_}
 use mathlib.Core.Bool.{Bool, true, false, false≢true}
@@ -27,104 +27,124 @@ outside a b u w l e = go (member a u) refl
     go true f = absurd (clash (w u l f) e)
     go false f = refl
 
--- of the fields of a set, those of `rest` are left; k is what is known by now, and s the greatest strength so far, from b on
-pub record Gather (levels others : List ℕ) (known set b : ℕ) (before table : List ℕ) (rest k s : ℕ) : Type 0 where
+-- one field is filled in
+pub record FieldFilled (levels others : List ℕ) (known v r : ℕ) (before after : List ℕ) : Type 0 where
+  pub strengths : Strengths levels others 64 r after
+  pub more : Within known r
+  pub has : member r v ≡ true
+  pub inside : (m : ℕ) → Closed others m → Within known m → member m v ≡ true → Within r m
+  pub kept : (u : ℕ) → u < 64 → member r u ≡ false → at after u ≡ at before u
+
+-- of the fields of a set, those of `rest` are left; k is what is known by now, and top the greatest strength so far
+pub record Gather (levels others : List ℕ) (known set : ℕ) (before table : List ℕ) (rest k top : ℕ) : Type 0 where
   pub strengths : Strengths levels others 64 k table
   pub more : Within known k
   pub inside : (m : ℕ) → Closed others m → Within known m → Within set m → Within k m
   pub kept : (u : ℕ) → u < 64 → member k u ≡ false → at table u ≡ at before u
   pub loop : Emptying set (λ d u. d ≡ true → member k u ≡ true) rest
-  pub top : Topping (strength (at levels) (at others) 64) set b s rest
+  pub topping : Topping (strength (at levels) (at others) 64) set 0 top rest
 
-module _ {levels others : List ℕ} {known set b : ℕ} {before : List ℕ} where
-  pub start : Strengths levels others 64 known before → Gather levels others known set b before before set known b
+module _ {levels others : List ℕ} {known set : ℕ} {before : List ℕ} where
+  pub start : Strengths levels others 64 known before → Gather levels others known set before before set known 0
   start S = record {
     strengths = S;
     more = λ u l f. f;
     inside = λ m c w p. w;
     kept = λ u l f. refl;
     loop = empty-start (λ u l e. absurd (false≢true e));
-    top = top-start;
+    topping = top-start;
+  }
+
+  pub finish : {table : List ℕ} {rest k top : ℕ} → Gather levels others known set before table rest k top → rest ≡ 0
+      → Filled levels others known set top k before table
+  finish G z = record {
+    is-greatest = omega (arith, top-end (G .topping) z);
+    strengths = G .strengths;
+    more = G .more;
+    has = empty-end (G .loop) z;
+    inside = G .inside;
+    kept = G .kept;
   }
 
   -- the lowest field that is left is filled in
-  pub step : {table table′ : List ℕ} {rest rest′ k s u r s′ : ℕ} → Gather levels others known set b before table rest k s
-      → First rest u → Filled levels others k u r table table′ → s′ ≡ max s (at table′ u) → rest′ ≡ without rest (lowestOf rest)
-      → Gather levels others known set b before table′ rest′ r s′
-  step {k = k} {s = s} {u = u} {r = r} G U F e q = record {
+  pub step : {table table′ : List ℕ} {rest rest′ k top u r top′ : ℕ} → Gather levels others known set before table rest k top
+      → First rest u → FieldFilled levels others k u r table table′ → top′ ≡ max top (at table′ u) → rest′ ≡ without rest (lowestOf rest)
+      → Gather levels others known set before table′ rest′ r top′
+  step {k = k} {top = top} {u = u} {r = r} G U F e q = record {
     strengths = F .strengths;
     more = λ j h f. F .more j h (G .more j h f);
     inside = λ m c w p. F .inside m c (G .inside m c w p) (p u (U .field) (taken-in (G .loop) U));
     kept = λ j h f. F .kept j h f ∙ G .kept j h (outside k r j (F .more) h f);
     loop = empty-step (G .loop) U q (λ d j l n h i. F .more j l (h i)) (λ i. F .has);
-    top = top-step (G .top) U (e ∙ ap (max s) (F .strengths .right u (U .field) (F .has))) q;
+    topping = top-step (G .topping) U (e ∙ ap (max top) (F .strengths .right u (U .field) (F .has))) q;
   }
 
--- ---- `fill`
+-- v is known already
+pub one-known : {levels others : List ℕ} {k v : ℕ} {table : List ℕ} → Strengths levels others 64 k table → member k v ≡ true
+    → FieldFilled levels others k v k table table
+one-known S e = record {
+  strengths = S;
+  more = λ u l f. f;
+  has = e;
+  inside = λ m c w h. w;
+  kept = λ u l f. refl;
+}
 
-module _ {levels others : List ℕ} {known v depth : ℕ} {before : List ℕ} (R : Fillable levels others known before v depth) where
-  -- v is known already
-  pub known-already : member known v ≡ true → Filled levels others known v known before before
-  known-already e = record {
-    strengths = R .strengths;
-    more = λ u l f. f;
-    has = e;
-    inside = λ m c w h. w;
-    kept = λ u l f. refl;
+module _ {levels others : List ℕ} {known wanted depth : ℕ} {before : List ℕ} (R : Fillable levels others known before wanted depth)
+    {table : List ℕ} {rest k top : ℕ} (G : Gather levels others known wanted before table rest k top) {v : ℕ} (U : First rest v) where
+  -- the rank of a field that is left is below the depth
+  pub left-deep : R .rank v < depth
+  left-deep = R .deep v (U .field) (taken-in (G .loop) U)
+
+  -- what the call for the other outputs of its setter asks
+  pub fill-asks : Fillable levels others k table (at others v) (depth - 1)
+  fill-asks = record {
+    few = omega (arith, R .few);
+    rank = R .rank;
+    falls = R .falls;
+    deep = λ u l e. omega (arith, left-deep, R .falls v u (U .field) l e);
+    strengths = G .strengths;
   }
 
-  module _ {table : List ℕ} {rest k s : ℕ} (G : Gather levels others known (at others v) (at levels v) before table rest k s) where
-    -- what the call for a field that is left asks
-    pub fill-asks : {u : ℕ} → First rest u → Fillable levels others k table u (depth - 1)
-    fill-asks {u} U = record {
-      field = U .field;
-      few = omega (arith, R .few);
-      rank = R .rank;
-      falls = R .falls;
-      deep = omega (arith, R .deep, R .falls v u (R .field) (U .field) (taken-in (G .loop) U));
-      strengths = G .strengths;
-    }
+  -- it has none
+  pub fill-none : at others v ≡ 0 → Filled levels others k (at others v) 0 k table table
+  fill-none = finish (start (G .strengths))
 
-    -- the strength of v is stored
-    pub fill-done : rest ≡ 0 → Filled levels others known v (with k v) before (set table v s)
-    fill-done z = record {
-      strengths = record {
-        full = length-set table v s ∙ G .strengths .full;
-        right = λ u l e. right u l e (ℕ-discrete u v);
-        closed = λ w u hw hu e f. with-of k v u hu (closed w u hw hu e f (ℕ-discrete w v));
-      };
-      more = λ u l e. with-of k v u l (G .more u l e);
-      has = member-with-same k v (R .field);
-      inside = λ m c w h u l e. in-set m c w h u l e (ℕ-discrete u v);
-      kept = λ u l e. kept u l e (ℕ-discrete u v);
-    }
-      where
-        right : (u : ℕ) → u < 64 → member (with k v) u ≡ true → Dec (u ≡ v) → at (set table v s) u ≡ strength (at levels) (at others) 64 u
-        right u l e (yes d) =
-            rw d
-            (getD-set-same table v s 0 (omega (arith, G .strengths .full, R .field)) ∙ top-end (G .top) z
-            ∙ sym (strength-fixed (at levels) (at others) (R .rank) (R .falls) 64 v (R .field) (omega (arith, R .deep, R .few))))
-        right u l e (no d) =
-            getD-set-other table v u s 0 d ∙ G .strengths .right u l (sym (member-with-other k v u l d) ∙ e)
+  -- the strength of v is stored
+  pub one-filled : {t r s : ℕ} {table′ : List ℕ} → Filled levels others k (at others v) t r table table′ → s ≡ max (at levels v) t
+      → FieldFilled levels others k v (with r v) table (set table′ v s)
+  one-filled {t} {r} {s} {table′} F e = record {
+    strengths = record {
+      full = length-set table′ v s ∙ F .strengths .full;
+      right = λ u l i. right u l i (ℕ-discrete u v);
+      closed = λ w u hw hu i f. with-of r v u hu (closed w u hw hu i f (ℕ-discrete w v));
+    };
+    more = λ u l i. with-of r v u l (F .more u l i);
+    has = member-with-same r v (U .field);
+    inside = λ m c w h u l i. in-set m c w h u l i (ℕ-discrete u v);
+    kept = λ u l i. kept u l i (ℕ-discrete u v);
+  }
+    where
+      right : (u : ℕ) → u < 64 → member (with r v) u ≡ true → Dec (u ≡ v) → at (set table′ v s) u ≡ strength (at levels) (at others) 64 u
+      right u l i (yes d) =
+          rw d
+          (getD-set-same table′ v s 0 (omega (arith, F .strengths .full, U .field)) ∙ e ∙ ap (max (at levels v)) (F .is-greatest)
+          ∙ sym (strength-fixed (at levels) (at others) (R .rank) (R .falls) 64 v (U .field) (omega (arith, left-deep, R .few))))
+      right u l i (no d) = getD-set-other table′ v u s 0 d ∙ F .strengths .right u l (sym (member-with-other r v u l d) ∙ i)
 
-        closed : (w u : ℕ) → w < 64 → u < 64 → member (with k v) w ≡ true → member (at others w) u ≡ true → Dec (w ≡ v) → member k u ≡ true
-        closed w u hw hu e f (yes d) = empty-end (G .loop) z u hu (rw d at f)
-        closed w u hw hu e f (no d) = G .strengths .closed w u hw hu (sym (member-with-other k v w hw d) ∙ e) f
+      closed : (w u : ℕ) → w < 64 → u < 64 → member (with r v) w ≡ true → member (at others w) u ≡ true → Dec (w ≡ v) → member r u ≡ true
+      closed w u hw hu i f (yes d) = F .has u hu (rw d at f)
+      closed w u hw hu i f (no d) = F .strengths .closed w u hw hu (sym (member-with-other r v w hw d) ∙ i) f
 
-        in-set : (m : ℕ) → Closed others m → Within known m → member m v ≡ true → (u : ℕ) → u < 64 → member (with k v) u ≡ true → Dec (u ≡ v) → member m u ≡ true
-        in-set m c w h u l e (yes d) = rw d h
-        in-set m c w h u l e (no d) =
-            G .inside m c w (λ j k f. c v j (R .field) k h f) u l (sym (member-with-other k v u l d) ∙ e)
+      in-set : (m : ℕ) → Closed others m → Within k m → member m v ≡ true → (u : ℕ) → u < 64 → member (with r v) u ≡ true → Dec (u ≡ v) → member m u ≡ true
+      in-set m c w h u l i (yes d) = rw d h
+      in-set m c w h u l i (no d) = F .inside m c w (λ j q f. c v j (U .field) q h f) u l (sym (member-with-other r v u l d) ∙ i)
 
-        kept : (u : ℕ) → u < 64 → member (with k v) u ≡ false → Dec (u ≡ v) → at (set table v s) u ≡ at before u
-        kept u l e (yes d) = absurd (clash (rw d (member-with-same k v (R .field))) e)
-        kept u l e (no d) = getD-set-other table v u s 0 d ∙ G .kept u l (sym (member-with-other k v u l d) ∙ e)
+      kept : (u : ℕ) → u < 64 → member (with r v) u ≡ false → Dec (u ≡ v) → at (set table′ v s) u ≡ at table u
+      kept u l i (yes d) = absurd (clash (rw d (member-with-same r v (U .field))) i)
+      kept u l i (no d) = getD-set-other table′ v u s 0 d ∙ F .kept u l (sym (member-with-other r v u l d) ∙ i)
 
-  -- the setter of v has no other output
-  pub fill-alone : at others v ≡ 0 → Filled levels others known v (with known v) before (set before v (at levels v))
-  fill-alone = fill-done (start (R .strengths))
-
--- ---- `greatest`
+-- ---- `greatest` and `strengths`: none is known
 
 below-lt : (n u : ℕ) → u < 64 → member (below n) u ≡ true → u < n
 below-lt n u l e = ltb-true u n (sym (member-below n u l) ∙ e)
@@ -132,7 +152,7 @@ below-lt n u l e = ltb-true u n (sym (member-below n u l) ∙ e)
 lt-below : (n u : ℕ) → u < 64 → u < n → member (below n) u ≡ true
 lt-below n u l h = member-below n u l ∙ lt-ltb u n h
 
-pub none-known : (levels others table : List ℕ) → length table ≡ 64 → Strengths levels others 64 0 table
+none-known : (levels others table : List ℕ) → length table ≡ 64 → Strengths levels others 64 0 table
 none-known levels others table h = record {
   full = h;
   right = λ u l e. absurd (clash e (member-empty u));
@@ -150,97 +170,59 @@ module _ {others : List ℕ} {n : ℕ} (A : Acyclic others n) where
   below-closed v u hv hu e f = lt-below n u hu (A .inside v u (below-lt n v hv e) hu f)
 
 module _ {levels others : List ℕ} {n : ℕ} (A : Acyclic others n) where
-  at-depth : {k : ℕ} {table : List ℕ} → Strengths levels others 64 k table → Within k (below n) → Strengths levels others n k table
-  at-depth S w = record {
-    full = S .full;
-    right = λ u l e. S .right u l e ∙ same-depth A levels u (below-lt n u l (w u l e));
-    closed = S .closed;
-  }
-
-  -- what a call for a field below n asks
-  pub fill-below : {k u : ℕ} {table : List ℕ} → Strengths levels others 64 k table → u < n → Fillable levels others k table u n
-  fill-below {u = u} S l = record {
-    field = omega (arith, A .few);
-    few = A .few;
-    rank = A .rank;
-    falls = A .ranked .falls;
-    deep = A .ranked .small u l;
-    strengths = S;
-  }
-
   module _ {set : ℕ} (W : Within set (below n)) {before : List ℕ} where
-    -- a field that is left is below n
-    pub left-below : {b rest k s u : ℕ} {table : List ℕ} → Gather levels others 0 set b before table rest k s → First rest u → u < n
-    left-below {u = u} G U = below-lt n u (U .field) (W u (U .field) (taken-in (G .loop) U))
-
-    pub topped : {rest k s : ℕ} {table : List ℕ} → Gather levels others 0 set 0 before table rest k s → rest ≡ 0 → Topped levels others n set s k table
-    topped G z = record {
-      is-greatest =
-          omega (
-            arith,
-            top-end (G .top) z,
-            greatest-cong (member set) (member set) (strength (at levels) (at others) 64) (strength (at levels) (at others) n) 64 (λ u l. refl)
-                (λ u l e. same-depth A levels u (below-lt n u l (W u l e))),
-          );
-      strengths = at-depth (G .strengths) (G .inside (below n) (below-closed A) (λ u l e. absurd (clash e (member-empty u))) W);
-      has = empty-end (G .loop) z;
+    pub fill-below : length before ≡ 64 → Fillable levels others 0 before set n
+    fill-below h = record {
+      few = A .few;
+      rank = A .rank;
+      falls = A .ranked .falls;
+      deep = λ u l e. A .ranked .small u (below-lt n u l (W u l e));
+      strengths = none-known levels others before h;
     }
 
--- ---- `strengths`
+    module _ {top r : ℕ} {table : List ℕ} (F : Filled levels others 0 set top r before table) where
+      -- only fields below n are filled in
+      filled-below : Within r (below n)
+      filled-below = F .inside (below n) (below-closed A) (λ u l e. absurd (clash e (member-empty u))) W
 
--- the fields below v are known, and only fields below n
-pub record Listing (levels others : List ℕ) (n : ℕ) (before table : List ℕ) (k v : ℕ) : Type 0 where
-  pub count : v ≤ n
-  pub strengths : Strengths levels others 64 k table
-  pub inside : Within k (below n)
-  pub has : (u : ℕ) → u < v → member k u ≡ true
-  pub kept : (u : ℕ) → u < 64 → member k u ≡ false → at table u ≡ at before u
+      pub topped : Topped levels others n set top r table
+      topped = record {
+        is-greatest =
+            F .is-greatest
+            ∙ greatest-cong (member set) (member set) (strength (at levels) (at others) 64) (strength (at levels) (at others) n) 64 (λ u l. refl)
+            (λ u l e. same-depth A levels u (below-lt n u l (W u l e)));
+        strengths = record {
+          full = F .strengths .full;
+          right = λ u l e. F .strengths .right u l e ∙ same-depth A levels u (below-lt n u l (filled-below u l e));
+          closed = F .strengths .closed;
+        };
+        has = F .has;
+      }
 
-module _ {levels others : List ℕ} {n : ℕ} (A : Acyclic others n) {before : List ℕ} where
-  pub listing-start : length before ≡ 64 → Listing levels others n before before 0 0
-  listing-start h = record {
-    count = omega arith;
-    strengths = none-known levels others before h;
-    inside = λ u l e. absurd (clash e (member-empty u));
-    has = λ u l. absurd (omega arith);
-    kept = λ u l e. refl;
-  }
-
-  pub listing-step : {table table′ : List ℕ} {k r v : ℕ} → Listing levels others n before table k v → v < n
-      → Filled levels others k v r table table′ → Listing levels others n before table′ r (v + 1)
-  listing-step {table} {table′} {k} {r} {v} L l F = record {
-    count = omega arith;
-    strengths = F .strengths;
-    inside = F .inside (below n) (below-closed A) (L .inside) (lt-below n v (omega (arith, A .few)) l);
-    has = λ u h. has u h (ℕ-discrete u v);
-    kept = λ u h e. F .kept u h e ∙ L .kept u h (outside k r u (F .more) h e);
-  }
-    where
-      has : (u : ℕ) → u < v + 1 → Dec (u ≡ v) → member r u ≡ true
-      has u h (yes d) = rw d (F .has)
-      has u h (no d) = F .more u (omega (arith, A .few)) (L .has u (omega arith))
-
-  pub listed : {table : List ℕ} {k v : ℕ} → length before ≡ 64 → Listing levels others n before table k v → n ≤ v
+  pub listed : {before table : List ℕ} {set top r : ℕ} → set ≡ below n → length before ≡ 64 → Filled levels others 0 set top r before table
       → table ≡ tabulate (strength (at levels) (at others) n) n ++ drop n before
-  listed {table} {k} {v} size L e =
+  listed {before} {table} {set} {top} {r} q size F′ =
       ext-getD 0 table (tabulate f n ++ drop n before)
-      (L .strengths .full ∙ simp (length-append, length-tabulate, length-drop) (omega (arith, A .few)))
-      (λ i l. each i (omega (arith, L .strengths .full)) (decLt i n))
+      (F .strengths .full ∙ simp (length-append, length-tabulate, length-drop) (omega (arith, A .few)))
+      (λ i l. each i (omega (arith, F .strengths .full)) (decLt i n))
     where
       f : ℕ → ℕ
       f = strength (at levels) (at others) n
 
+      F : Filled levels others 0 (below n) top r before table
+      F = rw q at F′
+
       each : (i : ℕ) → i < 64 → Dec (i < n) → at table i ≡ at (tabulate f n ++ drop n before) i
       each i l (yes h) =
-          L .strengths .right i l (L .has i (omega arith)) ∙ same-depth A levels i h
+          F .strengths .right i l (F .has i l (lt-below n i l h)) ∙ same-depth A levels i h
           ∙ sym (List·getD-append (tabulate f n) (drop n before) 0 i (rw (length-tabulate f n) h) ∙ getD-tabulate f n i 0 h)
       each i l (no h) =
           let e : i ≡ length (tabulate f n) + (i - n) = omega (arith, length-tabulate f n) in
           let e′ : n + (i - n) ≡ i = omega arith in
-          L .kept i l (none (member k i) refl)
+          F .kept i l (none (member r i) refl)
           ∙ sym (ap (at (tabulate f n ++ drop n before)) e ∙ getD-append-add (tabulate f n) (drop n before) (i - n) 0
           ∙ getD-drop n before (i - n) 0 ∙ ap (at before) e′)
         where
-          none : (x : Bool) → member k i ≡ x → x ≡ false
-          none true e = absurd (h (below-lt n i l (L .inside i l e)))
+          none : (x : Bool) → member r i ≡ x → x ≡ false
+          none true e = absurd (h (below-lt n i l (filled-below (λ u l e. e) F i l e)))
           none false e = refl

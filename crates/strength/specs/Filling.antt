@@ -29,22 +29,23 @@ abbrev pub Closed : List ℕ → ℕ → Type 0
 Closed others m =
     (v u : ℕ) → v < 64 → u < 64 → member m v ≡ true → member (at others v) u ≡ true → member m u ≡ true
 
--- what `fill` asks: the table has the strengths of the known fields, at depth 64, and ranks fall from v, which is below the depth
-pub record Fillable (levels others : List ℕ) (known : ℕ) (table : List ℕ) (v depth : ℕ) : Type 0 where
-  pub field : v < 64
+-- what `fill` asks: the table has the strengths of the known fields, at depth 64, and ranks fall from the fields of the set, whose own are
+-- below the depth
+pub record Fillable (levels others : List ℕ) (known : ℕ) (table : List ℕ) (set depth : ℕ) : Type 0 where
   pub few : depth ≤ 64
   pub rank : ℕ → ℕ
   pub falls : (v u : ℕ) → v < 64 → u < 64 → member (at others v) u ≡ true → rank u < rank v
-  pub deep : rank v < depth
+  pub deep : (u : ℕ) → u < 64 → member set u ≡ true → rank u < depth
   pub strengths : Strengths levels others 64 known table
 
--- what it leaves: the table has the strengths of the fields of r too. These are known, or v, or what these depend on; what stands in the
--- table for the others is as it was.
-pub record Filled (levels others : List ℕ) (known v r : ℕ) (before after : List ℕ) : Type 0 where
+-- what it leaves: the table has the strengths of the fields of r too. These are known, or of the set, or what these depend on; what stands in
+-- the table for the others is as it was.
+pub record Filled (levels others : List ℕ) (known set top r : ℕ) (before after : List ℕ) : Type 0 where
+  pub is-greatest : top ≡ greatest (member set) (strength (at levels) (at others) 64) 64
   pub strengths : Strengths levels others 64 r after
   pub more : Within known r
-  pub has : member r v ≡ true
-  pub inside : (m : ℕ) → Closed others m → Within known m → member m v ≡ true → Within r m
+  pub has : Within set r
+  pub inside : (m : ℕ) → Closed others m → Within known m → Within set m → Within r m
   pub kept : (u : ℕ) → u < 64 → member r u ≡ false → at after u ≡ at before u
 
 -- the greatest strength of a set was worked out: the table then has the strengths of the set's fields. Which further fields it has, and what

@@ -1,5 +1,6 @@
 // Strengths of fields and the reversible path, over small tables of one entry for each field: `levels` has the level of its setter,
 // `others` the set of its setter's other outputs.
+use fieldset::below;
 use fieldset::first;
 use fieldset::lowest;
 use fieldset::member;
@@ -22,58 +23,48 @@ fn larger(a: u8, b: u8) -> u8
     if a < b { b } else { a }
 }
 
-// Sees that the table has the strength of v, and those that it depends on; the answer is the set of the fields that the table then has.
-// A setter with no other output gives its level. The depth starts at the number of fields and falls from field to field.
+pub struct Top {
+    // the fields whose strengths the table has
+    pub known: u64,
+    pub strength: u8,
+}
+
+// Sees that the table has the strengths of the fields of a set, and those that they depend on, each worked out once; a setter with no other
+// output gives its level. The depth starts at the number of fields and falls at each call.
 fn fill(
     levels: &[u8; 64],
     others: &[u64; 64],
     known: u64,
     table: &mut [u8; 64],
-    v: usize,
+    set: u64,
     depth: usize,
-) -> u64
-    requires { ⌜ Fillable (now levels) (now others) known (now table) v depth ⌝ }
-    ensures { λ r. ⌜ Filled (now (levels .entry)) (now (others .entry)) known v r (now (table .entry)) (now (table .exit)) ⌝ }
-{
-    if member(known, v) {
-        return known;
-    }
-    if others[v] == 0 {
-        table[v] = levels[v];
-        return with(known, v);
-    }
-    work_out(levels, others, known, table, v, depth)
-}
-
-// The same by way of the other outputs. It stands apart so that the two tests above are compiled into its loop, without a call.
-fn work_out(
-    levels: &[u8; 64],
-    others: &[u64; 64],
-    known: u64,
-    table: &mut [u8; 64],
-    v: usize,
-    depth: usize,
-) -> u64
-    requires { ⌜ Fillable (now levels) (now others) known (now table) v depth ⌝ }
-    ensures { λ r. ⌜ Filled (now (levels .entry)) (now (others .entry)) known v r (now (table .entry)) (now (table .exit)) ⌝ }
+) -> Top
+    requires { ⌜ Fillable (now levels) (now others) known (now table) set depth ⌝ }
+    ensures { λ r. ⌜ Filled (now (levels .entry)) (now (others .entry)) known set (r .strength) (r .known) (now (table .entry)) (now (table .exit)) ⌝ }
 {
     let mut k = known;
-    let mut s = levels[v];
-    let mut rest = others[v];
+    let mut top = 0u8;
+    let mut rest = set;
     while rest != 0 {
         let u = first(rest);
-        k = fill(levels, others, k, table, u, depth - 1);
-        s = larger(s, table[u]);
+        if !member(k, u) {
+            let mut s = levels[u];
+            let more = others[u];
+            if more != 0 {
+                let t = fill(levels, others, k, table, more, depth - 1);
+                k = t.known;
+                s = larger(s, t.strength);
+            }
+            table[u] = s;
+            k = with(k, u);
+        }
+        top = larger(top, table[u]);
         rest = without_lowest(rest);
     }
-    table[v] = s;
-    with(k, v)
-}
-
-pub struct Top {
-    // the fields whose strengths the table has
-    pub known: u64,
-    pub strength: u8,
+    Top {
+        known: k,
+        strength: top,
+    }
 }
 
 // The greatest strength of the fields of a set, 0 for the empty set.
@@ -87,19 +78,7 @@ pub fn greatest(
     requires { ⌜ Acyclic (now others) n × Within set (below n) × (length (now table) ≡ 64) ⌝ }
     ensures { λ r. ⌜ Topped (now (levels .entry)) (now (others .entry)) n set (r .strength) (r .known) (now (table .exit)) ⌝ }
 {
-    let mut k = 0u64;
-    let mut top = 0u8;
-    let mut rest = set;
-    while rest != 0 {
-        let u = first(rest);
-        k = fill(levels, others, k, table, u, n);
-        top = larger(top, table[u]);
-        rest = without_lowest(rest);
-    }
-    Top {
-        known: k,
-        strength: top,
-    }
+    fill(levels, others, 0, table, set, n)
 }
 
 // The strengths of all fields below n.
@@ -107,12 +86,7 @@ pub fn strengths(levels: &[u8; 64], others: &[u64; 64], n: usize, table: &mut [u
     requires { ⌜ Acyclic (now others) n × (length (now table) ≡ 64) ⌝ }
     ensures { λ r. ⌜ now (table .exit) ≡ tabulate (strength (at (now (levels .entry))) (at (now (others .entry))) n) n ++ drop n (now (table .entry)) ⌝ }
 {
-    let mut k = 0u64;
-    let mut v = 0usize;
-    while v < n {
-        k = fill(levels, others, k, table, v, n);
-        v += 1;
-    }
+    fill(levels, others, 0, table, below(n), n);
 }
 
 // The greatest strength of the fields of a set, 0 for the empty set, where the table has the strengths of all of them.

@@ -1,35 +1,16 @@
--- `strength::strengths` meets its contract. The loop keeps `Listing`.
-use Prim.Native.Nat.{_-_}
-use native.Mathlib.Omega.{arith}
-use Rattle.strength.proofs.Gather.{Listing, listing-start, listing-step, listed, fill-below}
+-- `strength::strengths` meets its contract.
+use Rattle.strength.proofs.Gather.{fill-below, listed}
 use Rattle.strength.proofs.strengths.Statement.{statement}
 use Rattle.strength.proofs.strengths.Tie as tie
 
-abbrev Inv-loop : tie.InvT-loop
-Inv-loop levels others n table₀ k₀ v₀ table k v = Listing levels others n table₀ table k v
+below-requires : tie.Need-below-requires
+below-requires c κs = c .before .pre .0 .few
 
-abbrev μ-loop : tie.MeasureT-loop
-μ-loop levels others n table₀ k₀ v₀ table k v = n - v
+fill-requires : tie.Need-fill-requires
+fill-requires c κs = let p = c .before .before .pre in fill-below (p .0) (λ u l e. rw (c .below .ensures) at e) (p .1)
 
-loop-holds : tie.Need-loop-holds Inv-loop μ-loop
-loop-holds c = listing-start (c .pre .0) (c .pre .1)
-
-fill-requires : tie.Need-fill-requires Inv-loop μ-loop
-fill-requires c κs = fill-below (c .before .before .before .pre .0) (c .before .before .loop .inv .strengths) (omega arith)
-
-add-v : tie.Need-add-v Inv-loop μ-loop
-add-v c = omega (arith, c .before .before .before .before .pre .0 .few)
-
-loop-less : tie.Need-loop-less Inv-loop μ-loop
-loop-less c = omega arith
-
-loop-again : tie.Need-loop-again Inv-loop μ-loop
-loop-again c = listing-step (c .before .before .before .before .pre .0) (c .before .before .before .loop .inv) (omega arith) (c .fill .ensures)
-
-returns : tie.Need-returns Inv-loop μ-loop
-returns c = listed (c .before .before .pre .0) (c .before .before .pre .1) (c .before .loop .inv) (omega arith)
+returns : tie.Need-returns
+returns c = let p = c .before .before .before .pre in listed (p .0) (c .before .below .ensures) (p .1) (c .fill .ensures)
 
 pub strengths-spec : {M : Type 1} → statement M
-strengths-spec =
-    tie.close
-    (tie.spec Inv-loop μ-loop loop-holds fill-requires add-v loop-less loop-again returns)
+strengths-spec = tie.close (tie.spec below-requires fill-requires returns)
