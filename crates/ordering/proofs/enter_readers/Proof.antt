@@ -1,7 +1,7 @@
 -- `ordering::enter_readers` meets its contract.
 use native.Mathlib.Omega.{arith}
 use Rattle.fieldset.proofs.Emptying.{first-falls}
-use Rattle.ordering.proofs.Listing.{Entering, entering-start, entering-step, entering-end}
+use Rattle.ordering.proofs.Readers.{Entering, entering-start, entering-step, entering-end}
 use Rattle.ordering.proofs.enter_readers.Statement.{statement}
 use Rattle.ordering.proofs.enter_readers.Tie as tie
 

@@ -1,4 +1,4 @@
--- Laws of the steps of the plan: the readers of each field.
+-- Laws of the readers of each field.
 use Prim.Native.Nat.{ℕ, suc, _+_, _≤_, _<_, zero-le}
 use mathlib.Core.Path.{_≡_, refl, ap, _∙_}
 use mathlib.Core.Bool.{Bool, true, false, _&&_, cond}
@@ -17,8 +17,6 @@ use Rattle.fieldset.proofs.Numbers.{ltb-suc}
 use Rattle.fieldset.proofs.Fields.{member-empty, member-with-same, member-with-other}
 use Rattle.fieldset.proofs.Emptying.{Emptying, empty-start, empty-step, empty-end, taken-was}
 use Rattle.ordering.specs.Steps.{Entered, Readers}
-
--- ---- the readers of each field
 
 -- f is entered for the fields of a set, but for the rest
 pub record Entering (f into : ℕ) (before after : List ℕ) (rest : ℕ) : Type 0 where
@@ -41,13 +39,13 @@ entering-step {f} {after = after} {x = x} p U e q = rw e (record {
 })
 
 -- the readers among the first f of n fields
-pub record Turned (reads : ℕ → ℕ) (n f : ℕ) (readers : List ℕ) : Type 0 where
+pub record ReadersUpTo (reads : ℕ → ℕ) (n f : ℕ) (readers : List ℕ) : Type 0 where
   pub few : f ≤ n
   pub long : length readers ≡ 64
   pub readers-of : Readers reads f readers
 
-pub turned-start : {reads : ℕ → ℕ} {n : ℕ} → Turned reads n 0 (replicate 64 0)
-turned-start {reads} = record {
+pub readers-start : {reads : ℕ → ℕ} {n : ℕ} → ReadersUpTo reads n 0 (replicate 64 0)
+readers-start {reads} = record {
   few = zero-le;
   long = length-replicate {A = ℕ} 64 0;
   readers-of = record {
@@ -55,9 +53,9 @@ turned-start {reads} = record {
   };
 }
 
-pub turned-step : {reads : ℕ → ℕ} {n f : ℕ} {before after : List ℕ} → n ≤ 64 → f < n → Turned reads n f before → length after ≡ 64 → Entered f (reads f) before after
-    → Turned reads n (f + 1) after
-turned-step {reads} {n} {f} {before} {after} few l t long e = rw (add-one f) (record {
+pub readers-step : {reads : ℕ → ℕ} {n f : ℕ} {before after : List ℕ} → n ≤ 64 → f < n → ReadersUpTo reads n f before → length after ≡ 64 → Entered f (reads f) before after
+    → ReadersUpTo reads n (f + 1) after
+readers-step {reads} {n} {f} {before} {after} few l t long e = rw (add-one f) (record {
   few = l;
   long = long;
   readers-of = record {
@@ -77,5 +75,5 @@ turned-step {reads} {n} {f} {before} {after} few l t long e = rw (add-one f) (re
         kept true = member-with-other (at before g) f j k d
         kept false = refl
 
-pub turned-end : {reads : ℕ → ℕ} {n f : ℕ} {readers : List ℕ} → Turned reads n f readers → n ≤ f → Readers reads n readers
-turned-end {reads} {n} {f} {readers} t l = let e : f ≡ n = omega (arith, t .few) in rw e at (t .readers-of)
+pub readers-end : {reads : ℕ → ℕ} {n f : ℕ} {readers : List ℕ} → ReadersUpTo reads n f readers → n ≤ f → Readers reads n readers
+readers-end {reads} {n} {f} {readers} t l = let e : f ≡ n = omega (arith, t .few) in rw e at (t .readers-of)
