@@ -2,18 +2,18 @@
 use fieldset::below;
 use fieldset::first;
 use fieldset::meets;
+use fieldset::nonempty;
 use fieldset::union;
 use fieldset::with;
 use fieldset::without;
 use fieldset::without_lowest;
 ghost use mathlib.Core.Path.{_≡_};
-ghost use mathlib.Core.Bool.{not, cond};
+ghost use mathlib.Core.Bool.{cond};
 ghost use mathlib.Core.List.{_++_};
 ghost use Prim.Native.Nat.{_≤_, _<_};
-ghost use lib.Dec.{eqb};
 ghost use lib.ListN.{length, drop};
 ghost use Rattle.fieldset.specs.Tables.{at};
-ghost use Rattle.fieldset.specs.Fields.{setOf, meets, without};
+ghost use Rattle.fieldset.specs.Fields.{meets, without};
 ghost use Rattle.ordering.specs.Order.{order, hasLoop};
 ghost use Rattle.ordering.specs.Walks.{Among};
 ghost use Rattle.ordering.specs.Steps.{Passed, Entered, Readers, readyOf};
@@ -44,29 +44,13 @@ fn pass(set: u64, reads: &[u64; 64]) -> u64
     left
 }
 
-// Those of the first n fields that read something.
-fn reading(reads: &[u64; 64], n: usize) -> u64
-    requires { ⌜ n ≤ 64 ⌝ }
-    ensures { λ r. ⌜ r ≡ setOf (λ f. not (eqb (at (now (reads .entry)) f) 0)) n ⌝ }
-{
-    let mut set = 0u64;
-    let mut f: usize = 0;
-    while f < n {
-        if reads[f] != 0 {
-            set = with(set, f);
-        }
-        f += 1;
-    }
-    set
-}
-
 // Whether the reads of the first n fields have a loop: passes list what they can, until all fields are listed or a pass lists none.
 // A field that reads nothing is in no loop.
 pub fn has_loop(reads: &[u64; 64], n: usize) -> bool
     requires { ⌜ Among (now reads) n ⌝ }
     ensures { λ r. ⌜ r ≡ hasLoop (at (now (reads .entry))) n ⌝ }
 {
-    let mut left = reading(reads, n);
+    let mut left = nonempty(reads, n);
     while left != 0 {
         let next = pass(left, reads);
         if next == left {

@@ -12,11 +12,11 @@ Inv-loop reads n left₀ left = Looking (at reads) n left
 abbrev μ-loop : tie.MeasureT-loop
 μ-loop reads n left₀ left = left
 
-reading-requires : tie.Need-reading-requires Inv-loop μ-loop
-reading-requires c κs = c .pre .few
+nonempty-requires : tie.Need-nonempty-requires Inv-loop μ-loop
+nonempty-requires c κs = c .pre .few
 
 loop-holds : tie.Need-loop-holds Inv-loop μ-loop
-loop-holds c = looking-start (c .before .pre .few) (c .reading .ensures)
+loop-holds c = looking-start (c .before .pre .few) (c .nonempty .ensures)
 
 pass-requires : tie.Need-pass-requires Inv-loop μ-loop
 pass-requires c κs = search needs
@@ -46,7 +46,7 @@ has-loop-spec =
     (tie.spec
     Inv-loop
     μ-loop
-    reading-requires
+    nonempty-requires
     loop-holds
     pass-requires
     returns

@@ -1,4 +1,4 @@
--- `ordering::reading` meets its contract: the set has those of the first `f` fields that read something.
+-- `fieldset::nonempty` meets its contract: the set has those of the first `f` fields whose sets are not empty.
 use Prim.Native.Nat.{_-_, _≤_}
 use mathlib.Core.Path.{_≡_, refl, ap, _∙_}
 use mathlib.Core.Bool.{not}
@@ -6,17 +6,17 @@ use mathlib.Core.Logic.{⊎-elim, inl, inr}
 use native.Mathlib.Omega.{arith}
 use borrow.Author.Tests.{eq-eqb, ne-eqb}
 use lib.Dec.{eqb}
 use Rattle.fieldset.specs.Tables.{at}
 use Rattle.fieldset.specs.Fields.{setOf}
 use Rattle.fieldset.proofs.Fields.{setOf-step}
-use Rattle.ordering.proofs.reading.Statement.{statement}
-use Rattle.ordering.proofs.reading.Tie as tie
+use Rattle.fieldset.proofs.nonempty.Statement.{statement}
+use Rattle.fieldset.proofs.nonempty.Tie as tie
 
 abbrev Inv-loop : tie.InvT-loop
-Inv-loop reads n set₀ f₀ set f = (f ≤ n) × (set ≡ setOf (λ f. not (eqb (at reads f) 0)) f)
+Inv-loop sets n set₀ f₀ set f = (f ≤ n) × (set ≡ setOf (λ f. not (eqb (at sets f) 0)) f)
 
 abbrev μ-loop : tie.MeasureT-loop
-μ-loop reads n set₀ f₀ set f = n - f
+μ-loop sets n set₀ f₀ set f = n - f
 
 loop-holds : tie.Need-loop-holds Inv-loop μ-loop
 unfolding setOf
@@ -41,7 +41,7 @@ loop-again : tie.Need-loop-again Inv-loop μ-loop
 loop-again c =
     let i = c .before .before .before .loop .inv in (
       omega arith,
-      setOf-step (λ f. not (eqb (at (c .before .before .before .before .args .reads .now) f) 0)) (c .before .before .before .loop .f) (omega arith) (i .1)
+      setOf-step (λ f. not (eqb (at (c .before .before .before .before .args .sets .now) f) 0)) (c .before .before .before .loop .f) (omega arith) (i .1)
           (⊎-elim (λ w. inl (ap not (ne-eqb _ 0 (w .0 .taken)), w .2 ∙ w .1 .ensures)) (λ w. inr (ap not (eq-eqb _ 0 (w .0 .left)), w .1)) (c .if1 .came)),
     )
 
@@ -50,8 +50,8 @@ returns c =
     let e : c .before .loop .f ≡ c .before .before .args .n = omega arith in
     c .before .loop .inv .1 ∙ ap (setOf _) e
 
-pub reading-spec : {M : Type 1} → statement M
-reading-spec =
+pub nonempty-spec : {M : Type 1} → statement M
+nonempty-spec =
     tie.close
     (tie.spec
     Inv-loop
