@@ -1,23 +1,25 @@
 -- What `fill` keeps from turn to turn, and what it leaves.
 use Prim.Native.Nat.{ℕ, _+_, _-_, _≤_, _<_, max}
 use mathlib.Core.Path.{_≡_, refl, sym, ap, _∙_}
-use mathlib.Core.Bool.{Bool, true, false, false≢true}
+use mathlib.Core.Bool.{Bool, true, false, not, cond, false≢true}
 use mathlib.Core.List.{List, _++_}
 use native.Mathlib.Decide.{ℕ-discrete, decLt}
 use native.Mathlib.Omega.{arith}
-use borrow.Author.Tests.{ltb-true, lt-ltb}
-use lib.ListN.{length, set, drop, length-set, length-append, length-drop, List·getD-append}
-use lib.Seq.{getD-set-same, getD-set-other, getD-append-add, getD-drop, ext-getD}
+use borrow.Author.Tests.{ltb-true, lt-ltb, le-ltb, ne-eqb}
+use lib.Dec.{eqb, ltb}
+use lib.ListN.{length, set, drop, length-set, length-append, length-drop}
+use lib.Seq.{getD-set-same, getD-set-other, ext-getD}
 use Rattle.fieldset.specs.Tables.{at, tabulate}
-use Rattle.fieldset.specs.Fields.{member, with, without, below, lowestOf, First, Within}
+use Rattle.fieldset.specs.Fields.{member, setOf, with, without, below, lowestOf, First, Within}
+use Rattle.fieldset.proofs.Tests.{and-left}
 use Rattle.fieldset.proofs.Numbers.{clash}
-use Rattle.fieldset.proofs.Tables.{length-tabulate, getD-tabulate}
-use Rattle.fieldset.proofs.Fields.{member-empty, member-below, member-with-same, member-with-other, with-of}
+use Rattle.fieldset.proofs.Tables.{length-tabulate, getD-tabulated}
+use Rattle.fieldset.proofs.Fields.{member-setOf, member-setOf-lt, member-empty, member-below, member-with-same, member-with-other, with-of}
 use Rattle.fieldset.proofs.Emptying.{Emptying, empty-start, empty-step, empty-end, taken-in}
 use Rattle.strength.specs.Strength.{greatest, strength}
 use Rattle.strength.specs.Filling.{Acyclic, Strengths, Closed, Fillable, Filled, Topped}
 use Rattle.strength.proofs.Maxima.{greatest-cong, Topping, top-start, top-step, top-end}
-use Rattle.strength.proofs.Depth.{strength-stable, strength-fixed}
+use Rattle.strength.proofs.Depth.{strength-alone, strength-stable, strength-fixed}
 
 -- a field that is not in the greater set is not in the smaller
 outside : (a b u : ℕ) → Within a b → u < 64 → member b u ≡ false → member a u ≡ false
@@ -199,30 +201,41 @@ module _ {levels others : List ℕ} {n : ℕ} (A : Acyclic others n) where
         has = F .has;
       }
 
-  pub listed : {before table : List ℕ} {set top r : ℕ} → set ≡ below n → length before ≡ 64 → Filled levels others 0 set top r before table
+-- ---- `strengths`: the levels are entered, and the strengths of the fields whose setters have other outputs filled in
+
+-- the setter of v has other outputs
+abbrev some : List ℕ → ℕ → Bool
+some others v = not (eqb (at others v) 0)
+
+some-below : (others : List ℕ) (n : ℕ) {rest : ℕ} → rest ≡ setOf (some others) n → Within rest (below n)
+some-below others n q u l e =
+    member-below n u l ∙ and-left (ltb u n) (some others u) (sym (member-setOf (some others) n u) ∙ (rw q at e))
+
+module _ (levels before : List ℕ) {others : List ℕ} {n : ℕ} (A : Acyclic others n) {rest : ℕ} (q : rest ≡ setOf (some others) n)
+    (size : length before ≡ 64) {entered : List ℕ} (levelled : entered ≡ tabulate (at levels) n ++ drop n before) where
+  pub listed-asks : Fillable levels others 0 entered rest n
+  listed-asks = fill-below A (some-below others n q) (ap length levelled ∙ simp (length-append, length-tabulate, length-drop) (omega (arith, A .few)))
+
+  pub listed : {top r : ℕ} {table : List ℕ} → Filled levels others 0 rest top r entered table
       → table ≡ tabulate (strength (at levels) (at others) n) n ++ drop n before
-  listed {before} {table} {set} {top} {r} q size F′ =
+  listed {top} {r} {table} F =
       ext-getD 0 table (tabulate f n ++ drop n before)
       (F .strengths .full ∙ simp (length-append, length-tabulate, length-drop) (omega (arith, A .few)))
-      (λ i l. each i (omega (arith, F .strengths .full)) (decLt i n))
+      (λ i l. let k : i < 64 = omega (arith, F .strengths .full) in each i k (member r i) refl ∙ sym (getD-tabulated f n before i))
     where
       f : ℕ → ℕ
       f = strength (at levels) (at others) n
 
-      F : Filled levels others 0 (below n) top r before table
-      F = rw q at F′
-
-      each : (i : ℕ) → i < 64 → Dec (i < n) → at table i ≡ at (tabulate f n ++ drop n before) i
-      each i l (yes h) =
-          F .strengths .right i l (F .has i l (lt-below n i l h)) ∙ same-depth A levels i h
-          ∙ sym (List·getD-append (tabulate f n) (drop n before) 0 i (rw (length-tabulate f n) h) ∙ getD-tabulate f n i 0 h)
-      each i l (no h) =
-          let e : i ≡ length (tabulate f n) + (i - n) = omega (arith, length-tabulate f n) in
-          let e′ : n + (i - n) ≡ i = omega arith in
-          F .kept i l (none (member r i) refl)
-          ∙ sym (ap (at (tabulate f n ++ drop n before)) e ∙ getD-append-add (tabulate f n) (drop n before) (i - n) 0
-          ∙ getD-drop n before (i - n) 0 ∙ ap (at before) e′)
+      each : (i : ℕ) → i < 64 → (b : Bool) → member r i ≡ b → at table i ≡ cond (ltb i n) (f i) (at before i)
+      each i l true e =
+          let h : i < n = below-lt n i l (filled-below A (some-below others n q) F i l e) in
+          F .strengths .right i l e ∙ same-depth A levels i h ∙ rw (lt-ltb i n h)
+      each i l false e = F .kept i l e ∙ ap (λ (t : List ℕ). at t i) levelled ∙ getD-tabulated (at levels) n before i ∙ go (decLt i n)
         where
-          none : (x : Bool) → member r i ≡ x → x ≡ false
-          none true e = absurd (h (below-lt n i l (filled-below (λ u l e. e) F i l e)))
-          none false e = refl
+          alone : i < n → Dec (at others i ≡ 0) → at others i ≡ 0
+          alone h (yes z) = z
+          alone h (no z) = absurd (clash (F .has i l (rw q (member-setOf-lt (some others) n i h ∙ ap not (ne-eqb (at others i) 0 z)))) e)
+
+          go : Dec (i < n) → cond (ltb i n) (at levels i) (at before i) ≡ cond (ltb i n) (f i) (at before i)
+          go (yes h) = rw (lt-ltb i n h) (sym (strength-alone (at levels) (at others) n i (omega arith) (alone h (ℕ-discrete (at others i) 0))))
+          go (no h) = rw (le-ltb i n (omega arith))

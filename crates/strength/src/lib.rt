@@ -1,16 +1,16 @@
 // Strengths of fields and the reversible path, over small tables of one entry for each field: `levels` has the level of its setter,
 // `others` the set of its setter's other outputs.
-use fieldset::below;
 use fieldset::first;
 use fieldset::lowest;
 use fieldset::member;
+use fieldset::nonempty;
 use fieldset::with;
 use fieldset::without_lowest;
 ghost use mathlib.Core.Path.{_≡_};
 ghost use mathlib.Core.Bool.{true};
 ghost use lib.Dec.{eqb};
 ghost use mathlib.Core.List.{_++_};
-ghost use Prim.Native.Nat.{_<_, max};
+ghost use Prim.Native.Nat.{_≤_, _<_, max};
 ghost use lib.ListN.{length, drop};
 ghost use Rattle.fieldset.specs.Tables.{at, tabulate};
 ghost use Rattle.fieldset.specs.Fields.{member, below, filter, Within};
@@ -81,12 +81,26 @@ pub fn greatest(
     fill(levels, others, 0, table, set, n)
 }
 
-// The strengths of all fields below n.
+// The levels of the first n fields go to the start of the table.
+fn enter_levels(levels: &[u8; 64], n: usize, table: &mut [u8; 64])
+    requires { ⌜ (n ≤ 64) × (length (now table) ≡ 64) ⌝ }
+    ensures { λ r. ⌜ now (table .exit) ≡ tabulate (at (now (levels .entry))) n ++ drop n (now (table .entry)) ⌝ }
+{
+    let mut v = 0usize;
+    while v < n {
+        table[v] = levels[v];
+        v += 1;
+    }
+}
+
+// The strengths of all fields below n. Where a setter has no other output it is the level, so that only the others are worked out.
 pub fn strengths(levels: &[u8; 64], others: &[u64; 64], n: usize, table: &mut [u8; 64])
     requires { ⌜ Acyclic (now others) n × (length (now table) ≡ 64) ⌝ }
     ensures { λ r. ⌜ now (table .exit) ≡ tabulate (strength (at (now (levels .entry))) (at (now (others .entry))) n) n ++ drop n (now (table .entry)) ⌝ }
 {
-    fill(levels, others, 0, table, below(n), n);
+    enter_levels(levels, n, table);
+    let rest = nonempty(others, n);
+    fill(levels, others, 0, table, rest, n);
 }
 
 // The greatest strength of the fields of a set, 0 for the empty set, where the table has the strengths of all of them.

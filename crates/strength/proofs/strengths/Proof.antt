@@ -1,16 +1,19 @@
 -- `strength::strengths` meets its contract.
-use Rattle.strength.proofs.Gather.{fill-below, listed}
+use Rattle.strength.proofs.Gather.{listed-asks, listed}
 use Rattle.strength.proofs.strengths.Statement.{statement}
 use Rattle.strength.proofs.strengths.Tie as tie
 
-below-requires : tie.Need-below-requires
-below-requires c κs = c .before .pre .0 .few
+enter-levels-requires : tie.Need-enter-levels-requires
+enter-levels-requires c κs = (c .before .pre .0 .few, c .before .pre .1)
+
+nonempty-requires : tie.Need-nonempty-requires
+nonempty-requires c κs = c .before .before .pre .0 .few
 
 fill-requires : tie.Need-fill-requires
-fill-requires c κs = let p = c .before .before .pre in fill-below (p .0) (λ u l e. rw (c .below .ensures) at e) (p .1)
+fill-requires c κs = let p = c .before .before .before .before .pre in listed-asks _ _ (p .0) (c .before .nonempty .ensures) (p .1) (c .before .before .enter-levels .ensures)
 
 returns : tie.Need-returns
-returns c = let p = c .before .before .before .pre in listed (p .0) (c .before .below .ensures) (p .1) (c .fill .ensures)
+returns c = let p = c .before .before .before .before .before .pre in listed _ _ (p .0) (c .before .before .nonempty .ensures) (p .1) (c .before .before .before .enter-levels .ensures) (c .fill .ensures)
 
 pub strengths-spec : {M : Type 1} → statement M
-strengths-spec = tie.close (tie.spec below-requires fill-requires returns)
+strengths-spec = tie.close (tie.spec enter-levels-requires nonempty-requires fill-requires returns)
