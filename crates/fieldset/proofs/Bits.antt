@@ -12,9 +12,9 @@ use lib.Pow.{pow-pos, pow-mono, ones-lt, ones-sub-lt, shl-exact, shr-shr}
 use lib.Bits.{bitAnd, bitOr, and-mask, and-step, or-step, and-shr, or-shr, and-self, and-le-l, and-lt, or-lt}
 use lib.Count.{ones, onesIn, ones-cat, under, trailingZeros}
 use Rattle.fieldset.specs.Numbers.{count, any}
-use Rattle.fieldset.specs.Fields.{member, setOf, with, without, union, only, below, lowestOf, size, meets, within}
+use Rattle.fieldset.specs.Fields.{member, setOf, with, without, union, only, below, lowestOf, minus, size, meets, within}
 use Rattle.fieldset.proofs.Numbers.{clash, sum-one, sum-not, Lowest, lowest-same, any-found, any-false}
-use Rattle.fieldset.proofs.Fields.{mod-suc, setOf-sum, setOf-members, ext-member, member-setOf, member-setOf-lt, member-with, member-without, member-union, member-only, member-below, with-lt, without-lt, union-lt, only-lt, below-lt, without-add, lowestOf-member, member-empty, empty-of-none}
+use Rattle.fieldset.proofs.Fields.{mod-suc, setOf-sum, setOf-members, ext-member, member-setOf, member-setOf-lt, member-with, member-without, member-union, member-only, member-below, with-lt, without-lt, union-lt, only-lt, below-lt, filter-lt, member-filter, without-add, lowestOf-member, member-empty, empty-of-none}
 
 -- ---- the members of a | b and of a & b
 
@@ -113,6 +113,11 @@ and-without m i hm hi =
     rw (shl-only i hi)
     (ext-member 64 (bitAnd m (2 ^ 64 - 1 - only i)) (without m i) (and-lt 64 m (2 ^ 64 - 1 - only i) hm (ones-sub-lt 64 (only i))) (without-lt m i)
     (λ j l. member-and m (2 ^ 64 - 1 - only i) j ∙ rw (member-not 64 (only i) j (only-lt i) l, member-only i j l) (sym (member-without m i j l))))
+
+pub and-minus : (a b : ℕ) → a < 2 ^ 64 → b < 2 ^ 64 → bitAnd a (2 ^ 64 - 1 - b) ≡ minus a b
+and-minus a b ha hb =
+    ext-member 64 (bitAnd a (2 ^ 64 - 1 - b)) (minus a b) (and-lt 64 a (2 ^ 64 - 1 - b) ha (ones-sub-lt 64 b)) (filter-lt _ a)
+    (λ j l. member-and a (2 ^ 64 - 1 - b) j ∙ rw (member-not 64 b j hb l) (sym (member-filter (λ j. not (member b j)) a j l)))
 
 -- ---- the zeros below the lowest digit set
 

@@ -49,6 +49,10 @@ pub record First (m u : ℕ) : Type 0 where
 unfoldable pub filter : (ℕ → Bool) → ℕ → ℕ
 filter p m = setOf (λ j. member m j && p j) 64
 
+-- the fields of a that are not in b
+abbrev pub minus : ℕ → ℕ → ℕ
+minus a b = filter (λ j. not (member b j)) a
+
 -- how many fields a set has
 unfoldable pub size : ℕ → ℕ
 size m = count (member m) 64

@@ -4,7 +4,7 @@ ghost use mathlib.Core.Bool.{not};
 ghost use Prim.Native.Nat.{_≤_, _<_};
 ghost use lib.Dec.{eqb};
 ghost use Rattle.fieldset.specs.Tables.{at};
-ghost use Rattle.fieldset.specs.Fields.{member, setOf, with, without, union, meets, within, only, below, lowestOf, First, size};
+ghost use Rattle.fieldset.specs.Fields.{member, setOf, with, without, union, meets, within, only, below, lowestOf, First, minus, size};
 
 // The same number, wider.
 pub fn wide(x: u8) -> usize
@@ -50,6 +50,13 @@ pub fn union(a: u64, b: u64) -> u64
     ensures { λ r. ⌜ r ≡ union a b ⌝ }
 {
     a | b
+}
+
+// The fields of a that are not in b.
+pub fn minus(a: u64, b: u64) -> u64
+    ensures { λ r. ⌜ r ≡ minus a b ⌝ }
+{
+    a & !b
 }
 
 // Whether some field is in a and in b.

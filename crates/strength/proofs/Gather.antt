@@ -1,20 +1,20 @@
 -- What `fill` keeps from turn to turn, and what it leaves.
 use Prim.Native.Nat.{ℕ, _+_, _-_, _≤_, _<_, max}
 use mathlib.Core.Path.{_≡_, refl, sym, ap, _∙_}
-use mathlib.Core.Bool.{Bool, true, false, not, cond, false≢true}
+use mathlib.Core.Bool.{Bool, true, false, not, _&&_, cond, false≢true}
 use mathlib.Core.List.{List, _++_}
 use native.Mathlib.Decide.{ℕ-discrete, decLt}
 use native.Mathlib.Omega.{arith}
-use borrow.Author.Tests.{ltb-true, lt-ltb, le-ltb, ne-eqb}
+use borrow.Author.Tests.{ltb-true, lt-ltb, le-ltb, ne-eqb, not-true}
 use lib.Dec.{eqb, ltb}
 use lib.ListN.{length, set, drop, length-set, length-append, length-drop}
 use lib.Seq.{getD-set-same, getD-set-other, ext-getD}
 use Rattle.fieldset.specs.Tables.{at, tabulate}
-use Rattle.fieldset.specs.Fields.{member, setOf, with, without, below, lowestOf, First, Within}
-use Rattle.fieldset.proofs.Tests.{and-left}
+use Rattle.fieldset.specs.Fields.{member, setOf, with, without, below, lowestOf, First, minus, Within}
+use Rattle.fieldset.proofs.Tests.{and-left, and-right}
 use Rattle.fieldset.proofs.Numbers.{clash}
 use Rattle.fieldset.proofs.Tables.{length-tabulate, getD-tabulated}
-use Rattle.fieldset.proofs.Fields.{member-setOf, member-setOf-lt, member-empty, member-below, member-with-same, member-with-other, with-of}
+use Rattle.fieldset.proofs.Fields.{member-filter, member-setOf, member-setOf-lt, member-empty, member-below, member-with-same, member-with-other, with-of}
 use Rattle.fieldset.proofs.Emptying.{Emptying, empty-start, empty-step, empty-end, taken-in}
 use Rattle.strength.specs.Strength.{greatest, strength}
 use Rattle.strength.specs.Filling.{Acyclic, Strengths, Closed, Fillable, Filled, Topped}
@@ -108,9 +108,18 @@ module _ {levels others : List ℕ} {known wanted depth : ℕ} {before : List �
     strengths = G .strengths;
   }
 
-  -- it has none
-  pub fill-none : at others v ≡ 0 → Filled levels others k (at others v) 0 k table table
-  fill-none = finish (start (G .strengths))
+  -- they are known
+  pub fill-known : Within (at others v) k → Filled levels others k (at others v) (greatest (member (at others v)) (at table) 64) k table table
+  fill-known w = record {
+    is-greatest =
+        greatest-cong (member (at others v)) (member (at others v)) (at table) (strength (at levels) (at others) 64) 64 (λ u l. refl)
+        (λ u l e. G .strengths .right u l (w u l e));
+    strengths = G .strengths;
+    more = λ u l e. e;
+    has = w;
+    inside = λ m c h p. h;
+    kept = λ u l e. refl;
+  }
 
   -- the strength of v is stored
   pub one-filled : {t r s : ℕ} {table′ : List ℕ} → Filled levels others k (at others v) t r table table′ → s ≡ max (at levels v) t
@@ -154,7 +163,10 @@ below-lt n u l e = ltb-true u n (sym (member-below n u l) ∙ e)
 lt-below : (n u : ℕ) → u < 64 → u < n → member (below n) u ≡ true
 lt-below n u l h = member-below n u l ∙ lt-ltb u n h
 
-none-known : (levels others table : List ℕ) → length table ≡ 64 → Strengths levels others 64 0 table
+pub none-below : (n : ℕ) → Within 0 (below n)
+none-below n u l e = absurd (clash e (member-empty u))
+
+pub none-known : (levels others table : List ℕ) → length table ≡ 64 → Strengths levels others 64 0 table
 none-known levels others table h = record {
   full = h;
   right = λ u l e. absurd (clash e (member-empty u));
@@ -172,20 +184,20 @@ module _ {others : List ℕ} {n : ℕ} (A : Acyclic others n) where
   below-closed v u hv hu e f = lt-below n u hu (A .inside v u (below-lt n v hv e) hu f)
 
 module _ {levels others : List ℕ} {n : ℕ} (A : Acyclic others n) where
-  module _ {set : ℕ} (W : Within set (below n)) {before : List ℕ} where
-    pub fill-below : length before ≡ 64 → Fillable levels others 0 before set n
-    fill-below h = record {
+  module _ {known set : ℕ} (K : Within known (below n)) (W : Within set (below n)) {before : List ℕ} where
+    pub fill-below : Strengths levels others 64 known before → Fillable levels others known before set n
+    fill-below S = record {
       few = A .few;
       rank = A .rank;
       falls = A .ranked .falls;
       deep = λ u l e. A .ranked .small u (below-lt n u l (W u l e));
-      strengths = none-known levels others before h;
+      strengths = S;
     }
 
-    module _ {top r : ℕ} {table : List ℕ} (F : Filled levels others 0 set top r before table) where
+    module _ {top r : ℕ} {table : List ℕ} (F : Filled levels others known set top r before table) where
       -- only fields below n are filled in
       filled-below : Within r (below n)
-      filled-below = F .inside (below n) (below-closed A) (λ u l e. absurd (clash e (member-empty u))) W
+      filled-below = F .inside (below n) (below-closed A) K W
 
       pub topped : Topped levels others n set top r table
       topped = record {
@@ -201,41 +213,61 @@ module _ {levels others : List ℕ} {n : ℕ} (A : Acyclic others n) where
         has = F .has;
       }
 
--- ---- `strengths`: the levels are entered, and the strengths of the fields whose setters have other outputs filled in
+-- ---- `strengths`: the levels are entered, which are the strengths of the fields whose setters have no other output; the rest is filled in
 
 -- the setter of v has other outputs
 abbrev some : List ℕ → ℕ → Bool
 some others v = not (eqb (at others v) 0)
 
-some-below : (others : List ℕ) (n : ℕ) {rest : ℕ} → rest ≡ setOf (some others) n → Within rest (below n)
-some-below others n q u l e =
-    member-below n u l ∙ and-left (ltb u n) (some others u) (sym (member-setOf (some others) n u) ∙ (rw q at e))
+module _ (levels before : List ℕ) {others : List ℕ} {n : ℕ} (A : Acyclic others n) {rest known : ℕ} (q : rest ≡ setOf (some others) n)
+    (k : known ≡ minus (below n) rest) (size : length before ≡ 64) {entered : List ℕ} (levelled : entered ≡ tabulate (at levels) n ++ drop n before) where
+  rest-below : Within rest (below n)
+  rest-below u l e = member-below n u l ∙ and-left (ltb u n) (some others u) (sym (member-setOf (some others) n u) ∙ (rw q at e))
 
-module _ (levels before : List ℕ) {others : List ℕ} {n : ℕ} (A : Acyclic others n) {rest : ℕ} (q : rest ≡ setOf (some others) n)
-    (size : length before ≡ 64) {entered : List ℕ} (levelled : entered ≡ tabulate (at levels) n ++ drop n before) where
-  pub listed-asks : Fillable levels others 0 entered rest n
-  listed-asks = fill-below A (some-below others n q) (ap length levelled ∙ simp (length-append, length-tabulate, length-drop) (omega (arith, A .few)))
+  known-is : (u : ℕ) → u < 64 → member known u ≡ (member (below n) u && not (member rest u))
+  known-is u l = ap (λ (m : ℕ). member m u) k ∙ member-filter (λ j. not (member rest j)) (below n) u l
 
-  pub listed : {top r : ℕ} {table : List ℕ} → Filled levels others 0 rest top r entered table
+  known-below : Within known (below n)
+  known-below u l e = and-left (member (below n) u) (not (member rest u)) (sym (known-is u l) ∙ e)
+
+  known-alone : (u : ℕ) → u < 64 → member known u ≡ true → at others u ≡ 0
+  known-alone u l e = go (ℕ-discrete (at others u) 0)
+    where
+      go : Dec (at others u ≡ 0) → at others u ≡ 0
+      go (yes z) = z
+      go (no z) =
+          absurd (clash (rw q (member-setOf-lt (some others) n u (below-lt n u l (known-below u l e)) ∙ ap not (ne-eqb (at others u) 0 z)))
+          (not-true (member rest u) (and-right (member (below n) u) (not (member rest u)) (sym (known-is u l) ∙ e))))
+
+  pub listed-asks : Fillable levels others known entered rest n
+  listed-asks = fill-below A known-below rest-below (record {
+    full = ap length levelled ∙ simp (length-append, length-tabulate, length-drop) (omega (arith, A .few));
+    right = λ u l e.
+        ap (λ (t : List ℕ). at t u) levelled ∙ getD-tabulated (at levels) n before u
+        ∙ rw (lt-ltb u n (below-lt n u l (known-below u l e))) (sym (strength-alone (at levels) (at others) 64 u (omega arith) (known-alone u l e)));
+    closed = λ v u hv hu e f. absurd (clash (rw (known-alone v hv e) at f) (member-empty u));
+  })
+
+  pub listed : {top r : ℕ} {table : List ℕ} → Filled levels others known rest top r entered table
       → table ≡ tabulate (strength (at levels) (at others) n) n ++ drop n before
   listed {top} {r} {table} F =
       ext-getD 0 table (tabulate f n ++ drop n before)
       (F .strengths .full ∙ simp (length-append, length-tabulate, length-drop) (omega (arith, A .few)))
-      (λ i l. let k : i < 64 = omega (arith, F .strengths .full) in each i k (member r i) refl ∙ sym (getD-tabulated f n before i))
+      (λ i l. each i (omega (arith, F .strengths .full)) (decLt i n) ∙ sym (getD-tabulated f n before i))
     where
       f : ℕ → ℕ
       f = strength (at levels) (at others) n
 
-      each : (i : ℕ) → i < 64 → (b : Bool) → member r i ≡ b → at table i ≡ cond (ltb i n) (f i) (at before i)
-      each i l true e =
-          let h : i < n = below-lt n i l (filled-below A (some-below others n q) F i l e) in
-          F .strengths .right i l e ∙ same-depth A levels i h ∙ rw (lt-ltb i n h)
-      each i l false e = F .kept i l e ∙ ap (λ (t : List ℕ). at t i) levelled ∙ getD-tabulated (at levels) n before i ∙ go (decLt i n)
+      each : (i : ℕ) → i < 64 → Dec (i < n) → at table i ≡ cond (ltb i n) (f i) (at before i)
+      each i l (yes h) = F .strengths .right i l (has (member rest i) refl) ∙ same-depth A levels i h ∙ rw (lt-ltb i n h)
         where
-          alone : i < n → Dec (at others i ≡ 0) → at others i ≡ 0
-          alone h (yes z) = z
-          alone h (no z) = absurd (clash (F .has i l (rw q (member-setOf-lt (some others) n i h ∙ ap not (ne-eqb (at others i) 0 z)))) e)
-
-          go : Dec (i < n) → cond (ltb i n) (at levels i) (at before i) ≡ cond (ltb i n) (f i) (at before i)
-          go (yes h) = rw (lt-ltb i n h) (sym (strength-alone (at levels) (at others) n i (omega arith) (alone h (ℕ-discrete (at others i) 0))))
-          go (no h) = rw (le-ltb i n (omega arith))
+          has : (b : Bool) → member rest i ≡ b → member r i ≡ true
+          has true e = F .has i l e
+          has false e = F .more i l (known-is i l ∙ rw (lt-below n i l h, e))
+      each i l (no h) =
+          F .kept i l (none (member r i) refl) ∙ ap (λ (t : List ℕ). at t i) levelled ∙ getD-tabulated (at levels) n before i
+          ∙ rw (le-ltb i n (omega arith))
+        where
+          none : (b : Bool) → member r i ≡ b → b ≡ false
+          none true e = absurd (h (below-lt n i l (filled-below A known-below rest-below F i l e)))
+          none false e = refl

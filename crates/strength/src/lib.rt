@@ -1,10 +1,13 @@
 // Strengths of fields and the reversible path, over small tables of one entry for each field: `levels` has the level of its setter,
 // `others` the set of its setter's other outputs.
+use fieldset::below;
 use fieldset::first;
 use fieldset::lowest;
 use fieldset::member;
+use fieldset::minus;
 use fieldset::nonempty;
 use fieldset::with;
+use fieldset::within;
 use fieldset::without_lowest;
 ghost use mathlib.Core.Path.{_≡_};
 ghost use mathlib.Core.Bool.{true};
@@ -29,8 +32,8 @@ pub struct Top {
     pub strength: u8,
 }
 
-// Sees that the table has the strengths of the fields of a set, and those that they depend on, each worked out once; a setter with no other
-// output gives its level. The depth starts at the number of fields and falls at each call.
+// Sees that the table has the strengths of the fields of a set, and those that they depend on, each worked out once. The depth starts at
+// the number of fields and falls at each call.
 fn fill(
     levels: &[u8; 64],
     others: &[u64; 64],
@@ -50,7 +53,9 @@ fn fill(
         if !member(k, u) {
             let mut s = levels[u];
             let more = others[u];
-            if more != 0 {
+            if within(more, k) {
+                s = larger(s, top_of(table, more));
+            } else {
                 let t = fill(levels, others, k, table, more, depth - 1);
                 k = t.known;
                 s = larger(s, t.strength);
@@ -100,7 +105,7 @@ pub fn strengths(levels: &[u8; 64], others: &[u64; 64], n: usize, table: &mut [u
 {
     enter_levels(levels, n, table);
     let rest = nonempty(others, n);
-    fill(levels, others, 0, table, rest, n);
+    fill(levels, others, minus(below(n), rest), table, rest, n);
 }
 
 // The greatest strength of the fields of a set, 0 for the empty set, where the table has the strengths of all of them.
