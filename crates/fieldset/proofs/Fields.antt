@@ -217,7 +217,7 @@ unfolding size
 size-empty = count-none (member 0) 64 (λ i l. member-empty i)
 
 -- a subset is no larger
-pub size-mono : (a b : ℕ) → ((i : ℕ) → i < 64 → member a i ≡ true → member b i ≡ true) → size a ≤ size b
+pub size-mono : (a b : ℕ) → Within a b → size a ≤ size b
 unfolding size
 size-mono a b h = count-mono (member a) (member b) 64 h
 
@@ -274,7 +274,7 @@ module _ (m : ℕ) (hm : m < 2 ^ 64) where
 
 -- ---- two sets
 
-pub within-true : (a b : ℕ) → ((i : ℕ) → i < 64 → member a i ≡ true → member b i ≡ true) → within a b ≡ true
+pub within-true : (a b : ℕ) → Within a b → within a b ≡ true
 unfolding within
 within-true a b h = ap not (any-none (λ j. member a j && not (member b j)) 64 (λ i l. go i l (member a i) refl))
   where
