@@ -16,7 +16,7 @@ use Rattle.fieldset.specs.Tables.{at}
 use Rattle.fieldset.specs.Fields.{member, with, without, union, below, size, within}
 use Rattle.fieldset.proofs.Numbers.{clash, any-here, any-cong}
 use Rattle.fieldset.proofs.Fields.{ext-member, member-empty, member-with, member-with-same, member-with-other, member-without-same, member-without-other, member-union, member-below, with-lt, without-lt, union-lt, size-empty, size-without, within-true}
-use Rattle.fieldset.proofs.Tests.{and-left, and-right}
+use Rattle.fieldset.proofs.Tests.{and-left, and-right, not-or}
 use Rattle.panel.specs.Commands.{fieldOf, isOutput, hasBit6, anyOf, fieldsIn, coveredIn, outputsIn, isRising, areFieldBytes}
 use Rattle.panel.proofs.Checks.{fields-lt}
 use Rattle.fieldbytes.specs.Bytes.{FieldsOf}
@@ -126,10 +126,6 @@ ltb-not a b = go (decLt a b)
     go : Dec (a < b) → ltb a b ≡ not (leb b a)
     go (yes l) = rw (lt-ltb a b l, lt-leb b a l)
     go (no l) = rw (le-ltb a b (omega arith), le-leb b a (omega arith))
-
-not-or : (a b : Bool) → not (a || b) ≡ (not a && not b)
-not-or true b = refl
-not-or false b = refl
 
 -- all covered fields are below n
 pub covered-within : (n : ℕ) (bytes : List ℕ) → within (coveredIn bytes) (below n) ≡ not (anyOf (λ b. leb n (fieldOf b)) bytes)

@@ -1,7 +1,7 @@
 -- What the machine's operations on numbers of 64 bits do to sets of fields.
 use Prim.Native.Nat.{ℕ, zero, suc, _+_, _-_, _*_, _/_, _%_, _^_, _≤_, _<_, min, max}
 use mathlib.Core.Path.{_≡_, refl, sym, ap, _∙_}
-use mathlib.Core.Bool.{Bool, true, false, not, _&&_, _||_, cond, and-true}
+use mathlib.Core.Bool.{Bool, true, false, not, _&&_, _||_, cond, and-true, Bool·not-not}
 use mathlib.Core.Logic.{inl, inr}
 use native.Mathlib.Nat.{le-refl, pow-suc, mod-one, mod-lt, add-zero, le-of-suc-le-suc, not-suc-le-zero, div-one, mod-eq-of-lt, one-mul, lt-of-lt-of-le}
 use native.Mathlib.Numerals.{one-add}
@@ -12,9 +12,9 @@ use lib.Pow.{pow-pos, pow-mono, ones-lt, ones-sub-lt, shl-exact, shr-shr}
 use lib.Bits.{bitAnd, bitOr, and-mask, and-step, or-step, and-shr, or-shr, and-self, and-le-l, and-lt, or-lt}
 use lib.Count.{ones, onesIn, ones-cat, under, trailingZeros}
 use Rattle.fieldset.specs.Numbers.{count, any}
-use Rattle.fieldset.specs.Fields.{member, setOf, with, without, union, only, below, lowestOf, size, meets, within}
+use Rattle.fieldset.specs.Fields.{member, setOf, with, without, union, only, below, lowestOf, minus, size, meets, within}
 use Rattle.fieldset.proofs.Numbers.{clash, sum-one, sum-not, Lowest, lowest-same, any-found, any-false}
-use Rattle.fieldset.proofs.Fields.{mod-suc, setOf-sum, setOf-members, ext-member, member-setOf, member-setOf-lt, member-with, member-without, member-union, member-only, member-below, with-lt, without-lt, union-lt, only-lt, below-lt, without-add, lowestOf-member, member-empty, empty-of-none}
+use Rattle.fieldset.proofs.Fields.{mod-suc, setOf-sum, setOf-members, ext-member, member-setOf, member-setOf-lt, member-with, member-without, member-union, member-only, member-below, with-lt, without-lt, union-lt, only-lt, below-lt, filter-lt, member-filter, without-add, lowestOf-member, member-empty, empty-of-none}
 
 -- ---- the members of a | b and of a & b
 
@@ -114,6 +114,11 @@ and-without m i hm hi =
     (ext-member 64 (bitAnd m (2 ^ 64 - 1 - only i)) (without m i) (and-lt 64 m (2 ^ 64 - 1 - only i) hm (ones-sub-lt 64 (only i))) (without-lt m i)
     (λ j l. member-and m (2 ^ 64 - 1 - only i) j ∙ rw (member-not 64 (only i) j (only-lt i) l, member-only i j l) (sym (member-without m i j l))))
 
+pub and-minus : (a b : ℕ) → a < 2 ^ 64 → b < 2 ^ 64 → bitAnd a (2 ^ 64 - 1 - b) ≡ minus a b
+and-minus a b ha hb =
+    ext-member 64 (bitAnd a (2 ^ 64 - 1 - b)) (minus a b) (and-lt 64 a (2 ^ 64 - 1 - b) ha (ones-sub-lt 64 b)) (filter-lt _ a)
+    (λ j l. member-and a (2 ^ 64 - 1 - b) j ∙ rw (member-not 64 b j hb l) (sym (member-filter (λ j. not (member b j)) a j l)))
+
 -- ---- the zeros below the lowest digit set
 
 member-first : (m : ℕ) → member m 0 ≡ eqb (m % 2) 1
@@ -192,16 +197,12 @@ is-empty x q small same = go (any q 64) refl
         ne-eqb x 0 (λ z. clash (same (r .0) (r .1) ∙ r .2) (rw z (member-empty (r .0))))
     go false e = eq-eqb x 0 (empty-of-none 64 x small (λ i l. same i l ∙ any-false q 64 i e l))
 
-not-not : (b : Bool) → not (not b) ≡ b
-not-not true = refl
-not-not false = refl
-
 -- the fields of a and b, none or some
 pub and-meets : (a b : ℕ) → a < 2 ^ 64 → b < 2 ^ 64 → not (eqb (bitAnd a b) 0) ≡ meets a b
 unfolding meets
 and-meets a b ha hb =
     ap not (is-empty (bitAnd a b) (λ j. member a j && member b j) (omega (arith, and-le-l a b)) (λ i l. member-and a b i))
-    ∙ not-not (any (λ j. member a j && member b j) 64)
+    ∙ Bool·not-not (any (λ j. member a j && member b j) 64)
 
 -- the fields of a that are not in b, none
 pub and-within : (a b : ℕ) → a < 2 ^ 64 → b < 2 ^ 64 → eqb (bitAnd a (2 ^ 64 - 1 - b)) 0 ≡ within a b

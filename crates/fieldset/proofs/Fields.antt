@@ -2,17 +2,17 @@
 use Prim.Native.Nat.{ℕ, zero, suc, _+_, _*_, _/_, _%_, _^_, _≤_, _<_}
 use mathlib.Core.Path.{_≡_, refl, sym, ap, _∙_}
 use mathlib.Core.Bool.{Bool, true, false, not, _&&_, _||_, cond, and-false, or-true, or-false}
-use mathlib.Core.Logic.{inl, inr, _≢_}
+use mathlib.Core.Logic.{_⊎_, inl, inr, _≢_}
 use native.Mathlib.Nat.{le-refl, not-suc-le-zero, zero-div, div-eq-of-lt, mod-one, mod-eq-of-lt, lt-of-lt-of-le, lt-of-not-le}
-use native.Mathlib.Numerals.{one-add}
+use native.Mathlib.Numerals.{one-add, add-one}
 use native.Mathlib.Decide.{ℕ-discrete, decLt}
 use native.Mathlib.Omega.{arith}
 use borrow.Author.Tests.{lt-ltb, le-ltb, eq-eqb, ne-eqb}
 use lib.Dec.{eqb, ltb}
 use lib.Pow.{pow-pos, pow-mono, mod-pow-add}
 use Rattle.fieldset.specs.Numbers.{lowest}
-use Rattle.fieldset.specs.Fields.{member, setOf, with, without, union, only, below, lowestOf, size, within}
-use Rattle.fieldset.proofs.Numbers.{clash, but, but-same, but-other, sum, sum-cong, sum-but, count-cong, count-none, count-but, count-mono, Lowest, lowest-is, lowest-before, lowest-bound, lowest-lt, lowest-true, any-here, any-none}
+use Rattle.fieldset.specs.Fields.{member, setOf, with, without, union, only, below, lowestOf, filter, size, within, Within}
+use Rattle.fieldset.proofs.Numbers.{clash, ltb-suc, but, but-same, but-other, sum, sum-cong, sum-but, count-cong, count-none, count-but, count-mono, Lowest, lowest-is, lowest-before, lowest-bound, lowest-lt, lowest-true, any-here, any-none}
 
 -- ---- sets by their members
 
@@ -155,6 +155,51 @@ member-without-same m i = member-setOf (but (member m) i) 64 i ∙ rw (but-same 
 pub member-without-other : (m i j : ℕ) → j < 64 → j ≢ i → member (without m i) j ≡ member m j
 member-without-other m i j l h = member-without m i j l ∙ but-other (member m) i j h
 
+-- the fields below n that pass a test, and n if it does
+pub setOf-step : (p : ℕ → Bool) (n : ℕ) {m m′ : ℕ} → n < 64 → m ≡ setOf p n
+    → ((p n ≡ true) × (m′ ≡ with m n)) ⊎ ((p n ≡ false) × (m′ ≡ m)) → m′ ≡ setOf p (n + 1)
+unfolding setOf
+setOf-step p n l e (inl (h, q)) = q ∙ rw (e, add-one n)
+    (ext-member 64 (with (setOf p n) n) (setOf p (suc n)) (with-lt (setOf p n) n) (lt-of-lt-of-le (setOf-lt p (suc n)) (pow-mono l))
+    (λ j k. go j k (ℕ-discrete j n)))
+  where
+    go : (j : ℕ) → j < 64 → Dec (j ≡ n) → member (with (setOf p n) n) j ≡ member (setOf p (suc n)) j
+    go j k (yes d) = rw d (member-with-same (setOf p n) n l ∙ sym (member-setOf-lt p (suc n) n (le-refl (suc n)) ∙ h))
+    go j k (no d) =
+        member-with-other (setOf p n) n j k d ∙ member-setOf p n j ∙ rw (ltb-suc j n d) (sym (member-setOf p (suc n) j))
+setOf-step p n l e (inr (h, q)) = q ∙ e ∙ rw (add-one n, h) (omega arith)
+
+-- a field of the set but for i
+pub without-cases : (m i j : ℕ) → j < 64 → member (without m i) j ≡ true → (member m j ≡ true) × (j ≢ i)
+without-cases m i j l e = go (ℕ-discrete j i)
+  where
+    go : Dec (j ≡ i) → (member m j ≡ true) × (j ≢ i)
+    go (yes d) = absurd (clash (rw d at e) (member-without-same m i))
+    go (no d) = (sym (member-without-other m i j l d) ∙ e, d)
+
+pub without-of : (m i j : ℕ) → j < 64 → member m j ≡ true → j ≢ i → member (without m i) j ≡ true
+without-of m i j l e d = member-without-other m i j l d ∙ e
+
+pub with-of : (m i j : ℕ) → j < 64 → member m j ≡ true → member (with m i) j ≡ true
+with-of m i j l e = member-with m i j l ∙ rw e
+
+-- the fields of a set that pass a test
+pub filter-lt : (p : ℕ → Bool) (m : ℕ) → filter p m < 2 ^ 64
+unfolding filter
+filter-lt p m = setOf-lt (λ j. member m j && p j) 64
+
+pub member-filter : (p : ℕ → Bool) (m j : ℕ) → j < 64 → member (filter p m) j ≡ (member m j && p j)
+unfolding filter
+member-filter p m j l = member-setOf-lt (λ j. member m j && p j) 64 j l
+
+-- a field that does not pass may go
+pub without-failing : (p : ℕ → Bool) (m u : ℕ) → p u ≡ false → (j : ℕ) → j < 64 → (member (without m u) j && p j) ≡ (member m j && p j)
+without-failing p m u e j l = go (ℕ-discrete j u)
+  where
+    go : Dec (j ≡ u) → (member (without m u) j && p j) ≡ (member m j && p j)
+    go (yes d) = rw (d, e, and-false (member m u)) (and-false (member (without m u) u))
+    go (no d) = rw (member-without-other m u j l d)
+
 -- ---- the lowest field, and the size
 
 module _ (m : ℕ) where
@@ -172,7 +217,7 @@ unfolding size
 size-empty = count-none (member 0) 64 (λ i l. member-empty i)
 
 -- a subset is no larger
-pub size-mono : (a b : ℕ) → ((i : ℕ) → i < 64 → member a i ≡ true → member b i ≡ true) → size a ≤ size b
+pub size-mono : (a b : ℕ) → Within a b → size a ≤ size b
 unfolding size
 size-mono a b h = count-mono (member a) (member b) 64 h
 
@@ -229,7 +274,7 @@ module _ (m : ℕ) (hm : m < 2 ^ 64) where
 
 -- ---- two sets
 
-pub within-true : (a b : ℕ) → ((i : ℕ) → i < 64 → member a i ≡ true → member b i ≡ true) → within a b ≡ true
+pub within-true : (a b : ℕ) → Within a b → within a b ≡ true
 unfolding within
 within-true a b h = ap not (any-none (λ j. member a j && not (member b j)) 64 (λ i l. go i l (member a i) refl))
   where

@@ -2,6 +2,7 @@
 pub mod Tests
 pub mod Numbers
 pub mod Fields
+pub mod Emptying
 pub mod Bits
 pub mod Tables
 pub mod Lists

@@ -1,17 +1,24 @@
 -- Laws of the numbers below n that pass a test: of sums over them, of how many there are, and of the lowest.
 use Prim.Native.Nat.{ℕ, zero, suc, _+_, _≤_, _<_, zero-le}
 use mathlib.Core.Path.{_≡_, refl, sym, ap, _∙_}
-use mathlib.Core.Bool.{Bool, true, false, not, _&&_, _||_, cond, and-true, and-false, or-true, true≢false}
+use mathlib.Core.Bool.{Bool, true, false, not, _&&_, _||_, cond, and-true, and-false, and-not-self, or-true, true≢false}
 use mathlib.Core.Logic.{_⊎_, inl, inr, _≢_}
 use native.Mathlib.Nat.{le-refl, le-suc, le-trans, le-antisymm, le-of-suc-le-suc, lt-of-not-le, not-suc-le-zero}
-use native.Mathlib.Decide.{ℕ-discrete}
+use native.Mathlib.Decide.{ℕ-discrete, decLt}
 use native.Mathlib.Omega.{arith}
-use borrow.Author.Tests.{eq-eqb, ne-eqb}
-use lib.Dec.{eqb}
+use borrow.Author.Tests.{lt-ltb, le-ltb, eq-eqb, ne-eqb}
+use lib.Dec.{eqb, ltb}
 use Rattle.fieldset.specs.Numbers.{count, any, lowest}
 
 pub clash : {b : Bool} → b ≡ true → b ≡ false → ⊥
 clash t f = true≢false (sym t ∙ f)
+
+pub ltb-suc : (j n : ℕ) → j ≢ n → ltb j n ≡ ltb j (suc n)
+ltb-suc j n d = go (decLt j n)
+  where
+    go : Dec (j < n) → ltb j n ≡ ltb j (suc n)
+    go (yes l) = rw (lt-ltb j n l, lt-ltb j (suc n) (omega arith))
+    go (no l) = rw (le-ltb j n (omega arith), le-ltb j (suc n) (omega arith))
 
 -- what holds of every number below n, and of n, holds of every number below suc n
 pub below-suc : (P : ℕ → Type 0) (n : ℕ) → ((i : ℕ) → i < n → P i) → P n → (i : ℕ) → i < suc n → P i
@@ -64,11 +71,7 @@ sum-but w p (suc n) i l e = go (ℕ-discrete i n) (sum-but w p n i)
 pub sum-one : (w : ℕ → ℕ) (n i : ℕ) → i < n → sum w (λ j. eqb j i) n ≡ w i
 sum-one w n i l =
     sum-but w (λ j. eqb j i) n i l (eq-eqb i i refl)
-    ∙ omega (arith, sum-none w (but (λ j. eqb j i) i) n (λ j k. never (eqb j i)))
-  where
-    never : (b : Bool) → (b && not b) ≡ false
-    never true = refl
-    never false = refl
+    ∙ omega (arith, sum-none w (but (λ j. eqb j i) i) n (λ j k. and-not-self (eqb j i)))
 
 -- those that pass and those that do not make the whole
 pub sum-not : (w : ℕ → ℕ) (p : ℕ → Bool) (n : ℕ) → sum w p n + sum w (λ i. not (p i)) n ≡ sum w (λ i. true) n

@@ -1,12 +1,16 @@
 -- Laws of tables, and of runs of stores.
-use Prim.Native.Nat.{ℕ, zero, suc, _+_, _<_}
+use Prim.Native.Nat.{ℕ, zero, suc, _+_, _-_, _<_}
 use mathlib.Core.Path.{_≡_, refl, sym, ap, _∙_}
+use mathlib.Core.Bool.{cond}
 use mathlib.Core.List.{List, [], _∷_, _++_}
 use native.Mathlib.Nat.{not-suc-le-zero, add-zero, add-suc, suc-add}
-use native.Mathlib.Decide.{ℕ-discrete}
+use native.Mathlib.Numerals.{add-one}
+use native.Mathlib.Decide.{ℕ-discrete, decLt}
 use native.Mathlib.Omega.{arith}
-use lib.ListN.{length, getD, set, length-append, List·getD-append}
-use lib.Seq.{getD-at, sets}
+use borrow.Author.Tests.{lt-ltb, le-ltb}
+use lib.Dec.{ltb}
+use lib.ListN.{length, getD, set, drop, length-append, List·getD-append}
+use lib.Seq.{getD-at, getD-append-add, getD-drop, sets, set-at, drop-cons, append-snoc}
 use Rattle.fieldset.specs.Tables.{tabulate}
 
 module _ {ℓ} {A : Type ℓ} (f : ℕ → A) where
@@ -26,8 +30,29 @@ module _ {ℓ} {A : Type ℓ} (f : ℕ → A) where
           let h : i < length (tabulate f n) = rw (length-tabulate n) (omega arith) in
           List·getD-append (tabulate f n) (f n ∷ []) d i h ∙ ih (omega arith)
 
+-- a buffer whose first n elements were replaced
+pub getD-tabulated : (f : ℕ → ℕ) (n : ℕ) (before : List ℕ) (i : ℕ) → getD (tabulate f n ++ drop n before) i 0 ≡ cond (ltb i n) (f i) (getD before i 0)
+getD-tabulated f n before i = go (decLt i n)
+  where
+    go : Dec (i < n) → getD (tabulate f n ++ drop n before) i 0 ≡ cond (ltb i n) (f i) (getD before i 0)
+    go (yes h) =
+        rw (lt-ltb i n h) (List·getD-append (tabulate f n) (drop n before) 0 i (rw (length-tabulate f n) h) ∙ getD-tabulate f n i 0 h)
+    go (no h) =
+        let e : i ≡ length (tabulate f n) + (i - n) = omega (arith, length-tabulate f n) in
+        let e′ : n + (i - n) ≡ i = omega arith in
+        rw (le-ltb i n (omega arith))
+        (ap (λ (k : ℕ). getD (tabulate f n ++ drop n before) k 0) e ∙ getD-append-add (tabulate f n) (drop n before) (i - n) 0
+        ∙ getD-drop n before (i - n) 0 ∙ ap (λ (k : ℕ). getD before k 0) e′)
+
 -- a run of stores, and a further run behind it
 pub sets-append : (l : List ℕ) (i : ℕ) (a b : List ℕ) → sets (sets l i a) (i + length a) b ≡ sets l i (a ++ b)
 sets-append l i [] b = ap (λ (k : ℕ). sets l k b) (add-zero i)
 sets-append l i (x ∷ a) b =
     ap (λ (k : ℕ). sets (sets (set l i x) (suc i) a) k b) (add-suc i (length a) ∙ sym (suc-add i (length a))) ∙ sets-append (set l i x) (suc i) a b
+
+-- a store behind those that stand at the start of a buffer
+pub store-next : (before xs : List ℕ) (k x : ℕ) → length xs ≡ k → k < length before
+    → set (xs ++ drop k before) k x ≡ (xs ++ (x ∷ [])) ++ drop (k + 1) before
+store-next before xs k x e l =
+    rw (add-one k, drop-cons before k 0 l)
+    (set-at xs (getD before k 0) (drop (suc k) before) x k e ∙ sym (append-snoc xs x (drop (suc k) before)))

@@ -1,14 +1,17 @@
 -- Laws of tests that are joined.
 use mathlib.Core.Path.{_≡_, refl}
-use mathlib.Core.Bool.{Bool, true, false, _&&_, false≢true}
+use mathlib.Core.Bool.{Bool, true, false, not, _&&_, _||_, and-eq-true-iff}
 
-pub and-left : (a b : Bool) → (a && b) ≡ true → a ≡ true
-and-left true b e = refl
-and-left false b e = e
+module _ (a b : Bool) where
+  pub and-left : (a && b) ≡ true → a ≡ true
+  and-left e = and-eq-true-iff a b .0 e .0
 
-pub and-right : (a b : Bool) → (a && b) ≡ true → b ≡ true
-and-right true b e = e
-and-right false b e = absurd (false≢true e)
+  pub and-right : (a && b) ≡ true → b ≡ true
+  and-right e = and-eq-true-iff a b .0 e .1
 
-pub and-both : (a b : Bool) → a ≡ true → b ≡ true → (a && b) ≡ true
-and-both a b e f = rw (e, f)
+  pub and-both : a ≡ true → b ≡ true → (a && b) ≡ true
+  and-both e f = and-eq-true-iff a b .1 (e, f)
+
+pub not-or : (a b : Bool) → not (a || b) ≡ (not a && not b)
+not-or true b = refl
+not-or false b = refl

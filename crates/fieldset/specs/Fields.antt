@@ -1,6 +1,7 @@
 -- A set of fields is one 64-bit number, bit i for field i (document 01, "Fields, links, stays").
-use Prim.Native.Nat.{ℕ, zero, suc, _+_, _/_, _%_, _^_}
-use mathlib.Core.Bool.{Bool, not, _&&_, _||_, cond}
+use Prim.Native.Nat.{ℕ, zero, suc, _+_, _/_, _%_, _^_, _<_}
+use mathlib.Core.Path.{_≡_}
+use mathlib.Core.Bool.{Bool, true, not, _&&_, _||_, cond}
 use lib.Dec.{eqb, ltb}
 use Rattle.fieldset.specs.Numbers.{count, any, lowest}
 
@@ -37,6 +38,21 @@ below n = setOf (λ j. ltb j n) 64
 unfoldable pub lowestOf : ℕ → ℕ
 lowestOf m = lowest (member m) 64 64
 
+-- u is the lowest-numbered field of the set m, which has 64 bits
+pub record First (m u : ℕ) : Type 0 where
+  pub fits : m < 2 ^ 64
+  pub field : u < 64
+  pub is-lowest : u ≡ lowestOf m
+  pub is-in : member m u ≡ true
+
+-- the fields of the set m that pass the test
+unfoldable pub filter : (ℕ → Bool) → ℕ → ℕ
+filter p m = setOf (λ j. member m j && p j) 64
+
+-- the fields of a that are not in b
+abbrev pub minus : ℕ → ℕ → ℕ
+minus a b = filter (λ j. not (member b j)) a
+
 -- how many fields a set has
 unfoldable pub size : ℕ → ℕ
 size m = count (member m) 64
@@ -48,3 +64,7 @@ meets a b = any (λ j. member a j && member b j) 64
 -- every field of a is in b
 unfoldable pub within : ℕ → ℕ → Bool
 within a b = not (any (λ j. member a j && not (member b j)) 64)
+
+-- the same, field by field
+abbrev pub Within : ℕ → ℕ → Type 0
+Within a b = (u : ℕ) → u < 64 → member a u ≡ true → member b u ≡ true

@@ -2,3 +2,4 @@ pub mod Numbers
 pub mod Lists
 pub mod Tables
 pub mod Fields
+pub mod Ranks

@@ -1,7 +1,10 @@
 // A set of fields as one u64, bit i for field i.
 ghost use mathlib.Core.Path.{_≡_};
+ghost use mathlib.Core.Bool.{not};
 ghost use Prim.Native.Nat.{_≤_, _<_};
-ghost use Rattle.fieldset.specs.Fields.{member, with, without, union, meets, within, only, below, lowestOf, size};
+ghost use lib.Dec.{eqb};
+ghost use Rattle.fieldset.specs.Tables.{at};
+ghost use Rattle.fieldset.specs.Fields.{member, setOf, with, without, union, meets, within, only, below, lowestOf, First, minus, size};
 
 // The same number, wider.
 pub fn wide(x: u8) -> usize
@@ -49,6 +52,13 @@ pub fn union(a: u64, b: u64) -> u64
     a | b
 }
 
+// The fields of a that are not in b.
+pub fn minus(a: u64, b: u64) -> u64
+    ensures { λ r. ⌜ r ≡ minus a b ⌝ }
+{
+    a & !b
+}
+
 // Whether some field is in a and in b.
 pub fn meets(a: u64, b: u64) -> bool
     ensures { λ r. ⌜ r ≡ meets a b ⌝ }
@@ -78,6 +88,14 @@ pub fn lowest(m: u64) -> usize
     u64::trailing_zeros(m) as usize
 }
 
+// The same of a set that is not empty, so that the field is in it.
+pub fn first(m: u64) -> usize
+    requires { ⌜ 0 < m ⌝ }
+    ensures { λ r. ⌜ First m r ⌝ }
+{
+    lowest(m)
+}
+
 // The set m but for its lowest-numbered field.
 pub fn without_lowest(m: u64) -> u64
     requires { ⌜ 0 < m ⌝ }
@@ -91,4 +109,20 @@ pub fn size(m: u64) -> usize
     ensures { λ r. ⌜ r ≡ size m ⌝ }
 {
     u64::count_ones(m) as usize
+}
+
+// Those of the first n fields whose sets in a table are not empty.
+pub fn nonempty(sets: &[u64; 64], n: usize) -> u64
+    requires { ⌜ n ≤ 64 ⌝ }
+    ensures { λ r. ⌜ r ≡ setOf (λ f. not (eqb (at (now (sets .entry)) f) 0)) n ⌝ }
+{
+    let mut set = 0u64;
+    let mut f: usize = 0;
+    while f < n {
+        if sets[f] != 0 {
+            set = with(set, f);
+        }
+        f += 1;
+    }
+    set
 }

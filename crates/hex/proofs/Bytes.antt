@@ -6,7 +6,6 @@ use native.Mathlib.Nat.{not-suc-le-zero}
 use native.Mathlib.Omega.{arith}
 use lib.ListN.{length, getD, length-append}
 use Rattle.hex.specs.Hex.{digitOf, charOf, bytesOf, hexOf, lineOf}
-use Rattle.hex.proofs.Digits.{char-below}
 
 pub length-hex : (a : List ℕ) → length (hexOf a) ≡ 2 * length a
 unfolding hexOf
@@ -22,14 +21,6 @@ unfolding bytesOf
 length-bytes [] = refl
 length-bytes (a ∷ []) = refl
 length-bytes (a ∷ b ∷ s) = omega (arith, length-bytes s)
-
--- the digits of bytes are bytes
-pub hex-below : (a : List ℕ) → ((k : ℕ) → getD a k 0 < 256) → (k : ℕ) → getD (hexOf a) k 0 < 256
-unfolding hexOf
-hex-below [] h k = omega arith
-hex-below (x ∷ a) h zero = char-below (x / 16) (omega (arith, h 0))
-hex-below (x ∷ a) h (suc zero) = char-below (x % 16) (omega arith)
-hex-below (x ∷ a) h (suc (suc k)) = hex-below a (λ j. h (suc j)) k
 
 pub hex-append : (a b : List ℕ) → hexOf (a ++ b) ≡ hexOf a ++ hexOf b
 unfolding hexOf

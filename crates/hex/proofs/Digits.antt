@@ -6,12 +6,12 @@ use Prim.Native.Nat.{ℕ, zero, suc, _+_, _-_, _≤_, _<_}
 use native.Mathlib.Nat.{not-suc-le-zero, le-of-suc-le-suc}
 use native.Mathlib.Numerals.{add-one}
 use native.Mathlib.Omega.{arith}
-use lib.Dec.{leb, ltb}
+use lib.Dec.{leb}
 use lib.ListN.{length, getD, drop, drop-of-length-le}
 use lib.Seq.{drop-cons}
 use borrow.Author.Tests.{le-leb, lt-leb, leb-true}
 use Rattle.fieldset.proofs.Tests.{and-left, and-right}
-use Rattle.hex.specs.Hex.{isDigit, digitOf, charOf, areDigits}
+use Rattle.hex.specs.Hex.{isDigit, digitOf, areDigits}
 use Rattle.hex.specs.Answers.{digitRead}
 
 -- what each character is
@@ -70,14 +70,6 @@ digit-below c e = go (leb c 57) refl where
   go : (b : Bool) → leb c 57 ≡ b → cond (leb c 57) (c - 48) (c - 55) < 16
   go true h = rw h (omega (arith, leb-true c 57 h))
   go false h = rw h (omega (arith, leb-true c 70 (last (leb 48 c) (leb 65 c) (leb c 70) (rw h at e))))
-
--- the digit of a value is a byte
-pub char-below : (x : ℕ) → x < 16 → charOf x < 256
-unfolding charOf
-char-below x h = go (ltb x 10) where
-  go : (b : Bool) → cond b (x + 48) (x + 55) < 256
-  go true = omega arith
-  go false = omega arith
 
 -- the characters from i on decide whether all are digits
 pub record Read (s : List ℕ) (i : ℕ) : Type 0 where

@@ -1,6 +1,6 @@
 -- Writing a line and decoding one. Assumes nothing.
 use mathlib.Core.Path.{_≡_, refl, sym, ap, ap₂, _∙_}
-use mathlib.Core.Bool.{Bool, true, false, _&&_}
+use mathlib.Core.Bool.{Bool, true, false, _&&_, and-false}
 use mathlib.Core.List.{List, [], _∷_, _++_}
 use Prim.Native.Nat.{ℕ, _+_, _*_, _/_, _%_, _≤_, _<_}
 use native.Mathlib.Numerals.{add-one}
@@ -70,10 +70,6 @@ line-put rest o o₁ o₂ o₃ o₄ at a b e₁ e₂ e₃ e₄ = (
       ∙ line-done o at a b rest,
   omega (arith, length-line (a ∷ b ∷ rest)),
 )
-
-and-false : (a : Bool) → a && false ≡ false
-and-false true = refl
-and-false false = refl
 
 -- which lines are hexadecimal
 pub hex-empty : (s : List ℕ) → length s ≡ 0 → isHex s ≡ false

@@ -3,5 +3,5 @@ pub mod Sets
 pub mod Plan
 pub mod Loops
 pub mod Passes
-pub mod Listing
+pub mod Readers
 pub mod Planning

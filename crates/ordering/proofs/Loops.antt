@@ -2,7 +2,6 @@
 use Prim.Native.Nat.{ℕ, zero, suc, _≤_, _<_}
 use mathlib.Core.Path.{_≡_, refl, sym, ap, _∙_, subst}
 use mathlib.Core.Bool.{Bool, true, false, not, _&&_, _||_, and-true, or-false}
-use mathlib.Core.List.{List}
 use mathlib.Core.Logic.{_⊎_, inl, inr}
 use native.Mathlib.Nat.{le-refl}
 use native.Mathlib.Decide.{ℕ-discrete}
@@ -11,18 +10,15 @@ use borrow.Author.Tests.{lt-ltb, ltb-true, eq-eqb, ne-eqb, eqb-true, not-true}
 use lib.Dec.{eqb, ltb}
 use lib.ListN.{length}
 use Rattle.fieldset.specs.Numbers.{count, any}
-use Rattle.fieldset.specs.Tables.{at}
+use Rattle.fieldset.specs.Ranks.{Ranked}
 use Rattle.fieldset.specs.Fields.{member, with}
 use Rattle.fieldset.proofs.Numbers.{clash, but, count-cong, count-none, count-but, count-le, any-found, any-false}
 use Rattle.ordering.specs.Order.{following, order, hasLoop}
-use Rattle.ordering.specs.Walks.{Read, Walk, one, more, ClosedWalk, Ranked, Among, Inside}
+use Rattle.ordering.specs.Walks.{Read, Walk, one, more, ClosedWalk, Inside}
 use Rattle.ordering.specs.Steps.{Stuck}
 use Rattle.fieldset.proofs.Tests.{and-left, and-right, and-both}
 use Rattle.ordering.proofs.Sets.{within-not}
 use Rattle.ordering.proofs.Plan.{able, Lists, Stops, step, unlisted?, unlisted-step, unlisted-all, length-no-loop, no-loop-ranked, rankOf}
-
-pub inside-of : {reads : List ℕ} {n : ℕ} → Among reads n → Inside (at reads) n
-inside-of a = record { few = a .few; inside = a .inside }
 
 -- ---- the same number twice
 
@@ -175,12 +171,12 @@ module _ (reads : ℕ → ℕ) (n : ℕ) (a : Inside reads n) where
   loop-walk e = stuck-walk reads n (loop-stuck e)
 
 -- ranks rise along a walk
-pub walk-rises : (reads : ℕ → ℕ) (n : ℕ) (rank : ℕ → ℕ) → Ranked reads n rank → (f g : ℕ) → Walk reads n f g → rank f < rank g
-walk-rises reads n rank h f g (one r) = h .rises f g r
-walk-rises reads n rank h f g (more {g = x} w r) = omega (arith, walk-rises reads n rank h f x w, h .rises x g r)
+pub walk-rises : (reads : ℕ → ℕ) (n : ℕ) (rank : ℕ → ℕ) → Ranked reads n n rank → (f g : ℕ) → Walk reads n f g → rank f < rank g
+walk-rises reads n rank h f g (one r) = h .falls g f (r .to) (r .from) (r .reads-it)
+walk-rises reads n rank h f g (more {g = x} w r) = omega (arith, walk-rises reads n rank h f x w, h .falls g x (r .to) (r .from) (r .reads-it))
 
 -- with ranks there is no closed walk
-pub ranked-no-walk : (reads : ℕ → ℕ) (n : ℕ) (rank : ℕ → ℕ) → Ranked reads n rank → ClosedWalk reads n → ⊥
+pub ranked-no-walk : (reads : ℕ → ℕ) (n : ℕ) (rank : ℕ → ℕ) → Ranked reads n n rank → ClosedWalk reads n → ⊥
 ranked-no-walk reads n rank h w = omega (arith, walk-rises reads n rank h (w .field) (w .field) (w .walk))
 
 -- a closed walk is a loop
@@ -192,7 +188,7 @@ walk-loop reads n few w = go (hasLoop reads n) refl
     go false e = absurd (ranked-no-walk reads n (rankOf reads n) (no-loop-ranked reads n few e) w)
 
 -- with ranks there is no loop
-pub ranked-no-loop : (reads : ℕ → ℕ) (n : ℕ) (rank : ℕ → ℕ) → Inside reads n → Ranked reads n rank → hasLoop reads n ≡ false
+pub ranked-no-loop : (reads : ℕ → ℕ) (n : ℕ) (rank : ℕ → ℕ) → Inside reads n → Ranked reads n n rank → hasLoop reads n ≡ false
 ranked-no-loop reads n rank a h = go (hasLoop reads n) refl
   where
     go : (b : Bool) → hasLoop reads n ≡ b → b ≡ false

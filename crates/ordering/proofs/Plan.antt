@@ -17,7 +17,7 @@ use Rattle.fieldset.proofs.Numbers.{clash, but, count-cong, count-but, count-al
 use Rattle.fieldset.proofs.Lists.{all-map, Whole, whole-in, place-here, place-later, place-in}
 use Rattle.fieldset.proofs.Fields.{member-empty, member-with, member-with-same, member-with-other, within-member}
 use Rattle.ordering.specs.Order.{next, following, order, hasLoop}
-use Rattle.ordering.specs.Walks.{Ranked}
+use Rattle.fieldset.specs.Ranks.{Ranked}
 use Rattle.fieldset.proofs.Tests.{and-left, and-right}
 use Rattle.ordering.proofs.Sets.{within-cong}
 
@@ -199,9 +199,9 @@ module _ (reads : ℕ → ℕ) (n : ℕ) where
     order-whole e = record { below = order-low; once = order-once; whole = no-loop-length e }
 
     -- with no loop the places in the plan are ranks
-    pub no-loop-ranked : hasLoop reads n ≡ false → Ranked reads n rankOf
+    pub no-loop-ranked : hasLoop reads n ≡ false → Ranked reads n n rankOf
     no-loop-ranked e = record {
-      rises = λ f g r. order-before g f (omega arith) (r .reads-it) (whole-in n (order reads n) (order-whole e) g (r .to));
+      falls = λ g f lg lf m. order-before g f (omega arith) m (whole-in n (order reads n) (order-whole e) g lg);
       small = λ f l. omega (arith, place-in f (order reads n) (whole-in n (order reads n) (order-whole e) f l), no-loop-length e);
     }
 

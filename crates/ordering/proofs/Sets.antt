@@ -1,15 +1,14 @@
 -- Laws of tests and of two sets of fields.
-use Prim.Native.Nat.{ℕ, _^_, _<_}
+use Prim.Native.Nat.{ℕ, _<_}
 use mathlib.Core.Path.{_≡_, refl, sym, ap, _∙_}
-use mathlib.Core.Bool.{Bool, true, false, not, _&&_, _||_}
-use mathlib.Core.Logic.{_⊎_, inl, inr, _≢_}
-use native.Mathlib.Decide.{ℕ-discrete}
-use native.Mathlib.Omega.{arith}
+use mathlib.Core.Bool.{Bool, true, false, not, _&&_, _||_, and-comm}
+use mathlib.Core.Logic.{_⊎_, inl, inr}
 use borrow.Author.Tests.{not-true, not-false}
-use Rattle.fieldset.specs.Fields.{member, without, lowestOf, meets, within}
-use Rattle.fieldset.proofs.Tests.{and-left, and-right}
-use Rattle.fieldset.proofs.Fields.{member-without-same, member-without-other, lowestOf-lt, lowestOf-falls}
-use Rattle.fieldset.proofs.Numbers.{clash, any-none, any-found, any-false, any-cong}
+use Rattle.fieldset.specs.Fields.{member, without, meets, within}
+use Rattle.fieldset.proofs.Tests.{and-left, and-right, and-both}
+use Rattle.fieldset.proofs.Fields.{without-failing}
+pub use Rattle.fieldset.proofs.Fields.{without-cases}
+use Rattle.fieldset.proofs.Numbers.{any-here, any-none, any-found, any-false, any-cong}
 
 pub or-cases : (a b : Bool) → (a || b) ≡ true → (a ≡ true) ⊎ (b ≡ true)
 or-cases true b e = inl refl
@@ -51,24 +50,12 @@ module _ (a b : ℕ) where
   unfolding meets
   meets-not e i l f = rw f at (any-false (λ j. member a j && member b j) 64 i e l)
 
--- a field of the set but for f
-pub without-cases : (m f g : ℕ) → g < 64 → member (without m f) g ≡ true → (member m g ≡ true) × (g ≢ f)
-without-cases m f g l e = go (ℕ-discrete g f)
-  where
-    go : Dec (g ≡ f) → (member m g ≡ true) × (g ≢ f)
-    go (yes d) = absurd (clash (rw d at e) (member-without-same m f))
-    go (no d) = (sym (member-without-other m f g l d) ∙ e, d)
+  pub meets-some : (i : ℕ) → i < 64 → member a i ≡ true → member b i ≡ true → meets a b ≡ true
+  unfolding meets
+  meets-some i l e f = any-here (λ j. member a j && member b j) 64 i l (and-both (member a i) (member b i) e f)
 
-pub without-of : (m f g : ℕ) → g < 64 → member m g ≡ true → g ≢ f → member (without m f) g ≡ true
-without-of m f g l e d = member-without-other m f g l d ∙ e
-
--- ---- a loop that empties a set
-
-module _ {rest : ℕ} (h : rest < 2 ^ 64) (some : rest ≡ 0 → ⊥) where
-  -- the field that it takes
-  pub rest-low : {f : ℕ} → f ≡ lowestOf rest → f < 64
-  rest-low e = rw e (lowestOf-lt rest h (omega arith))
-
-  -- and the set but for it
-  pub rest-falls : {rest′ : ℕ} → rest′ ≡ without rest (lowestOf rest) → rest′ < rest
-  rest-falls e = rw e (lowestOf-falls rest h (omega arith))
+  -- a field that a has not may go
+  pub meets-without : (f : ℕ) → member a f ≡ false → meets a (without b f) ≡ meets a b
+  unfolding meets
+  meets-without f e =
+      any-cong _ _ 64 (λ j l. and-comm (member a j) (member (without b f) j) ∙ without-failing (member a) b f e j l ∙ and-comm (member b j) (member a j))

@@ -5,7 +5,7 @@ use mathlib.Core.Bool.{Bool, true, not, _&&_, cond}
 use mathlib.Core.List.{List}
 use lib.Dec.{ltb}
 use Rattle.fieldset.specs.Tables.{at}
-use Rattle.fieldset.specs.Fields.{member, with, meets}
+use Rattle.fieldset.specs.Fields.{member, with, meets, filter, Within}
 
 -- every field that passes the test reads one that passes it
 pub record Stuck (reads : ℕ → ℕ) (test : ℕ → Bool) : Type 0 where
@@ -13,7 +13,7 @@ pub record Stuck (reads : ℕ → ℕ) (test : ℕ → Bool) : Type 0 where
 
 -- what a pass leaves of a set: it takes no field that stuck fields hold, and takes none only where the set is stuck
 pub record Passed (reads : ℕ → ℕ) (set left : ℕ) : Type 0 where
-  pub inside : (f : ℕ) → f < 64 → member left f ≡ true → member set f ≡ true
+  pub inside : Within left set
   pub less : left ≤ set
   pub keeps : (test : ℕ → Bool) → Stuck reads test → ((f : ℕ) → test f ≡ true → member set f ≡ true) → (f : ℕ) → test f ≡ true → member left f ≡ true
   pub stuck : left ≡ set → Stuck reads (member set)
@@ -27,5 +27,5 @@ pub record Readers (reads : ℕ → ℕ) (n : ℕ) (readers : List ℕ) : Type 0
   pub each : (g j : ℕ) → g < 64 → j < 64 → member (at readers g) j ≡ (ltb j n && member (reads j) g)
 
 -- those fields of a set that read nothing of what is left
-pub record Ready (reads : ℕ → ℕ) (set left ready : ℕ) : Type 0 where
-  pub each : (f : ℕ) → f < 64 → member ready f ≡ (member set f && not (meets (reads f) left))
+abbrev pub readyOf : (ℕ → ℕ) → ℕ → ℕ → ℕ
+readyOf reads set left = filter (λ f. not (meets (reads f) left)) set

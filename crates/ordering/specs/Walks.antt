@@ -1,4 +1,4 @@
--- Reads among n fields, walks of reads, and ranks.
+-- Reads among n fields, and walks of reads.
 use Prim.Native.Nat.{ℕ, _≤_, _<_}
 use mathlib.Core.Path.{_≡_}
 use mathlib.Core.Bool.{true}
@@ -22,17 +22,11 @@ pub record ClosedWalk (reads : ℕ → ℕ) (n : ℕ) : Type 0 where
   pub field : ℕ
   pub walk : Walk reads n field field
 
--- ranks below n rise along reads
-pub record Ranked (reads : ℕ → ℕ) (n : ℕ) (rank : ℕ → ℕ) : Type 0 where
-  pub rises : (f g : ℕ) → Read reads n f g → rank f < rank g
-  pub small : (f : ℕ) → f < n → rank f < n
-
 -- n fields that read only each other
-pub record Among (reads : List ℕ) (n : ℕ) : Type 0 where
-  pub few : n ≤ 64
-  pub inside : (g f : ℕ) → g < n → f < 64 → member (at reads g) f ≡ true → f < n
-
--- the same of reads that are given by a function
 pub record Inside (reads : ℕ → ℕ) (n : ℕ) : Type 0 where
   pub few : n ≤ 64
   pub inside : (g f : ℕ) → g < n → f < 64 → member (reads g) f ≡ true → f < n
+
+-- the same of a table of reads
+abbrev pub Among : List ℕ → ℕ → Type 0
+Among reads n = Inside (at reads) n

@@ -1,7 +1,8 @@
 // The order of evaluation of the fields, over a table of the fields that each field's setter reads.
 use fieldset::below;
-use fieldset::lowest;
+use fieldset::first;
 use fieldset::meets;
+use fieldset::nonempty;
 use fieldset::union;
 use fieldset::with;
 use fieldset::without;
@@ -15,7 +16,7 @@ ghost use Rattle.fieldset.specs.Tables.{at};
 ghost use Rattle.fieldset.specs.Fields.{meets, without};
 ghost use Rattle.ordering.specs.Order.{order, hasLoop};
 ghost use Rattle.ordering.specs.Walks.{Among};
-ghost use Rattle.ordering.specs.Steps.{Passed, Entered, Readers, Ready};
+ghost use Rattle.ordering.specs.Steps.{Passed, Entered, Readers, readyOf};
 
 // What is left of a set when f, which reads `reads`, is listed where it can be.
 fn listed(left: u64, f: usize, reads: u64) -> u64
@@ -36,7 +37,7 @@ fn pass(set: u64, reads: &[u64; 64]) -> u64
     let mut left = set;
     let mut rest = set;
     while rest != 0 {
-        let f = lowest(rest);
+        let f = first(rest);
         left = listed(left, f, reads[f]);
         rest = without_lowest(rest);
     }
@@ -44,11 +45,12 @@ fn pass(set: u64, reads: &[u64; 64]) -> u64
 }
 
 // Whether the reads of the first n fields have a loop: passes list what they can, until all fields are listed or a pass lists none.
+// A field that reads nothing is in no loop.
 pub fn has_loop(reads: &[u64; 64], n: usize) -> bool
     requires { ⌜ Among (now reads) n ⌝ }
     ensures { λ r. ⌜ r ≡ hasLoop (at (now (reads .entry))) n ⌝ }
 {
-    let mut left = below(n);
+    let mut left = nonempty(reads, n);
     while left != 0 {
         let next = pass(left, reads);
         if next == left {
@@ -66,7 +68,7 @@ fn enter_readers(f: usize, reads: u64, readers: &mut [u64; 64])
 {
     let mut rest = reads;
     while rest != 0 {
-        let g = lowest(rest);
+        let g = first(rest);
         readers[g] = with(readers[g], f);
         rest = without_lowest(rest);
     }
@@ -88,12 +90,12 @@ fn readers_of(reads: &[u64; 64], n: usize) -> [u64; 64]
 
 // Those fields of the set that read nothing of what is left.
 fn ready(set: u64, left: u64, reads: &[u64; 64]) -> u64
-    ensures { λ r. ⌜ Ready (at (now (reads .entry))) set left r ⌝ }
+    ensures { λ r. ⌜ r ≡ readyOf (at (now (reads .entry))) set left ⌝ }
 {
     let mut out = 0u64;
     let mut rest = set;
     while rest != 0 {
-        let f = lowest(rest);
+        let f = first(rest);
         if !meets(reads[f], left) {
             out = with(out, f);
         }
@@ -112,7 +114,7 @@ pub fn order(reads: &[u64; 64], n: usize, out: &mut [u8; 64]) -> usize
     let mut open = ready(left, left, reads);
     let mut count: usize = 0;
     while open != 0 {
-        let f = lowest(open);
+        let f = first(open);
         out[count] = f as u8;
         count += 1;
         left = without(left, f);

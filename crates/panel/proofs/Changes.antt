@@ -37,7 +37,7 @@ pub no-reads-no-loop : (reads : ℕ → ℕ) (n : ℕ) → n ≤ 64 → ((f : �
 no-reads-no-loop reads n few none =
     ranked-no-loop reads n (λ f. 0)
     (record { few = few; inside = λ g f l k e. absurd (never g f l e) })
-    (record { rises = λ f g r. absurd (never g f (r .to) (r .reads-it)); small = λ f l. omega arith })
+    (record { falls = λ g f lg lf m. absurd (never g f lg m); small = λ f l. omega arith })
   where
     never : (g f : ℕ) → g < n → member (reads g) f ≡ true → ⊥
     never g f l e = clash (rw (none g l) at e) (member-empty f)

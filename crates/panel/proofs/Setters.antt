@@ -15,7 +15,8 @@ use Rattle.fieldset.proofs.Numbers.{clash}
 use Rattle.fieldset.proofs.Fields.{member-only, member-without, member-without-same, member-without-other, member-empty}
 use Rattle.strength.proofs.Depth.{Falls}
 use Rattle.ordering.specs.Order.{hasLoop}
-use Rattle.ordering.specs.Walks.{Ranked, Inside}
+use Rattle.fieldset.specs.Ranks.{Ranked}
+use Rattle.ordering.specs.Walks.{Inside}
 use Rattle.fieldset.proofs.Tests.{and-left, and-right}
 use Rattle.ordering.proofs.Plan.{rankOf, no-loop-ranked}
 use Rattle.ordering.proofs.Loops.{ranked-no-loop}
@@ -103,15 +104,15 @@ module _ (p : Panel) (c : Item) (h : Carrying c p) where
       never false = refl
 
   -- where there is no loop, the places in the plan are ranks
-  pub setter-ranked : isLooped p ≡ false → Ranked (setterReads p) (p .size) (rankOf (setterReads p) (p .size))
+  pub setter-ranked : isLooped p ≡ false → Ranked (setterReads p) (p .size) (p .size) (rankOf (setterReads p) (p .size))
   unfolding isLooped
   setter-ranked e = no-loop-ranked (setterReads p) (p .size) (h .few) e
 
-  pub setter-falls : (rank : ℕ → ℕ) → Ranked (setterReads p) (p .size) rank → Falls (setterOthers p) rank
+  pub setter-falls : (rank : ℕ → ℕ) → Ranked (setterReads p) (p .size) (p .size) rank → Falls (setterOthers p) rank
   setter-falls rank r v u lv lu e = go (decLt v (p .size))
     where
       go : Dec (v < p .size) → rank u < rank v
-      go (yes l) = r .rises u v (record { from = others-inside v u l lu e; to = l; reads-it = others-in-reads v u l lu e })
+      go (yes l) = r .falls v u l (others-inside v u l lu e) (others-in-reads v u l lu e)
       go (no l) = absurd (clash e (others-past v u (omega arith) lv lu))
 
 -- ---- loops
@@ -125,8 +126,7 @@ no-loop-within r s n inside sub e =
     ranked-no-loop s n (rankOf r n)
     (record { few = few; inside = λ g f l m x. inside .inside g f l m (sub g f l m x) })
     (record {
-      rises = λ f g x. let from : f < n = x .from in
-          k .rises f g (record { from = from; to = x .to; reads-it = sub g f (x .to) (omega arith) (x .reads-it) });
+      falls = λ g f lg lf x. k .falls g f lg lf (sub g f lg (omega arith) x);
       small = k .small;
     })
 

@@ -12,7 +12,7 @@ use Rattle.fieldset.specs.Fields.{member}
 use Rattle.fieldset.proofs.Fields.{some-member, member-below}
 use Rattle.fieldset.proofs.Lists.{all-at}
 use Rattle.strength.specs.Strength.{greatest, strength, lowestAt, path}
-use Rattle.strength.specs.Filling.{Walked}
+use Rattle.strength.specs.Filling.{PathFound}
 use Rattle.strength.proofs.Maxima.{greatest-some}
 use Rattle.strength.proofs.Paths.{Tie, lowestAt-found, lowestAt-cong, Reversible, path-reversible}
 use Rattle.ordering.specs.Order.{hasLoop}
@@ -46,7 +46,7 @@ module _ (levels others table : List ℕ) (n known s outputs covered : ℕ) (rea
     pub start-known : member known v ≡ true
     start-known = u .outputs-known v (tie .field) (tie .is-in)
 
-    module _ (path₁ : List ℕ) (end count : ℕ) (w : Walked levels others n v path₀ path₁ end count) where
+    module _ (path₁ : List ℕ) (end count : ℕ) (w : PathFound levels others n v path₀ path₁ end count) where
       is-reversible : Reversible (at levels) (at others) n v (w .fields)
       is-reversible =
           rw (w .is-path) (path-reversible (at levels) (at others) (u .acyclic .rank) (u .acyclic .ranked .falls) n (u .acyclic .few)

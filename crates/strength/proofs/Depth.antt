@@ -1,11 +1,13 @@
--- Laws of `strength`: it depends on the levels and the other outputs alone; below a rank the depth does not matter, and the strength of a
--- field is the largest of its level and the strengths of its setter's other outputs; a potential bounds it.
+-- Laws of `strength`: below a rank the depth does not matter, and the strength of a field is the largest of its level and the strengths of
+-- its setter's other outputs; a potential bounds it.
 use Prim.Native.Nat.{ℕ, zero, suc, _≤_, _<_, max, zero-le}
 use mathlib.Core.Path.{_≡_, refl, ap}
 use mathlib.Core.Bool.{true}
 use native.Mathlib.Nat.{le-trans, not-suc-le-zero}
 use native.Mathlib.Omega.{arith}
 use Rattle.fieldset.specs.Fields.{member}
+use Rattle.fieldset.proofs.Numbers.{clash}
+use Rattle.fieldset.proofs.Fields.{member-empty}
 use Rattle.strength.specs.Strength.{greatest, strength}
 use Rattle.strength.proofs.Maxima.{greatest-cong, greatest-ge, greatest-le}
 
@@ -18,6 +20,13 @@ module _ (level others : ℕ → ℕ) where
   unfolding strength
   strength-level zero v h = absurd (not-suc-le-zero h)
   strength-level (suc n) v h = omega arith
+
+  -- a setter with no other output
+  pub strength-alone : (n v : ℕ) → 0 < n → others v ≡ 0 → strength level others n v ≡ level v
+  unfolding strength
+  strength-alone zero v h e = absurd (not-suc-le-zero h)
+  strength-alone (suc n) v h e =
+      omega (arith, greatest-le (member (others v)) (strength level others n) 64 0 (λ u l i. absurd (clash (rw e at i) (member-empty u))))
 
   -- s is a potential on a closed set of fields: it bounds their strengths
   pub strength-bound-in : (P : ℕ → Type 0) (s : ℕ → ℕ) → ((f u : ℕ) → P f → u < 64 → member (others f) u ≡ true → P u)

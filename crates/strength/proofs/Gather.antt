@@ -1,37 +1,25 @@
--- What the loops over the fields of a set that call `fill` keep from turn to turn, and what `fill` leaves.
-use Prim.Native.Nat.{ℕ, _+_, _-_, _≤_, _<_, max}
+-- What `fill` keeps from turn to turn, and what it leaves.
+use Prim.Native.Nat.{ℕ, _-_, _<_, max}
 use mathlib.Core.Path.{_≡_, refl, sym, ap, _∙_}
-use mathlib.Core.Logic.{_⊎_, inl, inr, ⊎-elim}
-use mathlib.Core.Bool.{Bool, true, false}
+use mathlib.Core.Bool.{Bool, true, false, not, _&&_, cond, false≢true}
 use mathlib.Core.List.{List, _++_}
 use native.Mathlib.Decide.{ℕ-discrete, decLt}
 use native.Mathlib.Omega.{arith}
-use borrow.Author.Tests.{ltb-true, lt-ltb}
-use lib.ListN.{length, set, drop, length-set, length-append, length-drop, List·getD-append}
-use lib.Seq.{getD-set-same, getD-set-other, getD-append-add, getD-drop, ext-getD}
+use borrow.Author.Tests.{ltb-true, lt-ltb, le-ltb, ne-eqb, not-true}
+use lib.Dec.{eqb, ltb}
+use lib.ListN.{length, set, drop, length-set, length-append, length-drop}
+use lib.Seq.{getD-set-same, getD-set-other, ext-getD}
 use Rattle.fieldset.specs.Tables.{at, tabulate}
-use Rattle.fieldset.specs.Fields.{member, with, without, below}
+use Rattle.fieldset.specs.Fields.{member, setOf, with, without, below, lowestOf, First, minus, Within}
+use Rattle.fieldset.proofs.Tests.{and-left, and-right}
 use Rattle.fieldset.proofs.Numbers.{clash}
-use Rattle.fieldset.proofs.Tables.{length-tabulate, getD-tabulate}
-use Rattle.fieldset.proofs.Fields.{member-empty, member-below, member-with-same, member-with-other, member-without-same, member-without-other}
+use Rattle.fieldset.proofs.Tables.{length-tabulate, getD-tabulated}
+use Rattle.fieldset.proofs.Fields.{member-filter, member-setOf, member-setOf-lt, member-empty, member-below, member-with-same, member-with-other, with-of}
+use Rattle.fieldset.proofs.Emptying.{Emptying, empty-start, empty-step, empty-end, taken-in}
 use Rattle.strength.specs.Strength.{greatest, strength}
-use Rattle.strength.specs.Filling.{Acyclic, Strengths, Within, Closed, First, Ready, Filled, Topped}
-use Rattle.strength.proofs.Maxima.{greatest-cong, greatest-empty, greatest-without}
-use Rattle.strength.proofs.Depth.{strength-stable, strength-fixed}
-
-pub within-without : (m u : ℕ) → Within (without m u) m
-within-without m u j l e = go (ℕ-discrete j u)
-  where
-    go : Dec (j ≡ u) → member m j ≡ true
-    go (yes d) = absurd (clash e (rw d (member-without-same m u)))
-    go (no d) = sym (member-without-other m u j l d) ∙ e
-
-pub within-with : (m u : ℕ) → Within m (with m u)
-within-with m u j l e = go (ℕ-discrete j u)
-  where
-    go : Dec (j ≡ u) → member (with m u) j ≡ true
-    go (yes d) = rw d (member-with-same m u (rw d at l))
-    go (no d) = member-with-other m u j l d ∙ e
+use Rattle.strength.specs.Filling.{Acyclic, Strengths, Closed, Fillable, Filled, Topped}
+use Rattle.strength.proofs.Maxima.{greatest-cong, Topping, top-start, top-step, top-end}
+use Rattle.strength.proofs.Depth.{strength-alone, strength-stable, strength-fixed}
 
 -- a field that is not in the greater set is not in the smaller
 outside : (a b u : ℕ) → Within a b → u < 64 → member b u ≡ false → member a u ≡ false
@@ -41,134 +29,142 @@ outside a b u w l e = go (member a u) refl
     go true f = absurd (clash (w u l f) e)
     go false f = refl
 
--- of the fields of a set, those of `rest` are left; k is what is known by now, s the greatest so far, and `goal` what s comes to
-pub record Gather (levels others : List ℕ) (known set goal : ℕ) (before table : List ℕ) (rest k s : ℕ) : Type 0 where
+-- one field is filled in
+pub record FieldFilled (levels others : List ℕ) (known v r : ℕ) (before after : List ℕ) : Type 0 where
+  pub strengths : Strengths levels others 64 r after
+  pub more : Within known r
+  pub has : member r v ≡ true
+  pub inside : (m : ℕ) → Closed others m → Within known m → member m v ≡ true → Within r m
+  pub kept : (u : ℕ) → u < 64 → member r u ≡ false → at after u ≡ at before u
+
+-- of the fields of a set, those of `rest` are left; k is what is known by now, and top the greatest strength so far
+pub record Gather (levels others : List ℕ) (known set : ℕ) (before table : List ℕ) (rest k top : ℕ) : Type 0 where
   pub strengths : Strengths levels others 64 k table
   pub more : Within known k
-  pub part : Within rest set
-  pub passed : (u : ℕ) → u < 64 → member set u ≡ true → (member rest u ≡ true) ⊎ (member k u ≡ true)
   pub inside : (m : ℕ) → Closed others m → Within known m → Within set m → Within k m
-  pub sum : max s (greatest (member rest) (strength (at levels) (at others) 64) 64) ≡ goal
   pub kept : (u : ℕ) → u < 64 → member k u ≡ false → at table u ≡ at before u
+  pub loop : Emptying set (λ d u. d ≡ true → member k u ≡ true) rest
+  pub topping : Topping (strength (at levels) (at others) 64) set 0 top rest
 
-module _ {levels others : List ℕ} {known set goal : ℕ} {before : List ℕ} where
-  pub start : {s : ℕ} → Strengths levels others 64 known before
-      → max s (greatest (member set) (strength (at levels) (at others) 64) 64) ≡ goal
-      → Gather levels others known set goal before before set known s
-  start S e = record {
+module _ {levels others : List ℕ} {known set : ℕ} {before : List ℕ} where
+  pub start : Strengths levels others 64 known before → Gather levels others known set before before set known 0
+  start S = record {
     strengths = S;
     more = λ u l f. f;
-    part = λ u l f. f;
-    passed = λ u l f. inl f;
     inside = λ m c w p. w;
-    sum = e;
     kept = λ u l f. refl;
+    loop = empty-start (λ u l e. absurd (false≢true e));
+    topping = top-start;
+  }
+
+  pub finish : {table : List ℕ} {rest k top : ℕ} → Gather levels others known set before table rest k top → rest ≡ 0
+      → Filled levels others known set top k before table
+  finish G z = record {
+    is-greatest = omega (arith, top-end (G .topping) z);
+    strengths = G .strengths;
+    more = G .more;
+    has = empty-end (G .loop) z;
+    inside = G .inside;
+    kept = G .kept;
   }
 
   -- the lowest field that is left is filled in
-  pub step : {table table′ : List ℕ} {rest k s u r s′ : ℕ} → Gather levels others known set goal before table rest k s
-      → First rest u → Filled levels others k u r table table′ → s′ ≡ max s (at table′ u)
-      → Gather levels others known set goal before table′ (without rest u) r s′
-  step {table} {table′} {rest} {k} {s} {u} {r} {s′} G U F b = record {
+  pub step : {table table′ : List ℕ} {rest rest′ k top u r top′ : ℕ} → Gather levels others known set before table rest k top
+      → First rest u → FieldFilled levels others k u r table table′ → top′ ≡ max top (at table′ u) → rest′ ≡ without rest (lowestOf rest)
+      → Gather levels others known set before table′ rest′ r top′
+  step {k = k} {top = top} {u = u} {r = r} G U F e q = record {
     strengths = F .strengths;
     more = λ j h f. F .more j h (G .more j h f);
-    part = λ j h f. G .part j h (within-without rest u j h f);
-    passed = λ j h f. left j h (ℕ-discrete j u) (G .passed j h f);
-    inside = λ m c w p. F .inside m c (G .inside m c w p) (p u (U .field) (G .part u (U .field) (U .is-in)));
-    sum =
-        let right : at table′ u ≡ strength (at levels) (at others) 64 u = F .strengths .right u (U .field) (F .has) in
-        omega (arith, G .sum, greatest-without (strength (at levels) (at others) 64) rest u (U .field) (U .is-in));
+    inside = λ m c w p. F .inside m c (G .inside m c w p) (p u (U .field) (taken-in (G .loop) U));
     kept = λ j h f. F .kept j h f ∙ G .kept j h (outside k r j (F .more) h f);
+    loop = empty-step (G .loop) U q (λ d j l n h i. F .more j l (h i)) (λ i. F .has);
+    topping = top-step (G .topping) U (e ∙ ap (max top) (F .strengths .right u (U .field) (F .has))) q;
+  }
+
+-- v is known already
+pub one-known : {levels others : List ℕ} {k v : ℕ} {table : List ℕ} → Strengths levels others 64 k table → member k v ≡ true
+    → FieldFilled levels others k v k table table
+one-known S e = record {
+  strengths = S;
+  more = λ u l f. f;
+  has = e;
+  inside = λ m c w h. w;
+  kept = λ u l f. refl;
+}
+
+module _ {levels others : List ℕ} {known wanted depth : ℕ} {before : List ℕ} (R : Fillable levels others known before wanted depth)
+    {table : List ℕ} {rest k top : ℕ} (G : Gather levels others known wanted before table rest k top) {v : ℕ} (U : First rest v) where
+  -- the rank of a field that is left is below the depth
+  pub left-deep : R .rank v < depth
+  left-deep = R .deep v (U .field) (taken-in (G .loop) U)
+
+  -- what the call for the other outputs of its setter asks
+  pub fill-asks : Fillable levels others k table (at others v) (depth - 1)
+  fill-asks = record {
+    few = omega (arith, R .few);
+    rank = R .rank;
+    falls = R .falls;
+    deep = λ u l e. omega (arith, left-deep, R .falls v u (U .field) l e);
+    strengths = G .strengths;
+  }
+
+  -- they are known
+  pub fill-known : Within (at others v) k → Filled levels others k (at others v) (greatest (member (at others v)) (at table) 64) k table table
+  fill-known w = record {
+    is-greatest =
+        greatest-cong (member (at others v)) (member (at others v)) (at table) (strength (at levels) (at others) 64) 64 (λ u l. refl)
+        (λ u l e. G .strengths .right u l (w u l e));
+    strengths = G .strengths;
+    more = λ u l e. e;
+    has = w;
+    inside = λ m c h p. h;
+    kept = λ u l e. refl;
+  }
+
+  -- the strength of v is stored
+  pub one-filled : {t r s : ℕ} {table′ : List ℕ} → Filled levels others k (at others v) t r table table′ → s ≡ max (at levels v) t
+      → FieldFilled levels others k v (with r v) table (set table′ v s)
+  one-filled {t} {r} {s} {table′} F e = record {
+    strengths = record {
+      full = length-set table′ v s ∙ F .strengths .full;
+      right = λ u l i. right u l i (ℕ-discrete u v);
+      closed = λ w u hw hu i f. with-of r v u hu (closed w u hw hu i f (ℕ-discrete w v));
+    };
+    more = λ u l i. with-of r v u l (F .more u l i);
+    has = member-with-same r v (U .field);
+    inside = λ m c w h u l i. in-set m c w h u l i (ℕ-discrete u v);
+    kept = λ u l i. kept u l i (ℕ-discrete u v);
   }
     where
-      left : (j : ℕ) → j < 64 → Dec (j ≡ u) → (member rest j ≡ true) ⊎ (member k j ≡ true)
-          → (member (without rest u) j ≡ true) ⊎ (member r j ≡ true)
-      left j h (yes d) f = inr (rw d (F .has))
-      left j h (no d) (inl f) = inl (member-without-other rest u j h d ∙ f)
-      left j h (no d) (inr f) = inr (F .more j h f)
+      right : (u : ℕ) → u < 64 → member (with r v) u ≡ true → Dec (u ≡ v) → at (set table′ v s) u ≡ strength (at levels) (at others) 64 u
+      right u l i (yes d) =
+          rw d
+          (getD-set-same table′ v s 0 (omega (arith, F .strengths .full, U .field)) ∙ e ∙ ap (max (at levels v)) (F .is-greatest)
+          ∙ sym (strength-fixed (at levels) (at others) (R .rank) (R .falls) 64 v (U .field) (omega (arith, left-deep, R .few))))
+      right u l i (no d) = getD-set-other table′ v u s 0 d ∙ F .strengths .right u l (sym (member-with-other r v u l d) ∙ i)
 
-  -- nothing is left
-  module _ {table : List ℕ} {k s : ℕ} (G : Gather levels others known set goal before table 0 k s) where
-    pub all-known : Within set k
-    all-known u l e = ⊎-elim (λ f. absurd (clash f (member-empty u))) (λ f. f) (G .passed u l e)
+      closed : (w u : ℕ) → w < 64 → u < 64 → member (with r v) w ≡ true → member (at others w) u ≡ true → Dec (w ≡ v) → member r u ≡ true
+      closed w u hw hu i f (yes d) = F .has u hu (rw d at f)
+      closed w u hw hu i f (no d) = F .strengths .closed w u hw hu (sym (member-with-other r v w hw d) ∙ i) f
 
-    pub sum-done : s ≡ goal
-    sum-done = omega (arith, G .sum, greatest-empty (strength (at levels) (at others) 64) 64)
+      in-set : (m : ℕ) → Closed others m → Within k m → member m v ≡ true → (u : ℕ) → u < 64 → member (with r v) u ≡ true → Dec (u ≡ v) → member m u ≡ true
+      in-set m c w h u l i (yes d) = rw d h
+      in-set m c w h u l i (no d) = F .inside m c w (λ j q f. c v j (U .field) q h f) u l (sym (member-with-other r v u l d) ∙ i)
 
--- ---- `fill`
+      kept : (u : ℕ) → u < 64 → member (with r v) u ≡ false → Dec (u ≡ v) → at (set table′ v s) u ≡ at table u
+      kept u l i (yes d) = absurd (clash (rw d (member-with-same r v (U .field))) i)
+      kept u l i (no d) = getD-set-other table′ v u s 0 d ∙ F .kept u l (sym (member-with-other r v u l d) ∙ i)
 
-module _ {levels others : List ℕ} {known v depth : ℕ} {before : List ℕ} (R : Ready levels others known before v depth) where
-  -- v is known already
-  pub known-already : member known v ≡ true → Filled levels others known v known before before
-  known-already e = record {
-    strengths = R .strengths;
-    more = λ u l f. f;
-    has = e;
-    inside = λ m c w h. w;
-    kept = λ u l f. refl;
-  }
-
-  pub fill-start :
-      Gather levels others known (at others v) (strength (at levels) (at others) 64 v) before before (at others v) known (at levels v)
-  fill-start =
-      start (R .strengths)
-      (sym (strength-fixed (at levels) (at others) (R .rank) (R .falls) 64 v (R .field) (omega (arith, R .deep, R .few))))
-
-  module _ {table : List ℕ} {rest k s : ℕ}
-      (G : Gather levels others known (at others v) (strength (at levels) (at others) 64 v) before table rest k s) where
-    -- what the call for a field that is left asks
-    pub fill-asks : {u : ℕ} → First rest u → Ready levels others k table u (depth - 1)
-    fill-asks {u} U = record {
-      field = U .field;
-      few = omega (arith, R .few);
-      rank = R .rank;
-      falls = R .falls;
-      deep = omega (arith, R .deep, R .falls v u (R .field) (U .field) (G .part u (U .field) (U .is-in)));
-      strengths = G .strengths;
-    }
-
-  module _ {table : List ℕ} {k s : ℕ}
-      (G : Gather levels others known (at others v) (strength (at levels) (at others) 64 v) before table 0 k s) where
-    -- the strength of v is stored
-    pub fill-done : Filled levels others known v (with k v) before (set table v s)
-    fill-done = record {
-      strengths = record {
-        full = length-set table v s ∙ G .strengths .full;
-        right = λ u l e. right u l e (ℕ-discrete u v);
-        closed = λ w u hw hu e f. within-with k v u hu (closed w u hw hu e f (ℕ-discrete w v));
-      };
-      more = λ u l e. within-with k v u l (G .more u l e);
-      has = member-with-same k v (R .field);
-      inside = λ m c w h u l e. in-set m c w h u l e (ℕ-discrete u v);
-      kept = λ u l e. kept u l e (ℕ-discrete u v);
-    }
-      where
-        right : (u : ℕ) → u < 64 → member (with k v) u ≡ true → Dec (u ≡ v) → at (set table v s) u ≡ strength (at levels) (at others) 64 u
-        right u l e (yes d) =
-            rw d (getD-set-same table v s 0 (omega (arith, G .strengths .full, R .field)) ∙ sum-done G)
-        right u l e (no d) =
-            getD-set-other table v u s 0 d ∙ G .strengths .right u l (sym (member-with-other k v u l d) ∙ e)
-
-        closed : (w u : ℕ) → w < 64 → u < 64 → member (with k v) w ≡ true → member (at others w) u ≡ true → Dec (w ≡ v) → member k u ≡ true
-        closed w u hw hu e f (yes d) = all-known G u hu (rw d at f)
-        closed w u hw hu e f (no d) = G .strengths .closed w u hw hu (sym (member-with-other k v w hw d) ∙ e) f
-
-        in-set : (m : ℕ) → Closed others m → Within known m → member m v ≡ true → (u : ℕ) → u < 64 → member (with k v) u ≡ true → Dec (u ≡ v) → member m u ≡ true
-        in-set m c w h u l e (yes d) = rw d h
-        in-set m c w h u l e (no d) =
-            G .inside m c w (λ j k f. c v j (R .field) k h f) u l (sym (member-with-other k v u l d) ∙ e)
-
-        kept : (u : ℕ) → u < 64 → member (with k v) u ≡ false → Dec (u ≡ v) → at (set table v s) u ≡ at before u
-        kept u l e (yes d) = absurd (clash (rw d (member-with-same k v (R .field))) e)
-        kept u l e (no d) = getD-set-other table v u s 0 d ∙ G .kept u l (sym (member-with-other k v u l d) ∙ e)
-
--- ---- `greatest`
+-- ---- `greatest` and `strengths`: none is known
 
 below-lt : (n u : ℕ) → u < 64 → member (below n) u ≡ true → u < n
 below-lt n u l e = ltb-true u n (sym (member-below n u l) ∙ e)
 
 lt-below : (n u : ℕ) → u < 64 → u < n → member (below n) u ≡ true
 lt-below n u l h = member-below n u l ∙ lt-ltb u n h
+
+pub none-below : (n : ℕ) → Within 0 (below n)
+none-below n u l e = absurd (clash e (member-empty u))
 
 pub none-known : (levels others table : List ℕ) → length table ≡ 64 → Strengths levels others 64 0 table
 none-known levels others table h = record {
@@ -188,96 +184,90 @@ module _ {others : List ℕ} {n : ℕ} (A : Acyclic others n) where
   below-closed v u hv hu e f = lt-below n u hu (A .inside v u (below-lt n v hv e) hu f)
 
 module _ {levels others : List ℕ} {n : ℕ} (A : Acyclic others n) where
-  at-depth : {k : ℕ} {table : List ℕ} → Strengths levels others 64 k table → Within k (below n) → Strengths levels others n k table
-  at-depth S w = record {
-    full = S .full;
-    right = λ u l e. S .right u l e ∙ same-depth A levels u (below-lt n u l (w u l e));
-    closed = S .closed;
-  }
-
-  -- what a call for a field below n asks
-  pub fill-below : {k u : ℕ} {table : List ℕ} → Strengths levels others 64 k table → u < n → Ready levels others k table u n
-  fill-below {u = u} S l = record {
-    field = omega (arith, A .few);
-    few = A .few;
-    rank = A .rank;
-    falls = A .ranked .falls;
-    deep = A .ranked .small u l;
-    strengths = S;
-  }
-
-  module _ {set : ℕ} (W : Within set (below n)) {before : List ℕ} where
-    -- a field that is left is below n
-    pub left-below : {goal rest k s u : ℕ} {table : List ℕ} → Gather levels others 0 set goal before table rest k s → First rest u → u < n
-    left-below {u = u} G U = below-lt n u (U .field) (W u (U .field) (G .part u (U .field) (U .is-in)))
-
-    pub topped : {k s : ℕ} {table : List ℕ}
-        → Gather levels others 0 set (greatest (member set) (strength (at levels) (at others) 64) 64) before table 0 k s
-        → Topped levels others n set s k table
-    topped G = record {
-      is-greatest =
-          sum-done G
-          ∙ greatest-cong (member set) (member set) (strength (at levels) (at others) 64) (strength (at levels) (at others) n) 64 (λ u l. refl)
-          (λ u l e. same-depth A levels u (below-lt n u l (W u l e)));
-      strengths = at-depth (G .strengths) (G .inside (below n) (below-closed A) (λ u l e. absurd (clash e (member-empty u))) W);
-      has = all-known G;
+  module _ {known set : ℕ} (K : Within known (below n)) (W : Within set (below n)) {before : List ℕ} where
+    pub fill-below : Strengths levels others 64 known before → Fillable levels others known before set n
+    fill-below S = record {
+      few = A .few;
+      rank = A .rank;
+      falls = A .ranked .falls;
+      deep = λ u l e. A .ranked .small u (below-lt n u l (W u l e));
+      strengths = S;
     }
 
--- ---- `strengths`
+    module _ {top r : ℕ} {table : List ℕ} (F : Filled levels others known set top r before table) where
+      -- only fields below n are filled in
+      filled-below : Within r (below n)
+      filled-below = F .inside (below n) (below-closed A) K W
 
--- the fields below v are known, and only fields below n
-pub record Listing (levels others : List ℕ) (n : ℕ) (before table : List ℕ) (k v : ℕ) : Type 0 where
-  pub count : v ≤ n
-  pub strengths : Strengths levels others 64 k table
-  pub inside : Within k (below n)
-  pub has : (u : ℕ) → u < v → member k u ≡ true
-  pub kept : (u : ℕ) → u < 64 → member k u ≡ false → at table u ≡ at before u
+      pub topped : Topped levels others n set top r table
+      topped = record {
+        is-greatest =
+            F .is-greatest
+            ∙ greatest-cong (member set) (member set) (strength (at levels) (at others) 64) (strength (at levels) (at others) n) 64 (λ u l. refl)
+            (λ u l e. same-depth A levels u (below-lt n u l (W u l e)));
+        strengths = record {
+          full = F .strengths .full;
+          right = λ u l e. F .strengths .right u l e ∙ same-depth A levels u (below-lt n u l (filled-below u l e));
+          closed = F .strengths .closed;
+        };
+        has = F .has;
+      }
 
-module _ {levels others : List ℕ} {n : ℕ} (A : Acyclic others n) {before : List ℕ} where
-  pub listing-start : length before ≡ 64 → Listing levels others n before before 0 0
-  listing-start h = record {
-    count = omega arith;
-    strengths = none-known levels others before h;
-    inside = λ u l e. absurd (clash e (member-empty u));
-    has = λ u l. absurd (omega arith);
-    kept = λ u l e. refl;
-  }
+-- ---- `strengths`: the levels are entered, which are the strengths of the fields whose setters have no other output; the rest is filled in
 
-  pub listing-step : {table table′ : List ℕ} {k r v : ℕ} → Listing levels others n before table k v → v < n
-      → Filled levels others k v r table table′ → Listing levels others n before table′ r (v + 1)
-  listing-step {table} {table′} {k} {r} {v} L l F = record {
-    count = omega arith;
-    strengths = F .strengths;
-    inside = F .inside (below n) (below-closed A) (L .inside) (lt-below n v (omega (arith, A .few)) l);
-    has = λ u h. has u h (ℕ-discrete u v);
-    kept = λ u h e. F .kept u h e ∙ L .kept u h (outside k r u (F .more) h e);
-  }
+-- the setter of v has other outputs
+abbrev some : List ℕ → ℕ → Bool
+some others v = not (eqb (at others v) 0)
+
+module _ (levels before : List ℕ) {others : List ℕ} {n : ℕ} (A : Acyclic others n) {rest known : ℕ} (q : rest ≡ setOf (some others) n)
+    (k : known ≡ minus (below n) rest) (size : length before ≡ 64) {entered : List ℕ} (levelled : entered ≡ tabulate (at levels) n ++ drop n before) where
+  rest-below : Within rest (below n)
+  rest-below u l e = member-below n u l ∙ and-left (ltb u n) (some others u) (sym (member-setOf (some others) n u) ∙ (rw q at e))
+
+  known-is : (u : ℕ) → u < 64 → member known u ≡ (member (below n) u && not (member rest u))
+  known-is u l = ap (λ (m : ℕ). member m u) k ∙ member-filter (λ j. not (member rest j)) (below n) u l
+
+  known-below : Within known (below n)
+  known-below u l e = and-left (member (below n) u) (not (member rest u)) (sym (known-is u l) ∙ e)
+
+  known-alone : (u : ℕ) → u < 64 → member known u ≡ true → at others u ≡ 0
+  known-alone u l e = go (ℕ-discrete (at others u) 0)
     where
-      has : (u : ℕ) → u < v + 1 → Dec (u ≡ v) → member r u ≡ true
-      has u h (yes d) = rw d (F .has)
-      has u h (no d) = F .more u (omega (arith, A .few)) (L .has u (omega arith))
+      go : Dec (at others u ≡ 0) → at others u ≡ 0
+      go (yes z) = z
+      go (no z) =
+          absurd (clash (rw q (member-setOf-lt (some others) n u (below-lt n u l (known-below u l e)) ∙ ap not (ne-eqb (at others u) 0 z)))
+          (not-true (member rest u) (and-right (member (below n) u) (not (member rest u)) (sym (known-is u l) ∙ e))))
 
-  pub listed : {table : List ℕ} {k v : ℕ} → length before ≡ 64 → Listing levels others n before table k v → n ≤ v
+  pub listed-asks : Fillable levels others known entered rest n
+  listed-asks = fill-below A known-below rest-below (record {
+    full = ap length levelled ∙ simp (length-append, length-tabulate, length-drop) (omega (arith, A .few));
+    right = λ u l e.
+        ap (λ (t : List ℕ). at t u) levelled ∙ getD-tabulated (at levels) n before u
+        ∙ rw (lt-ltb u n (below-lt n u l (known-below u l e))) (sym (strength-alone (at levels) (at others) 64 u (omega arith) (known-alone u l e)));
+    closed = λ v u hv hu e f. absurd (clash (rw (known-alone v hv e) at f) (member-empty u));
+  })
+
+  pub listed : {top r : ℕ} {table : List ℕ} → Filled levels others known rest top r entered table
       → table ≡ tabulate (strength (at levels) (at others) n) n ++ drop n before
-  listed {table} {k} {v} size L e =
+  listed {top} {r} {table} F =
       ext-getD 0 table (tabulate f n ++ drop n before)
-      (L .strengths .full ∙ simp (length-append, length-tabulate, length-drop) (omega (arith, A .few)))
-      (λ i l. each i (omega (arith, L .strengths .full)) (decLt i n))
+      (F .strengths .full ∙ simp (length-append, length-tabulate, length-drop) (omega (arith, A .few)))
+      (λ i l. each i (omega (arith, F .strengths .full)) (decLt i n) ∙ sym (getD-tabulated f n before i))
     where
       f : ℕ → ℕ
       f = strength (at levels) (at others) n
 
-      each : (i : ℕ) → i < 64 → Dec (i < n) → at table i ≡ at (tabulate f n ++ drop n before) i
-      each i l (yes h) =
-          L .strengths .right i l (L .has i (omega arith)) ∙ same-depth A levels i h
-          ∙ sym (List·getD-append (tabulate f n) (drop n before) 0 i (rw (length-tabulate f n) h) ∙ getD-tabulate f n i 0 h)
-      each i l (no h) =
-          let e : i ≡ length (tabulate f n) + (i - n) = omega (arith, length-tabulate f n) in
-          let e′ : n + (i - n) ≡ i = omega arith in
-          L .kept i l (none (member k i) refl)
-          ∙ sym (ap (at (tabulate f n ++ drop n before)) e ∙ getD-append-add (tabulate f n) (drop n before) (i - n) 0
-          ∙ getD-drop n before (i - n) 0 ∙ ap (at before) e′)
+      each : (i : ℕ) → i < 64 → Dec (i < n) → at table i ≡ cond (ltb i n) (f i) (at before i)
+      each i l (yes h) = F .strengths .right i l (has (member rest i) refl) ∙ same-depth A levels i h ∙ rw (lt-ltb i n h)
         where
-          none : (x : Bool) → member k i ≡ x → x ≡ false
-          none true e = absurd (h (below-lt n i l (L .inside i l e)))
+          has : (b : Bool) → member rest i ≡ b → member r i ≡ true
+          has true e = F .has i l e
+          has false e = F .more i l (known-is i l ∙ rw (lt-below n i l h, e))
+      each i l (no h) =
+          F .kept i l (none (member r i) refl) ∙ ap (λ (t : List ℕ). at t i) levelled ∙ getD-tabulated (at levels) n before i
+          ∙ rw (le-ltb i n (omega arith))
+        where
+          none : (b : Bool) → member r i ≡ b → b ≡ false
+          none true e = absurd (h (below-lt n i l (filled-below A known-below rest-below F i l e)))
           none false e = refl

@@ -2,6 +2,5 @@
 pub mod Maxima
 pub mod Depth
 pub mod Gather
-pub mod Ties
 pub mod Paths
 pub mod Way

@@ -1,13 +1,12 @@
 -- Laws of `greatest`: the greatest s u of the numbers u below n that pass a test.
 use Prim.Native.Nat.{ℕ, zero, suc, _≤_, _<_, max, zero-le}
-use mathlib.Core.Path.{_≡_, refl, sym, ap, ap₂, _∙_}
-use mathlib.Core.Bool.{Bool, true, false}
-use native.Mathlib.Nat.{le-refl, le-antisymm, not-suc-le-zero}
+use mathlib.Core.Path.{_≡_, refl, ap, ap₂, _∙_}
+use mathlib.Core.Bool.{Bool, true, false, false≢true}
+use native.Mathlib.Nat.{le-refl, not-suc-le-zero}
 use native.Mathlib.Decide.{ℕ-discrete, decLt}
 use native.Mathlib.Omega.{arith}
-use Rattle.fieldset.specs.Fields.{member, without}
-use Rattle.fieldset.proofs.Numbers.{clash}
-use Rattle.fieldset.proofs.Fields.{member-empty, member-without-same, member-without-other}
+use Rattle.fieldset.specs.Fields.{member, without, lowestOf, First}
+use Rattle.fieldset.proofs.Emptying.{Emptying, empty-start, empty-step, empty-end, taken-in}
 use Rattle.strength.specs.Strength.{greatest}
 
 -- x where the test passed, else 0
@@ -27,11 +26,6 @@ greatest-cong p q s t (suc n) h e =
     go false f = refl
 
 module _ (p : ℕ → Bool) (s : ℕ → ℕ) where
-  pub greatest-none : (n : ℕ) → ((u : ℕ) → u < n → p u ≡ false) → greatest p s n ≡ 0
-  unfolding greatest
-  greatest-none zero h = refl
-  greatest-none (suc n) h = rw (h n (le-refl (suc n)), greatest-none n (λ u l. h u (omega arith)))
-
   -- no number that passes has more
   pub greatest-ge : (n u : ℕ) → u < n → p u ≡ true → s u ≤ greatest p s n
   unfolding greatest
@@ -75,38 +69,23 @@ module _ (p : ℕ → Bool) (s : ℕ → ℕ) where
       go (yes k) = greatest-found n k
       go (no k) = (u, l, e, omega (arith, greatest-ge n u l e))
 
-pub greatest-empty : (s : ℕ → ℕ) (n : ℕ) → greatest (member 0) s n ≡ 0
-greatest-empty s n = greatest-none (member 0) s n (λ u l. member-empty u)
+-- the loop over the fields of a set: the greatest number of those that are done, from b on
+pub record Topping (s : ℕ → ℕ) (set b top rest : ℕ) : Type 0 where
+  pub loop : Emptying set (λ d u. d ≡ true → s u ≤ top) rest
+  pub from : b ≤ top
+  pub bound : top ≤ max b (greatest (member set) s 64)
 
--- a greater test and greater numbers
-pub greatest-mono : (p q : ℕ → Bool) (s t : ℕ → ℕ) (n : ℕ) → ((u : ℕ) → u < n → p u ≡ true → q u ≡ true)
-    → ((u : ℕ) → u < n → p u ≡ true → s u ≤ t u) → greatest p s n ≤ greatest q t n
-greatest-mono p q s t n h e =
-    greatest-le p s n (greatest q t n) (λ u l k. omega (arith, e u l k, greatest-ge q t n u l (h u l k)))
+module _ {s : ℕ → ℕ} {set b : ℕ} where
+  pub top-start : Topping s set b b set
+  top-start = record { loop = empty-start (λ u l e. absurd (false≢true e)); from = le-refl b; bound = omega arith }
 
--- a field of a set, and the rest of the set
-pub greatest-without : (s : ℕ → ℕ) (m u : ℕ) → u < 64 → member m u ≡ true
-    → greatest (member m) s 64 ≡ max (s u) (greatest (member (without m u)) s 64)
-greatest-without s m u l e = le-antisymm (greatest-le (member m) s 64 _ each) (omega (arith, greatest-ge (member m) s 64 u l e, rest))
-  where
-    each : (j : ℕ) → j < 64 → member m j ≡ true → s j ≤ max (s u) (greatest (member (without m u)) s 64)
-    each j k f = go (ℕ-discrete j u)
-      where
-        go : Dec (j ≡ u) → s j ≤ max (s u) (greatest (member (without m u)) s 64)
-        go (yes d) = rw d (omega arith)
-        go (no d) = omega (arith, greatest-ge (member (without m u)) s 64 j k (member-without-other m u j k d ∙ f))
+  pub top-step : {top top′ rest rest′ u : ℕ} → Topping s set b top rest → First rest u → top′ ≡ max top (s u)
+      → rest′ ≡ without rest (lowestOf rest) → Topping s set b top′ rest′
+  top-step {u = u} T U e q = record {
+    loop = empty-step (T .loop) U q (λ d j l n h k. omega (arith, h k)) (λ k. omega arith);
+    from = omega (arith, T .from);
+    bound = omega (arith, T .bound, greatest-ge (member set) s 64 u (U .field) (taken-in (T .loop) U));
+  }
 
-    rest : greatest (member (without m u)) s 64 ≤ greatest (member m) s 64
-    rest = greatest-mono (member (without m u)) (member m) s s 64 (λ j k f. go j k f (ℕ-discrete j u)) (λ j k f. le-refl (s j))
-      where
-        go : (j : ℕ) → j < 64 → member (without m u) j ≡ true → Dec (j ≡ u) → member m j ≡ true
-        go j k f (yes d) = absurd (clash f (rw d (member-without-same m u)))
-        go j k f (no d) = sym (member-without-other m u j k d) ∙ f
-
--- a scan of a set: the greatest so far with that of what is left is the greatest of the whole
-pub top-step : (s : ℕ → ℕ) (rest u top top′ goal : ℕ) → u < 64 → member rest u ≡ true → max top (greatest (member rest) s 64) ≡ goal → top′ ≡ max top (s u)
-    → max top′ (greatest (member (without rest u)) s 64) ≡ goal
-top-step s rest u top top′ goal l m e t = omega (arith, greatest-without s rest u l m)
-
-pub top-done : (s : ℕ → ℕ) (rest top goal : ℕ) → rest ≡ 0 → max top (greatest (member rest) s 64) ≡ goal → top ≡ goal
-top-done s rest top goal z e = omega (arith, ap (λ (m : ℕ). greatest (member m) s 64) z, greatest-empty s 64)
+  pub top-end : {top rest : ℕ} → Topping s set b top rest → rest ≡ 0 → top ≡ max b (greatest (member set) s 64)
+  top-end {top} T z = omega (arith, T .from, T .bound, greatest-le (member set) s 64 top (empty-end (T .loop) z))

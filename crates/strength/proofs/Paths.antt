@@ -1,8 +1,8 @@
 -- Laws of `lowestAt`, `strongest` and `path`, and the reversible path as a chain.
 use Prim.Native.Nat.{ℕ, zero, suc, _≤_, _<_, max}
-use mathlib.Core.Path.{_≡_, refl, sym, ap, ap₂, _∙_}
+use mathlib.Core.Path.{_≡_, refl, ap, ap₂}
 use mathlib.Core.Logic.{_≢_}
-use mathlib.Core.Bool.{Bool, true, false, _&&_, and-false}
+use mathlib.Core.Bool.{Bool, true, false, _&&_}
 use mathlib.Core.List.{List, [], _∷_}
 use native.Mathlib.Nat.{not-suc-le-zero}
 use native.Mathlib.Decide.{ℕ-discrete}
@@ -12,13 +12,13 @@ use lib.Dec.{eqb}
 use lib.ListN.{length}
 use Rattle.fieldset.specs.Numbers.{lowest}
 use Rattle.fieldset.specs.Lists.{All, Distinct}
-use Rattle.fieldset.specs.Fields.{member, without}
+use Rattle.fieldset.specs.Fields.{member, without, lowestOf, First, filter}
 use Rattle.fieldset.proofs.Tests.{and-left, and-right}
 use Rattle.fieldset.proofs.Numbers.{lowest-cong, lowest-none, lowest-lt, lowest-true, lowest-unique}
 use Rattle.fieldset.proofs.Lists.{all-map, below-length}
-use Rattle.fieldset.proofs.Fields.{member-empty, member-without-other, lowestOf-before}
+use Rattle.fieldset.proofs.Fields.{member-empty, member-filter, without-failing, lowestOf-before}
 use Rattle.strength.specs.Strength.{greatest, strength, lowestAt, strongest, path}
-use Rattle.strength.specs.Filling.{First, lastOf}
+use Rattle.strength.specs.Filling.{lastOf}
 use Rattle.strength.proofs.Maxima.{greatest-found, greatest-some}
 use Rattle.strength.proofs.Depth.{Falls, strength-fixed}
 
@@ -68,15 +68,12 @@ lowestAt-hit str s {m} {u} U e =
 -- a field that has not may go
 pub lowestAt-pass : (str : ℕ → ℕ) (s m u : ℕ) → str u ≢ s → lowestAt str s (without m u) ≡ lowestAt str s m
 unfolding lowestAt
-lowestAt-pass str s m u n =
-    lowest-cong (λ j. member (without m u) j && eqb (str j) s) (λ j. member m j && eqb (str j) s) 64 64 (λ j l. go j l (ℕ-discrete j u))
-  where
-    miss : (k : ℕ) → (member k u && eqb (str u) s) ≡ false
-    miss k = ap (λ (b : Bool). member k u && b) (ne-eqb (str u) s n) ∙ and-false (member k u)
+lowestAt-pass str s m u n = lowest-cong _ _ 64 64 (without-failing (λ j. eqb (str j) s) m u (ne-eqb (str u) s n))
 
-    go : (j : ℕ) → j < 64 → Dec (j ≡ u) → (member (without m u) j && eqb (str j) s) ≡ (member m j && eqb (str j) s)
-    go j l (yes d) = rw d (miss (without m u) ∙ sym (miss m))
-    go j l (no d) = ap (λ (b : Bool). b && eqb (str j) s) (member-without-other m u j l d)
+-- the lowest of those that have
+pub lowest-ties : (str : ℕ → ℕ) (s m : ℕ) → lowestOf (filter (λ u. eqb (str u) s) m) ≡ lowestAt str s m
+unfolding lowestOf lowestAt
+lowest-ties str s m = lowest-cong _ _ 64 64 (member-filter (λ u. eqb (str u) s) m)
 
 -- a set that is not empty has a strongest field
 pub strongest-found : (str : ℕ → ℕ) (m u : ℕ) → u < 64 → member m u ≡ true → Tie str (greatest (member m) str 64) m (strongest str m)

@@ -1,17 +1,17 @@
 -- What `path_from` keeps from turn to turn.
 use Prim.Native.Nat.{ℕ, zero, suc, _+_, _-_, _<_}
-use mathlib.Core.Path.{_≡_, refl, sym, ap, ap₂, _∙_}
+use mathlib.Core.Path.{_≡_, refl, sym, ap, _∙_}
 use mathlib.Core.Logic.{_≢_}
 use mathlib.Core.Bool.{true}
 use mathlib.Core.List.{List, [], _∷_, _++_}
-use native.Mathlib.Numerals.{add-one}
 use native.Mathlib.Omega.{arith}
-use lib.ListN.{length, set, take, drop, length-set, take-append-drop}
-use lib.Seq.{take-suc-set, drop-set-lt, drop-drop, append-snoc, length-take-le}
+use lib.ListN.{length, set, drop, length-append}
+use lib.Seq.{append-snoc}
 use Rattle.fieldset.specs.Tables.{at}
-use Rattle.fieldset.specs.Fields.{member, without}
+use Rattle.fieldset.specs.Fields.{member, without, lowestOf, First}
+use Rattle.fieldset.proofs.Tables.{store-next}
 use Rattle.strength.specs.Strength.{strength, lowestAt, path}
-use Rattle.strength.specs.Filling.{Acyclic, Strengths, First, lastOf, Walked}
+use Rattle.strength.specs.Filling.{Acyclic, Strengths, lastOf, PathFound}
 use Rattle.strength.proofs.Paths.{Tie, lowestAt-cong, lowestAt-empty, lowestAt-hit, lowestAt-pass, path-stop, path-go, path-onto}
 
 last-snoc : (d : ℕ) (xs : List ℕ) (x : ℕ) → lastOf d (xs ++ (x ∷ [])) ≡ x
@@ -29,9 +29,11 @@ pub record Way (levels others : List ℕ) (n known v s : ℕ) (before buffer : L
   pub is-known : member known here ≡ true
   pub strong : strength (at levels) (at others) n here ≡ s
   pub room : count + acyclic .rank here < n
-  pub size : length buffer ≡ 64
-  pub done : take count buffer ++ pathFrom levels others n s (n - count) here ≡ pathFrom levels others n s n v
-  pub kept : drop count buffer ≡ drop count before
+  pub size : length before ≡ 64
+  pub passed : List ℕ
+  pub counted : length passed ≡ count
+  pub stored : buffer ≡ passed ++ drop count before
+  pub done : passed ++ pathFrom levels others n s (n - count) here ≡ pathFrom levels others n s n v
 
 -- the scan of the other outputs: the field sought is among those that are left
 pub record Scan (table : List ℕ) (s set rest : ℕ) : Type 0 where
@@ -46,8 +48,8 @@ module _ {table : List ℕ} {s set rest : ℕ} (C : Scan table s set rest) where
       go zero e = absurd (omega (arith, C .some, lowestAt-empty (at table) s))
       go (suc m) e = omega arith
 
-  pub scan-pass : {u : ℕ} → First rest u → at table u ≢ s → Scan table s set (without rest u)
-  scan-pass {u} U h = record { same = lowestAt-pass (at table) s rest u h ∙ C .same; some = C .some }
+  pub scan-pass : {u rest′ : ℕ} → First rest u → at table u ≢ s → rest′ ≡ without rest (lowestOf rest) → Scan table s set rest′
+  scan-pass {u} U h e = rw (e, ← U .is-lowest) (record { same = lowestAt-pass (at table) s rest u h ∙ C .same; some = C .some })
 
   pub scan-found : {u : ℕ} → First rest u → at table u ≡ s → u ≡ lowestAt (at table) s set
   scan-found U h = sym (lowestAt-hit (at table) s U h) ∙ C .same
@@ -61,8 +63,10 @@ module _ {levels others table : List ℕ} {n known v : ℕ} {before : List ℕ} 
     strong = sym (S .right v (omega (arith, A .few)) e);
     room = omega (arith, A .ranked .small v l);
     size = h;
+    passed = [];
+    counted = refl;
+    stored = refl;
     done = ap (λ (k : ℕ). pathFrom levels others n (at table v) k v) (omega arith);
-    kept = refl;
   }
 
 module _ {levels others table : List ℕ} {n known v s : ℕ} {before buffer : List ℕ} {here count : ℕ} (S : Strengths levels others n known table)
@@ -70,13 +74,13 @@ module _ {levels others table : List ℕ} {n known v s : ℕ} {before buffer : L
   small : here < 64
   small = omega (arith, W .field, W .acyclic .few)
 
-  kept-after : drop (suc count) (set buffer count here) ≡ drop (suc count) before
-  kept-after =
-      drop-set-lt (suc count) buffer count here (omega arith) ∙ ap (λ (k : ℕ). drop k buffer) (sym (add-one count)) ∙ sym (drop-drop 1 count buffer)
-      ∙ ap (drop 1) (W .kept) ∙ drop-drop 1 count before ∙ ap (λ (k : ℕ). drop k before) (add-one count)
+  stored-next : set buffer count here ≡ (W .passed ++ (here ∷ [])) ++ drop (count + 1) before
+  stored-next =
+      ap (λ (l : List ℕ). set l count here) (W .stored)
+      ∙ store-next before (W .passed) count here (W .counted) (omega (arith, W .room, W .size, W .acyclic .few))
 
-  taken-after : take (suc count) (set buffer count here) ≡ take count buffer ++ (here ∷ [])
-  taken-after = take-suc-set buffer count here (omega (arith, W .room, W .size, W .acyclic .few))
+  counted-next : length (W .passed ++ (here ∷ [])) ≡ count + 1
+  counted-next = length-append (W .passed) (here ∷ []) ∙ omega (arith, W .counted)
 
   fuel : n - count ≡ suc (n - (count + 1))
   fuel = omega (arith, W .room)
@@ -105,37 +109,30 @@ module _ {levels others table : List ℕ} {n known v s : ℕ} {before buffer : L
           is-known = S .closed here w small (T .field) (W .is-known) (T .is-in);
           strong = T .strong;
           room = omega (arith, W .room, W .acyclic .ranked .falls here w small (T .field) (T .is-in));
-          size = length-set buffer count here ∙ W .size;
+          size = W .size;
+          passed = W .passed ++ (here ∷ []);
+          counted = counted-next;
+          stored = stored-next;
           done =
-              ap (λ (k : ℕ). take k (set buffer count here) ++ pathFrom levels others n s (n - (count + 1)) w) (add-one count)
-              ∙ ap (λ (l : List ℕ). l ++ pathFrom levels others n s (n - (count + 1)) w) taken-after
-              ∙ append-snoc (take count buffer) here (pathFrom levels others n s (n - (count + 1)) w)
-              ∙ ap (λ (l : List ℕ). take count buffer ++ l)
+              append-snoc (W .passed) here (pathFrom levels others n s (n - (count + 1)) w)
+              ∙ ap (λ (l : List ℕ). W .passed ++ l)
               (ap (λ (x : ℕ). here ∷ pathFrom levels others n s (n - (count + 1)) x) q
               ∙ sym (ap (λ (k : ℕ). pathFrom levels others n s k here) fuel
               ∙ path-go (at levels) (at others) (strength (at levels) (at others) n) s (n - (count + 1)) here h))
               ∙ W .done;
-          kept = ap (λ (k : ℕ). drop k (set buffer count here)) (add-one count) ∙ kept-after ∙ ap (λ (k : ℕ). drop k before) (sym (add-one count));
         }
 
   -- the setter's level is the strength: the path ends
-  pub way-stop : s ≡ strength (at levels) (at others) n v → at levels here ≡ s → Walked levels others n v before (set buffer count here) here (count + 1)
-  way-stop es h =
-      let whole : take (suc count) (set buffer count here) ≡ pathFrom levels others n s n v =
-      taken-after
-      ∙ ap (λ (l : List ℕ). take count buffer ++ l)
-      (sym (ap (λ (k : ℕ). pathFrom levels others n s k here) fuel
-      ∙ path-stop (at levels) (at others) (strength (at levels) (at others) n) s (n - (count + 1)) here h))
-      ∙ W .done in
-      let long : suc count ≡ length (pathFrom levels others n s n v) =
-      sym (length-take-le (suc count) (set buffer count here) (omega (arith, W .room, W .acyclic .few, W .size, length-set buffer count here))) ∙ ap length whole in
-      record {
-        fields = pathFrom levels others n s n v;
-        is-path = ap (λ (x : ℕ). pathFrom levels others n x n v) es;
-        stored =
-            sym (take-append-drop (suc count) (set buffer count here)) ∙ ap₂ _++_ whole kept-after
-            ∙ ap (λ (k : ℕ). pathFrom levels others n s n v ++ drop k before) long;
-        counted = add-one count ∙ long;
-        ended = sym (last-snoc v (take count buffer) here) ∙ ap (lastOf v) (sym taken-after ∙ whole);
-        stops = h ∙ es;
-      }
+  pub way-stop : s ≡ strength (at levels) (at others) n v → at levels here ≡ s → PathFound levels others n v before (set buffer count here) here (count + 1)
+  way-stop es h = record {
+    fields = W .passed ++ (here ∷ []);
+    is-path =
+        ap (λ (l : List ℕ). W .passed ++ l)
+        (sym (ap (λ (k : ℕ). pathFrom levels others n s k here) fuel
+        ∙ path-stop (at levels) (at others) (strength (at levels) (at others) n) s (n - (count + 1)) here h))
+        ∙ W .done ∙ ap (λ (x : ℕ). pathFrom levels others n x n v) es;
+    stored = stored-next ∙ ap (λ (k : ℕ). (W .passed ++ (here ∷ [])) ++ drop k before) (sym counted-next);
+    counted = sym counted-next;
+    ended = sym (last-snoc v (W .passed) here);
+    stops = h ∙ es;
+  }

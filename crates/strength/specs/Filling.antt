@@ -1,26 +1,22 @@
 -- What the functions of this crate ask of their tables and what they leave in them. `levels` and `others` have for each field the level and
 -- the other outputs of its setter; n is the number of fields.
-use Prim.Native.Nat.{ℕ, _^_, _≤_, _<_}
+use Prim.Native.Nat.{ℕ, _≤_, _<_}
 use mathlib.Core.Path.{_≡_}
-use mathlib.Core.Bool.{true, false, _&&_}
+use mathlib.Core.Bool.{true, false}
 use mathlib.Core.List.{List, [], _∷_, _++_}
-use lib.Dec.{eqb}
 use lib.ListN.{length, drop}
 use Rattle.fieldset.specs.Tables.{at}
-use Rattle.fieldset.specs.Fields.{member, setOf, lowestOf}
+use Rattle.fieldset.specs.Fields.{member}
+pub use Rattle.fieldset.specs.Fields.{Within}
+use Rattle.fieldset.specs.Ranks.{Ranked}
 use Rattle.strength.specs.Strength.{greatest, strength, path}
-
--- ranks fall from each field to the other outputs of its setter, and those of the fields below n are below n
-pub record Ranked (others : List ℕ) (n : ℕ) (rank : ℕ → ℕ) : Type 0 where
-  pub falls : (v u : ℕ) → v < 64 → u < 64 → member (at others v) u ≡ true → rank u < rank v
-  pub small : (v : ℕ) → v < n → rank v < n
 
 -- n fields whose setters' other outputs are among them, without a loop
 pub record Acyclic (others : List ℕ) (n : ℕ) : Type 0 where
   pub few : n ≤ 64
   pub inside : (v u : ℕ) → v < n → u < 64 → member (at others v) u ≡ true → u < n
   pub rank : ℕ → ℕ
-  pub ranked : Ranked others n rank
+  pub ranked : Ranked (at others) 64 n rank
 
 -- the table has the strengths of the known fields, and of what these depend on
 pub record Strengths (levels others : List ℕ) (n known : ℕ) (table : List ℕ) : Type 0 where
@@ -28,43 +24,29 @@ pub record Strengths (levels others : List ℕ) (n known : ℕ) (table : List �
   pub right : (u : ℕ) → u < 64 → member known u ≡ true → at table u ≡ strength (at levels) (at others) n u
   pub closed : (v u : ℕ) → v < 64 → u < 64 → member known v ≡ true → member (at others v) u ≡ true → member known u ≡ true
 
--- every field of a is in b
-abbrev pub Within : ℕ → ℕ → Type 0
-Within a b = (u : ℕ) → u < 64 → member a u ≡ true → member b u ≡ true
-
--- u is the lowest-numbered field of the set m, which has 64 bits
-pub record First (m u : ℕ) : Type 0 where
-  pub fits : m < 2 ^ 64
-  pub field : u < 64
-  pub is-lowest : u ≡ lowestOf m
-  pub is-in : member m u ≡ true
-
 -- the set has all that its fields depend on
 abbrev pub Closed : List ℕ → ℕ → Type 0
 Closed others m =
     (v u : ℕ) → v < 64 → u < 64 → member m v ≡ true → member (at others v) u ≡ true → member m u ≡ true
 
--- what `fill` asks: the table has the strengths of the known fields, at depth 64, and ranks fall from v, which is below the depth
-pub record Ready (levels others : List ℕ) (known : ℕ) (table : List ℕ) (v depth : ℕ) : Type 0 where
-  pub field : v < 64
+-- what `fill` asks: the table has the strengths of the known fields, at depth 64, and ranks fall from the fields of the set, whose own are
+-- below the depth
+pub record Fillable (levels others : List ℕ) (known : ℕ) (table : List ℕ) (set depth : ℕ) : Type 0 where
   pub few : depth ≤ 64
   pub rank : ℕ → ℕ
   pub falls : (v u : ℕ) → v < 64 → u < 64 → member (at others v) u ≡ true → rank u < rank v
-  pub deep : rank v < depth
+  pub deep : (u : ℕ) → u < 64 → member set u ≡ true → rank u < depth
   pub strengths : Strengths levels others 64 known table
 
--- what it leaves: the table has the strengths of the fields of r too. These are known, or v, or what these depend on; what stands in the
--- table for the others is as it was.
-pub record Filled (levels others : List ℕ) (known v r : ℕ) (before after : List ℕ) : Type 0 where
+-- what it leaves: the table has the strengths of the fields of r too. These are known, or of the set, or what these depend on; what stands in
+-- the table for the others is as it was.
+pub record Filled (levels others : List ℕ) (known set top r : ℕ) (before after : List ℕ) : Type 0 where
+  pub is-greatest : top ≡ greatest (member set) (strength (at levels) (at others) 64) 64
   pub strengths : Strengths levels others 64 r after
   pub more : Within known r
-  pub has : member r v ≡ true
-  pub inside : (m : ℕ) → Closed others m → Within known m → member m v ≡ true → Within r m
+  pub has : Within set r
+  pub inside : (m : ℕ) → Closed others m → Within known m → Within set m → Within r m
   pub kept : (u : ℕ) → u < 64 → member r u ≡ false → at after u ≡ at before u
-
--- the fields of the set m at the strength s
-unfoldable pub tiesOf : (ℕ → ℕ) → ℕ → ℕ → ℕ
-tiesOf str s m = setOf (λ u. member m u && eqb (str u) s) 64
 
 -- the greatest strength of a set was worked out: the table then has the strengths of the set's fields. Which further fields it has, and what
 -- stands in it for the others, is free.
@@ -80,7 +62,7 @@ lastOf d (x ∷ xs) = lastOf x xs
 
 -- the reversible path from v: its fields stand at the start of the buffer, whose rest is as it was; it ends at a setter whose level is the
 -- strength of v
-pub record Walked (levels others : List ℕ) (n v : ℕ) (before after : List ℕ) (end count : ℕ) : Type 0 where
+pub record PathFound (levels others : List ℕ) (n v : ℕ) (before after : List ℕ) (end count : ℕ) : Type 0 where
   pub fields : List ℕ
   pub is-path : fields ≡ path (at levels) (at others) (strength (at levels) (at others) n) (strength (at levels) (at others) n v) n v
   pub stored : after ≡ fields ++ drop (length fields) before

@@ -1,18 +1,24 @@
 // Strengths of fields and the reversible path, over small tables of one entry for each field: `levels` has the level of its setter,
 // `others` the set of its setter's other outputs.
+use fieldset::below;
+use fieldset::first;
 use fieldset::lowest;
 use fieldset::member;
+use fieldset::minus;
+use fieldset::nonempty;
 use fieldset::with;
+use fieldset::within;
 use fieldset::without_lowest;
 ghost use mathlib.Core.Path.{_≡_};
 ghost use mathlib.Core.Bool.{true};
+ghost use lib.Dec.{eqb};
 ghost use mathlib.Core.List.{_++_};
-ghost use Prim.Native.Nat.{_<_, max};
+ghost use Prim.Native.Nat.{_≤_, _<_, max};
 ghost use lib.ListN.{length, drop};
 ghost use Rattle.fieldset.specs.Tables.{at, tabulate};
-ghost use Rattle.fieldset.specs.Fields.{member, below};
+ghost use Rattle.fieldset.specs.Fields.{member, below, filter, Within};
 ghost use Rattle.strength.specs.Strength.{greatest, strength, lowestAt};
-ghost use Rattle.strength.specs.Filling.{Acyclic, Strengths, Within, First, Ready, Filled, Topped, Walked, tiesOf};
+ghost use Rattle.strength.specs.Filling.{Acyclic, Strengths, Fillable, Filled, Topped, PathFound};
 
 fn larger(a: u8, b: u8) -> u8
     ensures { λ r. ⌜ r ≡ max a b ⌝ }
@@ -20,49 +26,50 @@ fn larger(a: u8, b: u8) -> u8
     if a < b { b } else { a }
 }
 
-// The lowest-numbered field of a set that is not empty.
-fn first(m: u64) -> usize
-    requires { ⌜ 0 < m ⌝ }
-    ensures { λ r. ⌜ First m r ⌝ }
-{
-    lowest(m)
+pub struct Top {
+    // the fields whose strengths the table has
+    pub known: u64,
+    pub strength: u8,
 }
 
-// Works out the strength of v, and those that it depends on, each once; the answer is the set of the fields that the table then has.
-// The depth starts at the number of fields and falls at each call.
+// Sees that the table has the strengths of the fields of a set, and those that they depend on, each worked out once. The depth starts at
+// the number of fields and falls at each call.
 fn fill(
     levels: &[u8; 64],
     others: &[u64; 64],
     known: u64,
     table: &mut [u8; 64],
-    v: usize,
+    set: u64,
     depth: usize,
-) -> u64
-    requires { ⌜ Ready (now levels) (now others) known (now table) v depth ⌝ }
-    ensures { λ r. ⌜ Filled (now (levels .entry)) (now (others .entry)) known v r (now (table .entry)) (now (table .exit)) ⌝ }
+) -> Top
+    requires { ⌜ Fillable (now levels) (now others) known (now table) set depth ⌝ }
+    ensures { λ r. ⌜ Filled (now (levels .entry)) (now (others .entry)) known set (r .strength) (r .known) (now (table .entry)) (now (table .exit)) ⌝ }
 {
-    if member(known, v) {
-        return known;
-    }
     let mut k = known;
-    let mut s = levels[v];
-    let mut rest = others[v];
+    let mut top = 0u8;
+    let mut rest = set;
     while rest != 0 {
         let u = first(rest);
         if !member(k, u) {
-            k = fill(levels, others, k, table, u, depth - 1);
+            let mut s = levels[u];
+            let more = others[u];
+            if within(more, k) {
+                s = larger(s, top_of(table, more));
+            } else {
+                let t = fill(levels, others, k, table, more, depth - 1);
+                k = t.known;
+                s = larger(s, t.strength);
+            }
+            table[u] = s;
+            k = with(k, u);
         }
-        s = larger(s, table[u]);
+        top = larger(top, table[u]);
         rest = without_lowest(rest);
     }
-    table[v] = s;
-    with(k, v)
-}
-
-pub struct Top {
-    // the fields whose strengths the table has
-    pub known: u64,
-    pub strength: u8,
+    Top {
+        known: k,
+        strength: top,
+    }
 }
 
 // The greatest strength of the fields of a set, 0 for the empty set.
@@ -76,32 +83,29 @@ pub fn greatest(
     requires { ⌜ Acyclic (now others) n × Within set (below n) × (length (now table) ≡ 64) ⌝ }
     ensures { λ r. ⌜ Topped (now (levels .entry)) (now (others .entry)) n set (r .strength) (r .known) (now (table .exit)) ⌝ }
 {
-    let mut k = 0u64;
-    let mut top = 0u8;
-    let mut rest = set;
-    while rest != 0 {
-        let u = first(rest);
-        k = fill(levels, others, k, table, u, n);
-        top = larger(top, table[u]);
-        rest = without_lowest(rest);
-    }
-    Top {
-        known: k,
-        strength: top,
+    fill(levels, others, 0, table, set, n)
+}
+
+// The levels of the first n fields go to the start of the table.
+fn enter_levels(levels: &[u8; 64], n: usize, table: &mut [u8; 64])
+    requires { ⌜ (n ≤ 64) × (length (now table) ≡ 64) ⌝ }
+    ensures { λ r. ⌜ now (table .exit) ≡ tabulate (at (now (levels .entry))) n ++ drop n (now (table .entry)) ⌝ }
+{
+    let mut v = 0usize;
+    while v < n {
+        table[v] = levels[v];
+        v += 1;
     }
 }
 
-// The strengths of all fields below n.
+// The strengths of all fields below n. Where a setter has no other output it is the level, so that only the others are worked out.
 pub fn strengths(levels: &[u8; 64], others: &[u64; 64], n: usize, table: &mut [u8; 64])
     requires { ⌜ Acyclic (now others) n × (length (now table) ≡ 64) ⌝ }
     ensures { λ r. ⌜ now (table .exit) ≡ tabulate (strength (at (now (levels .entry))) (at (now (others .entry))) n) n ++ drop n (now (table .entry)) ⌝ }
 {
-    let mut k = 0u64;
-    let mut v = 0usize;
-    while v < n {
-        k = fill(levels, others, k, table, v, n);
-        v += 1;
-    }
+    enter_levels(levels, n, table);
+    let rest = nonempty(others, n);
+    fill(levels, others, minus(below(n), rest), table, rest, n);
 }
 
 // The greatest strength of the fields of a set, 0 for the empty set, where the table has the strengths of all of them.
@@ -120,7 +124,7 @@ pub fn top_of(table: &[u8; 64], set: u64) -> u8
 
 // The fields of a set that have the strength s.
 fn tied(table: &[u8; 64], s: u8, set: u64) -> u64
-    ensures { λ r. ⌜ r ≡ tiesOf (at (now (table .entry))) s set ⌝ }
+    ensures { λ r. ⌜ r ≡ filter (λ u. eqb (at (now (table .entry)) u) s) set ⌝ }
 {
     let mut ties = 0u64;
     let mut rest = set;
@@ -158,16 +162,16 @@ pub fn path_from(
     path: &mut [u8; 64],
 ) -> Path
     requires { ⌜ Acyclic (now others) n × Strengths (now levels) (now others) n known (now table) × (v < n) × (member known v ≡ true) × (length (now path) ≡ 64) ⌝ }
-    ensures { λ r. ⌜ Walked (now (levels .entry)) (now (others .entry)) n v (now (path .entry)) (now (path .exit)) (r .end) (r .count) ⌝ }
+    ensures { λ r. ⌜ PathFound (now (levels .entry)) (now (others .entry)) n v (now (path .entry)) (now (path .exit)) (r .end) (r .count) ⌝ }
 {
     let s = table[v];
     let mut at = v;
     let mut count: usize = 0;
-    let end = 'walk: loop {
+    let end = 'follow: loop {
         path[count] = at as u8;
         count += 1;
         if levels[at] == s {
-            break 'walk at;
+            break 'follow at;
         }
         let mut rest = others[at];
         at = 'scan: loop {

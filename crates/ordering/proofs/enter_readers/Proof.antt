@@ -1,9 +1,7 @@
 -- `ordering::enter_readers` meets its contract.
-use Prim.Native.Nat.{_<_}
 use native.Mathlib.Omega.{arith}
-use borrow.Author.Needs.{needs}
-use Rattle.ordering.proofs.Sets.{rest-low, rest-falls}
-use Rattle.ordering.proofs.Listing.{Entering, entering-start, entering-step, entering-end}
+use Rattle.fieldset.proofs.Emptying.{first-falls}
+use Rattle.ordering.proofs.Readers.{Entering, entering-start, entering-step, entering-end}
 use Rattle.ordering.proofs.enter_readers.Statement.{statement}
 use Rattle.ordering.proofs.enter_readers.Tie as tie
 
@@ -14,44 +12,34 @@ abbrev μ-loop : tie.MeasureT-loop
 μ-loop f reads readers₀ rest₀ readers rest = rest
 
 loop-holds : tie.Need-loop-holds Inv-loop μ-loop
-loop-holds c = entering-start (c .pre .1) (c .fits .reads .fits)
+loop-holds c = entering-start (c .pre .1)
 
--- the index is in range
-low : (c : tie.After-lowest Inv-loop μ-loop) → c .lowest .result < 64
-low c = rest-low (c .before .before .loop .inv .fits) (c .before .loop-test .taken) (c .lowest .ensures)
-
-lowest-requires : tie.Need-lowest-requires Inv-loop μ-loop
-lowest-requires c κs = search needs
+first-requires : tie.Need-first-requires Inv-loop μ-loop
+first-requires c κs = omega arith
 
 mul-with : tie.Need-mul-with Inv-loop μ-loop
-mul-with c = omega (arith, low c)
+mul-with c = omega (arith, c .first .ensures .field)
 
 element-copy-out-with : tie.Need-element-copy-out-with Inv-loop μ-loop
-element-copy-out-with c = low c
+element-copy-out-with c = c .first .ensures .field
 
 with-requires : tie.Need-with-requires Inv-loop μ-loop
 with-requires c κs = c .before .before .before .before .pre .0
 
 mul-readers : tie.Need-mul-readers Inv-loop μ-loop
-mul-readers c = omega (arith, low (c .before .before))
+mul-readers c = omega (arith, c .before .before .first .ensures .field)
 
 element-write-readers : tie.Need-element-write-readers Inv-loop μ-loop
-element-write-readers c = low (c .before .before)
+element-write-readers c = c .before .before .first .ensures .field
 
 without-lowest-requires : tie.Need-without-lowest-requires Inv-loop μ-loop
-without-lowest-requires c κs = omega (arith, c .before .before .before .loop-test .taken)
+without-lowest-requires c κs = omega arith
 
 loop-less : tie.Need-loop-less Inv-loop μ-loop
-loop-less c = rest-falls (c .before .before .before .before .before .loop .inv .fits) (c .before .before .before .before .loop-test .taken) (c .without-lowest .ensures)
+loop-less c = first-falls (c .before .before .before .first .ensures) (c .without-lowest .ensures)
 
 loop-again : tie.Need-loop-again Inv-loop μ-loop
-loop-again c =
-    entering-step
-    (c .before .before .before .before .before .loop .inv)
-    (c .before .before .before .before .loop-test .taken)
-    (c .before .before .before .lowest .ensures)
-    (rw (c .before .with .ensures))
-    (c .without-lowest .ensures)
+loop-again c = entering-step (c .before .before .before .before .before .loop .inv) (c .before .before .before .first .ensures) (rw (c .before .with .ensures)) (c .without-lowest .ensures)
 
 returns : tie.Need-returns Inv-loop μ-loop
 returns c = (c .before .loop .inv .long, entering-end (c .before .loop .inv) (c .loop-test .left))
@@ -63,7 +51,7 @@ enter-readers-spec =
     Inv-loop
     μ-loop
     loop-holds
-    lowest-requires
+    first-requires
     mul-with
     element-copy-out-with
     with-requires

@@ -2,7 +2,6 @@
 use mathlib.Core.Path.{sym}
 use borrow.Author.Needs.{needs}
 use Rattle.fieldset.specs.Tables.{at}
-use Rattle.ordering.proofs.Loops.{inside-of}
 use Rattle.ordering.proofs.Passes.{Looking, looking-start, looking-step, looking-stuck, looking-none, passed-less}
 use Rattle.ordering.proofs.has_loop.Statement.{statement}
 use Rattle.ordering.proofs.has_loop.Tie as tie
@@ -13,11 +12,11 @@ Inv-loop reads n left₀ left = Looking (at reads) n left
 abbrev μ-loop : tie.MeasureT-loop
 μ-loop reads n left₀ left = left
 
-below-requires : tie.Need-below-requires Inv-loop μ-loop
-below-requires c κs = c .pre .few
+nonempty-requires : tie.Need-nonempty-requires Inv-loop μ-loop
+nonempty-requires c κs = c .pre .few
 
 loop-holds : tie.Need-loop-holds Inv-loop μ-loop
-loop-holds c = looking-start (c .before .pre .few) (c .below .ensures)
+loop-holds c = looking-start (c .before .pre .few) (c .nonempty .ensures)
 
 pass-requires : tie.Need-pass-requires Inv-loop μ-loop
 pass-requires c κs = search needs
@@ -39,7 +38,7 @@ loop-again : tie.Need-loop-again Inv-loop μ-loop
 loop-again c = looking-step (c .before .before .before .loop .inv) (c .before .pass .ensures)
 
 returns-2 : tie.Need-returns-2 Inv-loop μ-loop
-returns-2 c = sym (looking-none (inside-of (c .before .before .before .pre)) (c .before .loop .inv) (c .loop-test .left))
+returns-2 c = sym (looking-none (c .before .before .before .pre) (c .before .loop .inv) (c .loop-test .left))
 
 pub has-loop-spec : {M : Type 1} → statement M
 has-loop-spec =
@@ -47,7 +46,7 @@ has-loop-spec =
     (tie.spec
     Inv-loop
     μ-loop
-    below-requires
+    nonempty-requires
     loop-holds
     pass-requires
     returns

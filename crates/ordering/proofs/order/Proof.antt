@@ -4,8 +4,7 @@ use mathlib.Core.Path.{refl}
 use native.Mathlib.Omega.{arith}
 use borrow.Author.Needs.{needs}
 use Rattle.fieldset.specs.Tables.{at}
-use Rattle.ordering.proofs.Loops.{inside-of}
-use Rattle.ordering.proofs.Planning.{Planning, planning-start, planning-step, planning-end, planning-small, planning-room, planning-falls}
+use Rattle.ordering.proofs.Planning.{Planning, planning-start, planning-step, planning-end, planning-room, planning-falls}
 use Rattle.ordering.proofs.order.Statement.{statement}
 use Rattle.ordering.proofs.order.Tie as tie
 
@@ -25,25 +24,19 @@ ready-requires : tie.Need-ready-requires Inv-loop μ-loop
 ready-requires c κs = search needs
 
 loop-holds : tie.Need-loop-holds Inv-loop μ-loop
-loop-holds c = planning-start (c .before .before .before .pre .0 .few) (c .before .below .ensures) (c .ready .ensures) (omega (arith, c .ready .ok))
+loop-holds c = planning-start (c .before .before .before .pre .0 .few) (c .before .below .ensures) (c .ready .ensures)
 
--- the listed field and the buffer's index are in range
-small : (c : tie.After-lowest Inv-loop μ-loop) → c .lowest .result < 64
-small c = planning-small (inside-of (c .before .before .before .before .before .before .pre .0)) (c .before .before .loop .inv) (c .before .loop-test .taken) (c .lowest .ensures)
+first-requires : tie.Need-first-requires Inv-loop μ-loop
+first-requires c κs = omega arith
 
-room : (c : tie.After-lowest Inv-loop μ-loop) → c .before .before .loop .count < 64
+-- there is room in the buffer
+room : (c : tie.After-first Inv-loop μ-loop) → c .before .before .loop .count < 64
 room c =
-    omega (
-      arith,
-      c .before .before .before .before .before .before .pre .0 .few,
-      planning-room (inside-of (c .before .before .before .before .before .before .pre .0)) (c .before .before .loop .inv) (c .before .loop-test .taken) (c .lowest .ensures),
-    )
-
-lowest-requires : tie.Need-lowest-requires Inv-loop μ-loop
-lowest-requires c κs = search needs
+    let a = c .before .before .before .before .before .before .pre .0 in
+    omega (arith, a .few, planning-room a (c .before .before .loop .inv) (c .first .ensures))
 
 cast-out : tie.Need-cast-out Inv-loop μ-loop
-cast-out c = omega (arith, small c)
+cast-out c = omega (arith, c .first .ensures .field)
 
 element-write-out : tie.Need-element-write-out Inv-loop μ-loop
 element-write-out c = room c
@@ -52,16 +45,16 @@ add-count : tie.Need-add-count Inv-loop μ-loop
 add-count c = omega (arith, room c)
 
 without-requires : tie.Need-without-requires Inv-loop μ-loop
-without-requires c κs = small c
+without-requires c κs = c .first .ensures .field
 
 without-lowest-requires : tie.Need-without-lowest-requires Inv-loop μ-loop
-without-lowest-requires c κs = omega (arith, c .before .before .loop-test .taken)
+without-lowest-requires c κs = omega arith
 
 mul-ready : tie.Need-mul-ready Inv-loop μ-loop
-mul-ready c = omega (arith, small (c .before .before))
+mul-ready c = omega (arith, c .before .before .first .ensures .field)
 
 array-read-ready : tie.Need-array-read-ready Inv-loop μ-loop
-array-read-ready c = small (c .before .before)
+array-read-ready c = c .before .before .first .ensures .field
 
 ready-requires-2 : tie.Need-ready-requires-2 Inv-loop μ-loop
 ready-requires-2 c κs = search needs
@@ -73,20 +66,18 @@ loop-less : tie.Need-loop-less Inv-loop μ-loop
 loop-less c =
     rw (c .before .before .before .without .ensures)
     (planning-falls
-    (inside-of (c .before .before .before .before .before .before .before .before .before .before .pre .0))
+    (c .before .before .before .before .before .before .before .before .before .before .pre .0)
     (c .before .before .before .before .before .before .loop .inv)
-    (c .before .before .before .before .before .loop-test .taken)
-    (c .before .before .before .before .lowest .ensures))
+    (c .before .before .before .before .first .ensures))
 
 loop-again : tie.Need-loop-again Inv-loop μ-loop
 loop-again c =
     planning-step
-    (inside-of (c .before .before .before .before .before .before .before .before .before .before .pre .0))
+    (c .before .before .before .before .before .before .before .before .before .before .pre .0)
     (c .before .before .before .before .before .before .loop .inv)
-    (c .before .before .before .before .before .loop-test .taken)
-    (c .before .before .before .before .lowest .ensures)
+    (c .before .before .before .before .first .ensures)
     (c .before .before .before .before .before .before .before .before .before .readers-of .ensures)
-    (rw (← c .before .before .before .without .ensures) (c .before .ready2 .ensures))
+    (c .before .ready2 .ensures)
     (c .before .before .before .before .before .before .before .before .before .before .pre .1)
     (c .before .before .before .without .ensures)
     (c .before .before .without-lowest .ensures)
@@ -94,7 +85,7 @@ loop-again c =
     refl
 
 returns : tie.Need-returns Inv-loop μ-loop
-returns c = planning-end (inside-of (c .before .before .before .before .before .pre .0)) (c .before .loop .inv) (c .loop-test .left)
+returns c = planning-end (c .before .before .before .before .before .pre .0) (c .before .loop .inv) (c .loop-test .left)
 
 pub order-spec : {M : Type 1} → statement M
 order-spec =
@@ -106,7 +97,7 @@ order-spec =
     below-requires
     ready-requires
     loop-holds
-    lowest-requires
+    first-requires
     cast-out
     element-write-out
     add-count

@@ -1,9 +1,7 @@
 -- `ordering::pass` meets its contract.
-use Prim.Native.Nat.{_<_}
 use native.Mathlib.Omega.{arith}
-use borrow.Author.Needs.{needs}
 use Rattle.fieldset.specs.Tables.{at}
-use Rattle.ordering.proofs.Sets.{rest-low, rest-falls}
+use Rattle.fieldset.proofs.Emptying.{first-falls}
 use Rattle.ordering.proofs.Passes.{Passing, passing-start, passing-step, passing-end}
 use Rattle.ordering.proofs.pass.Statement.{statement}
 use Rattle.ordering.proofs.pass.Tie as tie
@@ -17,36 +15,26 @@ abbrev μ-loop : tie.MeasureT-loop
 loop-holds : tie.Need-loop-holds Inv-loop μ-loop
 loop-holds c = passing-start (c .fits .set .fits)
 
--- the index is in range
-low : (c : tie.After-lowest Inv-loop μ-loop) → c .lowest .result < 64
-low c = rest-low (c .before .before .loop .inv .rest-fits) (c .before .loop-test .taken) (c .lowest .ensures)
-
-lowest-requires : tie.Need-lowest-requires Inv-loop μ-loop
-lowest-requires c κs = search needs
+first-requires : tie.Need-first-requires Inv-loop μ-loop
+first-requires c κs = omega arith
 
 mul-listed : tie.Need-mul-listed Inv-loop μ-loop
-mul-listed c = omega (arith, low c)
+mul-listed c = omega (arith, c .first .ensures .field)
 
 element-copy-out-listed : tie.Need-element-copy-out-listed Inv-loop μ-loop
-element-copy-out-listed c = low c
+element-copy-out-listed c = c .first .ensures .field
 
 listed-requires : tie.Need-listed-requires Inv-loop μ-loop
-listed-requires c κs = low (c .before)
+listed-requires c κs = c .before .first .ensures .field
 
 without-lowest-requires : tie.Need-without-lowest-requires Inv-loop μ-loop
-without-lowest-requires c κs = omega (arith, c .before .before .before .loop-test .taken)
+without-lowest-requires c κs = omega arith
 
 loop-less : tie.Need-loop-less Inv-loop μ-loop
-loop-less c = rest-falls (c .before .before .before .before .before .loop .inv .rest-fits) (c .before .before .before .before .loop-test .taken) (c .without-lowest .ensures)
+loop-less c = first-falls (c .before .before .before .first .ensures) (c .without-lowest .ensures)
 
 loop-again : tie.Need-loop-again Inv-loop μ-loop
-loop-again c =
-    passing-step
-    (c .before .before .before .before .before .loop .inv)
-    (c .before .before .before .before .loop-test .taken)
-    (c .before .before .before .lowest .ensures)
-    (c .before .listed .ensures)
-    (c .without-lowest .ensures)
+loop-again c = passing-step (c .before .before .before .before .before .loop .inv) (c .before .before .before .first .ensures) (c .without-lowest .ensures) (c .before .listed .ensures)
 
 returns : tie.Need-returns Inv-loop μ-loop
 returns c = passing-end (c .before .loop .inv) (c .before .before .fits .set .fits) (c .loop-test .left)
@@ -58,7 +46,7 @@ pass-spec =
     Inv-loop
     μ-loop
     loop-holds
-    lowest-requires
+    first-requires
     mul-listed
     element-copy-out-listed
     listed-requires

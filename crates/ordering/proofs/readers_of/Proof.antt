@@ -2,18 +2,18 @@
 use Prim.Native.Nat.{_-_}
 use native.Mathlib.Omega.{arith}
 use Rattle.fieldset.specs.Tables.{at}
-use Rattle.ordering.proofs.Listing.{Turned, turned-start, turned-step, turned-end}
+use Rattle.ordering.proofs.Readers.{ReadersUpTo, readers-start, readers-step, readers-end}
 use Rattle.ordering.proofs.readers_of.Statement.{statement}
 use Rattle.ordering.proofs.readers_of.Tie as tie
 
 abbrev Inv-loop : tie.InvT-loop
-Inv-loop reads n readers₀ f₀ readers f = Turned (at reads) n f readers
+Inv-loop reads n readers₀ f₀ readers f = ReadersUpTo (at reads) n f readers
 
 abbrev μ-loop : tie.MeasureT-loop
 μ-loop reads n readers₀ f₀ readers f = n - f
 
 loop-holds : tie.Need-loop-holds Inv-loop μ-loop
-loop-holds c = turned-start
+loop-holds c = readers-start
 
 mul-enter-readers : tie.Need-mul-enter-readers Inv-loop μ-loop
 mul-enter-readers c = omega arith
@@ -32,7 +32,7 @@ loop-less c = omega arith
 
 loop-again : tie.Need-loop-again Inv-loop μ-loop
 loop-again c =
-    turned-step
+    readers-step
     (c .before .before .before .before .before .pre)
     (c .before .before .before .loop-test .taken)
     (c .before .before .before .before .loop .inv)
@@ -40,7 +40,7 @@ loop-again c =
     (c .enter-readers .ensures .1)
 
 returns : tie.Need-returns Inv-loop μ-loop
-returns c = turned-end (c .before .loop .inv) (c .loop-test .left)
+returns c = readers-end (c .before .loop .inv) (c .loop-test .left)
 
 pub readers-of-spec : {M : Type 1} → statement M
 readers-of-spec =

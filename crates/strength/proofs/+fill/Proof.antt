@@ -1,25 +1,26 @@
--- `strength::fill` meets its contract. The measure of a call is its depth; the loop keeps `Gather`, with the setter's other outputs as the
--- set, and its measure is what is left of the set.
-use Prim.Native.Nat.{ℕ, _<_}
+-- `strength::fill` meets its contract. The measure of a call is its depth; the loop keeps `Gather`, and its measure is what is left of the set.
+use Prim.Native.Nat.{ℕ, _<_, max}
 use borrow.Fn.Kinds.{In}
 use borrow.Fn.PlainCycle.{Measures, is, falls, and}
-use mathlib.Core.Path.{sym, _∙_}
+use mathlib.Core.Path.{sym, ap, _∙_}
 use mathlib.Core.Logic.{⊎-elim}
 use native.Mathlib.Omega.{arith}
 use borrow.Author.Tests.{not-false}
-use Rattle.fieldset.specs.Tables.{at}
-use Rattle.strength.specs.Strength.{strength}
-use Rattle.strength.specs.Filling.{Filled}
-use Rattle.strength.proofs.Ties.{first-falls}
-use Rattle.strength.proofs.Gather.{Gather, step, known-already, fill-start, fill-asks, fill-done}
+use lib.ListN.{set}
+use Rattle.fieldset.specs.Fields.{with}
+use Rattle.fieldset.proofs.Fields.{within-member}
+use Rattle.fieldset.proofs.Emptying.{first-falls}
+use Rattle.strength.proofs.Gather.{Gather, start, step, finish, FieldFilled, one-known, left-deep, fill-asks, fill-known, one-filled}
 use Rattle.strength.proofs.fill.Reads as fill
 use Rattle.strength.proofs.fill.Kinds as fill-kinds
 use Rattle.strength.proofs.+fill.Lts-fill as fill-lts
+use Rattle.fieldset.proofs.first.Reads as first-reads
 use Rattle.fieldset.proofs.member.Reads as member-reads
 use Rattle.fieldset.proofs.with.Reads as with-reads
+use Rattle.fieldset.proofs.within.Reads as within-reads
 use Rattle.fieldset.proofs.without_lowest.Reads as without-lowest-reads
-use Rattle.strength.proofs.first.Reads as first-reads
 use Rattle.strength.proofs.larger.Reads as larger-reads
+use Rattle.strength.proofs.top_of.Reads as top-of-reads
 use Rattle.strength.proofs.+fill.{statement}
 use Rattle.strength.proofs.+fill.Tie.{close}
 
@@ -34,104 +35,122 @@ fill-below t = and 3 fill-kinds.ps (falls 3 fill-kinds.ps _<_ μ-fill t) fill.Pr
 
 -- what each callee asks and tells
 abbrev claims : ℕ → fill-lts.Claims
-claims t = (member-reads.Asked, member-reads.Learnt, first-reads.Asked, first-reads.Learnt, fill-below t, fill.Post, larger-reads.Asked, larger-reads.Learnt, without-lowest-reads.Asked, without-lowest-reads.Learnt, with-reads.Asked, with-reads.Learnt)
+claims t = (first-reads.Asked, first-reads.Learnt, member-reads.Asked, member-reads.Learnt, within-reads.Asked, within-reads.Learnt, top-of-reads.Asked, top-of-reads.Learnt, larger-reads.Asked, larger-reads.Learnt, fill-below t, fill.Post, with-reads.Asked, with-reads.Learnt, without-lowest-reads.Asked, without-lowest-reads.Learnt)
 
-abbrev fill-Inv-loop : fill-lts.InvT-loop
-fill-Inv-loop levels others known table₀ v depth k₀ s₀ rest₀ table k s rest = Gather levels others known (at others v) (strength (at levels) (at others) 64 v) table₀ table rest k s
+abbrev Inv-loop : fill-lts.InvT-loop
+Inv-loop levels others known table₀ set depth k₀ top₀ rest₀ table k top rest = Gather levels others known set table₀ table rest k top
 
-abbrev fill-μ-loop : fill-lts.MeasureT-loop
-fill-μ-loop levels others known table₀ v depth k₀ s₀ rest₀ table k s rest = rest
+abbrev μ-loop : fill-lts.MeasureT-loop
+μ-loop levels others known table₀ set depth k₀ top₀ rest₀ table k top rest = rest
 
-fill-member-requires : (t : ℕ) → fill-lts.Need-member-requires (claims t) (fill-at t) fill.Post fill-Inv-loop fill-μ-loop
-fill-member-requires t c κs = c .pre .1 .field
+module _ (t : ℕ) where
+  loop-holds : fill-lts.Need-loop-holds (claims t) (fill-at t) fill.Post Inv-loop μ-loop
+  loop-holds c = start (c .pre .1 .strengths)
 
-fill-returns : (t : ℕ) → fill-lts.Need-returns (claims t) (fill-at t) fill.Post fill-Inv-loop fill-μ-loop
-fill-returns t c = known-already (c .before .before .pre .1) (sym (c .before .member .ensures) ∙ c .if1 .taken)
+  first-requires : fill-lts.Need-first-requires (claims t) (fill-at t) fill.Post Inv-loop μ-loop
+  first-requires c κs = omega arith
 
-fill-element-copy-out-s : (t : ℕ) → fill-lts.Need-element-copy-out-s (claims t) (fill-at t) fill.Post fill-Inv-loop fill-μ-loop
-fill-element-copy-out-s t c = c .before .before .pre .1 .field
+  member-requires : fill-lts.Need-member-requires (claims t) (fill-at t) fill.Post Inv-loop μ-loop
+  member-requires c κs = c .first .ensures .field
 
-fill-mul-rest : (t : ℕ) → fill-lts.Need-mul-rest (claims t) (fill-at t) fill.Post fill-Inv-loop fill-μ-loop
-fill-mul-rest t c = omega (arith, c .before .before .before .pre .1 .field)
+  element-copy-out-s : fill-lts.Need-element-copy-out-s (claims t) (fill-at t) fill.Post Inv-loop μ-loop
+  element-copy-out-s c = c .before .before .first .ensures .field
 
-fill-element-copy-out-rest : (t : ℕ) → fill-lts.Need-element-copy-out-rest (claims t) (fill-at t) fill.Post fill-Inv-loop fill-μ-loop
-fill-element-copy-out-rest t c = c .before .before .before .pre .1 .field
+  mul-more : fill-lts.Need-mul-more (claims t) (fill-at t) fill.Post Inv-loop μ-loop
+  mul-more c = omega (arith, c .before .before .before .first .ensures .field)
 
-fill-loop-holds : (t : ℕ) → fill-lts.Need-loop-holds (claims t) (fill-at t) fill.Post fill-Inv-loop fill-μ-loop
-fill-loop-holds t c = fill-start (c .before .before .before .before .pre .1)
+  element-copy-out-more : fill-lts.Need-element-copy-out-more (claims t) (fill-at t) fill.Post Inv-loop μ-loop
+  element-copy-out-more c = c .before .before .before .first .ensures .field
 
-fill-first-requires : (t : ℕ) → fill-lts.Need-first-requires (claims t) (fill-at t) fill.Post fill-Inv-loop fill-μ-loop
-fill-first-requires t c κs = omega arith
+  within-requires : fill-lts.Need-within-requires (claims t) (fill-at t) fill.Post Inv-loop μ-loop
+  within-requires c κs = tt
 
-fill-member-requires-2 : (t : ℕ) → fill-lts.Need-member-requires-2 (claims t) (fill-at t) fill.Post fill-Inv-loop fill-μ-loop
-fill-member-requires-2 t c κs = omega (arith, c .first .ensures .field, c .before .before .before .before .before .before .before .pre .1 .field)
+  top-of-requires : fill-lts.Need-top-of-requires (claims t) (fill-at t) fill.Post Inv-loop μ-loop
+  top-of-requires c κs = tt
 
-fill-sub-fill : (t : ℕ) → fill-lts.Need-sub-fill (claims t) (fill-at t) fill.Post fill-Inv-loop fill-μ-loop
-fill-sub-fill t c = omega (arith, c .before .before .before .before .before .before .before .before .before .before .pre .1 .deep)
+  sub-fill : fill-lts.Need-sub-fill (claims t) (fill-at t) fill.Post Inv-loop μ-loop
+  sub-fill c = omega (arith, left-deep (c .before .before .before .before .before .before .before .before .before .before .pre .1) (c .before .before .before .before .before .before .before .before .before .loop .inv) (c .before .before .before .before .before .before .before .first .ensures))
 
-fill-fill-requires : (t : ℕ) → fill-lts.Need-fill-requires (claims t) (fill-at t) fill.Post fill-Inv-loop fill-μ-loop
-fill-fill-requires t c κs =
-    let R = c .before .before .before .before .before .before .before .before .before .before .pre in
-    (omega (arith, R .0, R .1 .deep), fill-asks (R .1) (c .before .before .before .before .before .loop .inv) (c .before .before .before .first .ensures))
+  fill-requires : fill-lts.Need-fill-requires (claims t) (fill-at t) fill.Post Inv-loop μ-loop
+  fill-requires c κs =
+      let R = c .before .before .before .before .before .before .before .before .before .before .pre in
+      (omega (arith, R .0, left-deep (R .1) (c .before .before .before .before .before .before .before .before .before .loop .inv) (c .before .before .before .before .before .before .before .first .ensures)), fill-asks (R .1) (c .before .before .before .before .before .before .before .before .before .loop .inv) (c .before .before .before .before .before .before .before .first .ensures))
 
--- the strength of u is in the table: it was known, or it is worked out
-filled : (t : ℕ) (c : fill-lts.Joined2 (claims t) (fill-at t) fill.Post fill-Inv-loop fill-μ-loop)
-    → Filled (c .before .before .before .before .before .before .before .before .before .args .levels .now) (c .before .before .before .before .before .before .before .before .before .args .others .now) (c .before .before .before .before .loop .k) (c .before .before .first .result) (c .if2 .k) (c .before .before .before .before .loop .table) (c .if2 .table)
-filled t c =
-    ⊎-elim (λ w. rw (w .3, w .4) (w .2 .ensures))
-    (λ w.
-    let R = c .before .before .before .before .before .before .before .before .before .pre in
-    rw (w .1, w .2) (known-already (fill-asks (R .1) (c .before .before .before .before .loop .inv) (c .before .before .first .ensures)) (sym (c .before .member2 .ensures) ∙ not-false (c .before .member2 .result) (w .0 .left))))
-    (c .if2 .came)
+  larger-requires : fill-lts.Need-larger-requires (claims t) (fill-at t) fill.Post Inv-loop μ-loop
+  larger-requires c κs = tt
 
-fill-element-copy-out-larger : (t : ℕ) → fill-lts.Need-element-copy-out-larger (claims t) (fill-at t) fill.Post fill-Inv-loop fill-μ-loop
-fill-element-copy-out-larger t c = omega (arith, c .before .before .first .ensures .field, c .before .before .before .before .before .before .before .before .before .pre .1 .field)
+  larger-requires-2 : fill-lts.Need-larger-requires-2 (claims t) (fill-at t) fill.Post Inv-loop μ-loop
+  larger-requires-2 c κs = tt
 
-fill-larger-requires : (t : ℕ) → fill-lts.Need-larger-requires (claims t) (fill-at t) fill.Post fill-Inv-loop fill-μ-loop
-fill-larger-requires t c κs = tt
+  element-write-table : fill-lts.Need-element-write-table (claims t) (fill-at t) fill.Post Inv-loop μ-loop
+  element-write-table c = c .before .before .before .before .before .before .first .ensures .field
 
-fill-without-lowest-requires : (t : ℕ) → fill-lts.Need-without-lowest-requires (claims t) (fill-at t) fill.Post fill-Inv-loop fill-μ-loop
-fill-without-lowest-requires t c κs = omega arith
+  with-requires : fill-lts.Need-with-requires (claims t) (fill-at t) fill.Post Inv-loop μ-loop
+  with-requires c κs = c .before .before .before .before .before .before .first .ensures .field
 
-fill-loop-less : (t : ℕ) → fill-lts.Need-loop-less (claims t) (fill-at t) fill.Post fill-Inv-loop fill-μ-loop
-fill-loop-less t c = first-falls (c .before .before .before .before .before .first .ensures) (c .without-lowest .ensures)
+  element-copy-out-larger : fill-lts.Need-element-copy-out-larger (claims t) (fill-at t) fill.Post Inv-loop μ-loop
+  element-copy-out-larger c = c .before .before .first .ensures .field
 
-fill-loop-again : (t : ℕ) → fill-lts.Need-loop-again (claims t) (fill-at t) fill.Post fill-Inv-loop fill-μ-loop
-fill-loop-again t c =
-    let U = c .before .before .before .before .before .first .ensures in
-    rw (c .without-lowest .ensures, ← U .is-lowest) (step (c .before .before .before .before .before .before .before .loop .inv) U (filled t (c .before .before .before)) (c .before .larger .ensures))
+  larger-requires-3 : fill-lts.Need-larger-requires-3 (claims t) (fill-at t) fill.Post Inv-loop μ-loop
+  larger-requires-3 c κs = tt
 
-fill-element-write-table : (t : ℕ) → fill-lts.Need-element-write-table (claims t) (fill-at t) fill.Post fill-Inv-loop fill-μ-loop
-fill-element-write-table t c = c .before .before .before .before .before .before .pre .1 .field
+  without-lowest-requires : fill-lts.Need-without-lowest-requires (claims t) (fill-at t) fill.Post Inv-loop μ-loop
+  without-lowest-requires c κs = omega arith
 
-fill-with-requires : (t : ℕ) → fill-lts.Need-with-requires (claims t) (fill-at t) fill.Post fill-Inv-loop fill-μ-loop
-fill-with-requires t c κs = c .before .before .before .before .before .before .pre .1 .field
+  -- what is worked out for the field, where it was not known: from the other outputs of its setter, which are known, or are worked out first
+  worked : (c : fill-lts.Joined2 (claims t) (fill-at t) fill.Post Inv-loop μ-loop)
+      → FieldFilled (c .before .before .before .before .before .before .before .before .before .args .levels .now) (c .before .before .before .before .before .before .before .before .before .args .others .now) (c .before .before .before .before .before .before .before .before .loop .k) (c .before .before .before .before .before .before .first .result) (with (c .if2 .k) (c .before .before .before .before .before .before .first .result)) (c .before .before .before .before .before .before .before .before .loop .table) (set (c .if2 .table) (c .before .before .before .before .before .before .first .result) (c .if2 .s))
+  worked c =
+      let R = c .before .before .before .before .before .before .before .before .before .pre .1 in
+      let G = c .before .before .before .before .before .before .before .before .loop .inv in
+      let U = c .before .before .before .before .before .before .first .ensures in
+      ⊎-elim
+      (λ w.
+      rw (w .4, w .5)
+      (one-filled R G U (fill-known R G U (λ u l. within-member _ _ u (sym (c .before .within .ensures) ∙ w .0 .taken) l)) (w .6 ∙ w .3 .ensures ∙ ap (max _) (w .2 .ensures))))
+      (λ w. rw (w .4, w .5) (one-filled R G U (w .2 .ensures) (w .6 ∙ w .3 .ensures))) (c .if2 .came)
 
-fill-returns-2 : (t : ℕ) → fill-lts.Need-returns-2 (claims t) (fill-at t) fill.Post fill-Inv-loop fill-μ-loop
-fill-returns-2 t c =
-    rw (c .with .ensures) (fill-done (c .before .before .before .before .before .before .before .pre .1) (rw (c .before .loop-test .left) at (c .before .before .loop .inv)))
+  filled : (c : fill-lts.Joined1 (claims t) (fill-at t) fill.Post Inv-loop μ-loop)
+      → FieldFilled (c .before .before .before .before .before .args .levels .now) (c .before .before .before .before .before .args .others .now) (c .before .before .before .before .loop .k) (c .before .before .first .result) (c .if1 .k) (c .before .before .before .before .loop .table) (c .if1 .table)
+  filled c =
+      ⊎-elim
+      (λ w.
+      rw (w .6, w .7, w .5 .ensures)
+      (worked (record { before = record { before = record { before = record { before = record { before = c .before; if1 = w .0 }; s = w .1 }; more = w .2 }; within = w .3 }; if2 = w .4 })))
+      (λ w. rw (w .1, w .2) (one-known (c .before .before .before .before .loop .inv .strengths) (sym (c .before .member .ensures) ∙ not-false _ (w .0 .left)))) (c .if1 .came)
+
+  loop-less : fill-lts.Need-loop-less (claims t) (fill-at t) fill.Post Inv-loop μ-loop
+  loop-less c = first-falls (c .before .before .before .before .before .first .ensures) (c .without-lowest .ensures)
+
+  loop-again : fill-lts.Need-loop-again (claims t) (fill-at t) fill.Post Inv-loop μ-loop
+  loop-again c = step (c .before .before .before .before .before .before .before .loop .inv) (c .before .before .before .before .before .first .ensures) (filled (c .before .before .before)) (c .before .larger3 .ensures) (c .without-lowest .ensures)
+
+  returns : fill-lts.Need-returns (claims t) (fill-at t) fill.Post Inv-loop μ-loop
+  returns c = finish (c .before .loop .inv) (c .loop-test .left)
 
 pub +fill-spec : {M : Type 1} → statement M
 +fill-spec = close μ-fill λ t. fill-lts.spec (claims t)
     (fill-at t)
     fill.Post
-    fill-Inv-loop
-    fill-μ-loop
-    (fill-member-requires t)
-    (fill-returns t)
-    (fill-element-copy-out-s t)
-    (fill-mul-rest t)
-    (fill-element-copy-out-rest t)
-    (fill-loop-holds t)
-    (fill-first-requires t)
-    (fill-member-requires-2 t)
-    (fill-sub-fill t)
-    (fill-fill-requires t)
-    (fill-element-copy-out-larger t)
-    (fill-larger-requires t)
-    (fill-without-lowest-requires t)
-    (fill-loop-less t)
-    (fill-loop-again t)
-    (fill-element-write-table t)
-    (fill-with-requires t)
-    (fill-returns-2 t)
+    Inv-loop
+    μ-loop
+    (loop-holds t)
+    (first-requires t)
+    (member-requires t)
+    (element-copy-out-s t)
+    (mul-more t)
+    (element-copy-out-more t)
+    (within-requires t)
+    (top-of-requires t)
+    (larger-requires t)
+    (sub-fill t)
+    (fill-requires t)
+    (larger-requires-2 t)
+    (element-write-table t)
+    (with-requires t)
+    (element-copy-out-larger t)
+    (larger-requires-3 t)
+    (without-lowest-requires t)
+    (loop-less t)
+    (loop-again t)
+    (returns t)

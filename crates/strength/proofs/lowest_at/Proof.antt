@@ -2,7 +2,7 @@
 use mathlib.Core.Path.{ap, _∙_}
 use Rattle.fieldset.specs.Tables.{at}
 use Rattle.fieldset.specs.Fields.{lowestOf}
-use Rattle.strength.proofs.Ties.{lowest-ties}
+use Rattle.strength.proofs.Paths.{lowest-ties}
 use borrow.Author.Needs.{needs}
 use Rattle.strength.proofs.lowest_at.Statement.{statement}
 use Rattle.strength.proofs.lowest_at.Tie as tie

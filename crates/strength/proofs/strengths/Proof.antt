@@ -1,35 +1,36 @@
--- `strength::strengths` meets its contract. The loop keeps `Listing`.
-use Prim.Native.Nat.{_-_}
-use native.Mathlib.Omega.{arith}
-use Rattle.strength.proofs.Gather.{Listing, listing-start, listing-step, listed, fill-below}
+-- `strength::strengths` meets its contract.
+use Prim.Native.Nat.{ℕ}
+use mathlib.Core.Path.{_≡_, ap, _∙_}
+use Rattle.fieldset.specs.Fields.{below, minus}
+use Rattle.strength.proofs.Gather.{listed-asks, listed}
 use Rattle.strength.proofs.strengths.Statement.{statement}
 use Rattle.strength.proofs.strengths.Tie as tie
 
-abbrev Inv-loop : tie.InvT-loop
-Inv-loop levels others n table₀ k₀ v₀ table k v = Listing levels others n table₀ table k v
+enter-levels-requires : tie.Need-enter-levels-requires
+enter-levels-requires c κs = (c .before .pre .0 .few, c .before .pre .1)
 
-abbrev μ-loop : tie.MeasureT-loop
-μ-loop levels others n table₀ k₀ v₀ table k v = n - v
+nonempty-requires : tie.Need-nonempty-requires
+nonempty-requires c κs = c .before .before .pre .0 .few
 
-loop-holds : tie.Need-loop-holds Inv-loop μ-loop
-loop-holds c = listing-start (c .pre .0) (c .pre .1)
+below-requires : tie.Need-below-requires
+below-requires c κs = c .before .before .before .pre .0 .few
 
-fill-requires : tie.Need-fill-requires Inv-loop μ-loop
-fill-requires c κs = fill-below (c .before .before .before .pre .0) (c .before .before .loop .inv .strengths) (omega arith)
+minus-requires : tie.Need-minus-requires
+minus-requires c κs = tt
 
-add-v : tie.Need-add-v Inv-loop μ-loop
-add-v c = omega (arith, c .before .before .before .before .pre .0 .few)
+-- the fields whose setters have no other output
+known : (c : tie.After-minus) → c .minus .result ≡ minus (below (c .before .before .before .before .before .args .n)) (c .before .before .nonempty .result)
+known c = c .minus .ensures ∙ ap (λ (m : ℕ). minus m (c .before .before .nonempty .result)) (c .before .below .ensures)
 
-loop-less : tie.Need-loop-less Inv-loop μ-loop
-loop-less c = omega arith
+fill-requires : tie.Need-fill-requires
+fill-requires c κs =
+    let p = c .before .before .before .before .before .before .pre in
+    listed-asks _ _ (p .0) (c .before .before .before .nonempty .ensures) (known (c .before)) (p .1) (c .before .before .before .before .enter-levels .ensures)
 
-loop-again : tie.Need-loop-again Inv-loop μ-loop
-loop-again c = listing-step (c .before .before .before .before .pre .0) (c .before .before .before .loop .inv) (omega arith) (c .fill .ensures)
-
-returns : tie.Need-returns Inv-loop μ-loop
-returns c = listed (c .before .before .pre .0) (c .before .before .pre .1) (c .before .loop .inv) (omega arith)
+returns : tie.Need-returns
+returns c =
+    let p = c .before .before .before .before .before .before .before .pre in
+    listed _ _ (p .0) (c .before .before .before .before .nonempty .ensures) (known (c .before .before)) (p .1) (c .before .before .before .before .before .enter-levels .ensures) (c .fill .ensures)
 
 pub strengths-spec : {M : Type 1} → statement M
-strengths-spec =
-    tie.close
-    (tie.spec Inv-loop μ-loop loop-holds fill-requires add-v loop-less loop-again returns)
+strengths-spec = tie.close (tie.spec enter-levels-requires nonempty-requires below-requires minus-requires fill-requires returns)

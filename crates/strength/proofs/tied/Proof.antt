@@ -1,20 +1,22 @@
--- `strength::tied` meets its contract. The loop keeps `Tying`, and its measure is what is left of the set.
+-- `strength::tied` meets its contract. The loop keeps `Filtering`, and its measure is what is left of the set.
 use mathlib.Core.Path.{_∙_}
 use mathlib.Core.Logic.{⊎-elim, inl, inr}
 use native.Mathlib.Omega.{arith}
+use borrow.Author.Tests.{eq-eqb, ne-eqb}
+use lib.Dec.{eqb}
 use Rattle.fieldset.specs.Tables.{at}
-use Rattle.strength.proofs.Ties.{first-falls, Tying, tying-start, tying-step, tying-done}
+use Rattle.fieldset.proofs.Emptying.{first-falls, Filtering, filter-start, filter-step, filter-end}
 use Rattle.strength.proofs.tied.Statement.{statement}
 use Rattle.strength.proofs.tied.Tie as tie
 
 abbrev Inv-loop : tie.InvT-loop
-Inv-loop table s set ties₀ rest₀ ties rest = Tying (at table) s set ties rest
+Inv-loop table s set ties₀ rest₀ ties rest = Filtering (λ u. eqb (at table u) s) set ties rest
 
 abbrev μ-loop : tie.MeasureT-loop
 μ-loop table s set ties₀ rest₀ ties rest = rest
 
 loop-holds : tie.Need-loop-holds Inv-loop μ-loop
-loop-holds c = tying-start
+loop-holds c = filter-start
 
 first-requires : tie.Need-first-requires Inv-loop μ-loop
 first-requires c κs = omega arith
@@ -33,13 +35,12 @@ loop-less c = first-falls (c .before .before .before .first .ensures) (c .withou
 
 loop-again : tie.Need-loop-again Inv-loop μ-loop
 loop-again c =
-    let U = c .before .before .before .first .ensures in
-    rw (c .without-lowest .ensures, ← U .is-lowest)
-    (tying-step (c .before .before .before .before .before .loop .inv) U
-    (⊎-elim (λ w. inl (w .0 .taken, w .2 ∙ w .1 .ensures)) (λ w. inr (w .0 .left, w .1)) (c .before .if1 .came)))
+    filter-step (c .before .before .before .before .before .loop .inv) (c .before .before .before .first .ensures)
+    (⊎-elim (λ w. inl (eq-eqb _ _ (w .0 .taken), w .2 ∙ w .1 .ensures)) (λ w. inr (ne-eqb _ _ (w .0 .left), w .1)) (c .before .if1 .came))
+    (c .without-lowest .ensures)
 
 returns : tie.Need-returns Inv-loop μ-loop
-returns c = tying-done (rw (c .loop-test .left) at (c .before .loop .inv))
+returns c = filter-end (c .before .loop .inv) (c .loop-test .left)
 
 pub tied-spec : {M : Type 1} → statement M
 tied-spec =

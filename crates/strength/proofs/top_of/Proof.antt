@@ -1,24 +1,20 @@
--- `strength::top_of` meets its contract. The greatest so far with that of what is left is the greatest of the set; the measure is what is left.
-use mathlib.Core.Path.{_≡_}
-use Prim.Native.Nat.{max}
+-- `strength::top_of` meets its contract. The loop keeps `Topping`, and its measure is what is left of the set.
 use native.Mathlib.Omega.{arith}
 use borrow.Author.Needs.{needs}
 use Rattle.fieldset.specs.Tables.{at}
-use Rattle.fieldset.specs.Fields.{member}
-use Rattle.strength.specs.Strength.{greatest}
-use Rattle.strength.proofs.Maxima.{top-step, top-done}
-use Rattle.strength.proofs.Ties.{first-falls}
+use Rattle.fieldset.proofs.Emptying.{first-falls}
+use Rattle.strength.proofs.Maxima.{Topping, top-start, top-step, top-end}
 use Rattle.strength.proofs.top_of.Statement.{statement}
 use Rattle.strength.proofs.top_of.Tie as tie
 
 abbrev Inv-loop : tie.InvT-loop
-Inv-loop table set top₀ rest₀ top rest = max top (greatest (member rest) (at table) 64) ≡ greatest (member set) (at table) 64
+Inv-loop table set top₀ rest₀ top rest = Topping (at table) set 0 top rest
 
 abbrev μ-loop : tie.MeasureT-loop
 μ-loop table set top₀ rest₀ top rest = rest
 
 loop-holds : tie.Need-loop-holds Inv-loop μ-loop
-loop-holds c = omega arith
+loop-holds c = top-start
 
 first-requires : tie.Need-first-requires Inv-loop μ-loop
 first-requires c κs = omega arith
@@ -37,12 +33,10 @@ loop-less c = first-falls (c .before .before .before .first .ensures) (c .withou
 
 loop-again : tie.Need-loop-again Inv-loop μ-loop
 loop-again c =
-    let u = c .before .before .before .first .ensures in
-    rw (c .without-lowest .ensures, ← u .is-lowest)
-    (top-step _ _ _ _ _ _ (u .field) (u .is-in) (c .before .before .before .before .before .loop .inv) (c .before .larger .ensures))
+    top-step (c .before .before .before .before .before .loop .inv) (c .before .before .before .first .ensures) (c .before .larger .ensures) (c .without-lowest .ensures)
 
 returns : tie.Need-returns Inv-loop μ-loop
-returns c = top-done _ _ _ _ (c .loop-test .left) (c .before .loop .inv)
+returns c = omega (arith, top-end (c .before .loop .inv) (c .loop-test .left))
 
 pub top-of-spec : {M : Type 1} → statement M
 top-of-spec =

@@ -1,0 +1,66 @@
+-- `fieldset::nonempty` meets its contract: the set has those of the first `f` fields whose sets are not empty.
+use Prim.Native.Nat.{_-_, _≤_}
+use mathlib.Core.Path.{_≡_, refl, ap, _∙_}
+use mathlib.Core.Bool.{not}
+use mathlib.Core.Logic.{⊎-elim, inl, inr}
+use native.Mathlib.Omega.{arith}
+use borrow.Author.Tests.{eq-eqb, ne-eqb}
+use lib.Dec.{eqb}
+use Rattle.fieldset.specs.Tables.{at}
+use Rattle.fieldset.specs.Fields.{setOf}
+use Rattle.fieldset.proofs.Fields.{setOf-step}
+use Rattle.fieldset.proofs.nonempty.Statement.{statement}
+use Rattle.fieldset.proofs.nonempty.Tie as tie
+
+abbrev Inv-loop : tie.InvT-loop
+Inv-loop sets n set₀ f₀ set f = (f ≤ n) × (set ≡ setOf (λ f. not (eqb (at sets f) 0)) f)
+
+abbrev μ-loop : tie.MeasureT-loop
+μ-loop sets n set₀ f₀ set f = n - f
+
+loop-holds : tie.Need-loop-holds Inv-loop μ-loop
+unfolding setOf
+loop-holds c = (omega arith, refl)
+
+mul-if1 : tie.Need-mul-if1 Inv-loop μ-loop
+mul-if1 c = omega arith
+
+element-copy-out-if1 : tie.Need-element-copy-out-if1 Inv-loop μ-loop
+element-copy-out-if1 c = omega arith
+
+with-requires : tie.Need-with-requires Inv-loop μ-loop
+with-requires c κs = omega arith
+
+add-f : tie.Need-add-f Inv-loop μ-loop
+add-f c = omega arith
+
+loop-less : tie.Need-loop-less Inv-loop μ-loop
+loop-less c = omega arith
+
+loop-again : tie.Need-loop-again Inv-loop μ-loop
+loop-again c =
+    let i = c .before .before .before .loop .inv in (
+      omega arith,
+      setOf-step (λ f. not (eqb (at (c .before .before .before .before .args .sets .now) f) 0)) (c .before .before .before .loop .f) (omega arith) (i .1)
+          (⊎-elim (λ w. inl (ap not (ne-eqb _ 0 (w .0 .taken)), w .2 ∙ w .1 .ensures)) (λ w. inr (ap not (eq-eqb _ 0 (w .0 .left)), w .1)) (c .if1 .came)),
+    )
+
+returns : tie.Need-returns Inv-loop μ-loop
+returns c =
+    let e : c .before .loop .f ≡ c .before .before .args .n = omega arith in
+    c .before .loop .inv .1 ∙ ap (setOf _) e
+
+pub nonempty-spec : {M : Type 1} → statement M
+nonempty-spec =
+    tie.close
+    (tie.spec
+    Inv-loop
+    μ-loop
+    loop-holds
+    mul-if1
+    element-copy-out-if1
+    with-requires
+    add-f
+    loop-less
+    loop-again
+    returns)
