@@ -1,7 +1,7 @@
 -- The unopened panel, made of its parts.
 use mathlib.Core.Path.{_≡_, refl, sym, ap, _∙_, subst}
 use mathlib.Core.List.{List}
-use Prim.Native.Nat.{ℕ, _≤_}
+use Prim.Native.Nat.{ℕ, _≤_, zero-le}
 use native.Mathlib.Omega.{arith}
 use lib.ListN.{length, replicate}
 use Rattle.fieldset.specs.Tables.{tabulate}
@@ -10,18 +10,17 @@ use Rattle.panel.specs.declared.Panel.{Panel}
 use Rattle.panel.specs.Items.{noLink}
 use Rattle.panel.specs.Panels.{opened}
 use Rattle.panel.specs.Legal.{Legal}
-use Rattle.panel.proofs.Changes.{legal-unopened}
-use Rattle.tables.proofs.Filling.{tableOf}
-use Rattle.turning.proofs.Tables.{table-whole}
+use Rattle.panel.proofs.Changes.{legal-opened}
+use Rattle.tables.proofs.Maps.{mapped, mapped-all}
 
 abbrev made : Link → List ℕ → Panel
 made l place = record { size = 0; links = replicate 128 l; place = place; setter = replicate 64 128 }
 
-pub made-unopened : (l : Link) (place before : List ℕ) (f : ℕ) → l ≡ noLink → 64 ≤ f → f ≤ 64 → length before ≡ 64 → place ≡ tableOf (λ g. g) f before
+pub made-unopened : (l : Link) (place before : List ℕ) (f : ℕ) → l ≡ noLink → 64 ≤ f → f ≤ 64 → length before ≡ 64 → place ≡ mapped (λ g x. g) before f
     → (made l place ≡ opened 0) × Legal (made l place)
 unfolding opened
 made-unopened l place before f e low high full t =
     let all : place ≡ tabulate (λ g. g) 64 =
-    t ∙ ap (λ (k : ℕ). tableOf (λ g. g) k before) (omega arith) ∙ table-whole (λ g. g) 64 before (omega arith) in
+    t ∙ ap (mapped (λ g x. g) before) (omega arith) ∙ mapped-all (λ g x. g) before 64 (omega arith) in
     let same : made l place ≡ opened 0 = rw (e, all) refl in
-    (same, subst Legal (sym same) legal-unopened)
+    (same, subst Legal (sym same) (legal-opened 0 zero-le))

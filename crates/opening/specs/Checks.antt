@@ -1,6 +1,6 @@
 -- The checks of an opening over its numbers.
 use Prim.Native.Nat.{ℕ}
-use mathlib.Core.Bool.{cond, not}
+use mathlib.Core.Bool.{_||_, cond}
 use lib.Dec.{eqb, ltb}
 use Rattle.panel.specs.declared.Refusal.the-variants.{AlreadyOpen, BadSize}
 use Rattle.panel.specs.declared.Reply.{Reply}
@@ -8,4 +8,4 @@ use Rattle.panel.specs.declared.Reply.the-variants.{Accepted, Refused}
 
 -- the reply of the checks of an opening with n fields to a panel that has `size`
 abbrev pub checkOpen : ℕ → ℕ → Reply
-checkOpen size n = cond (not (eqb size 0)) (Refused AlreadyOpen) (cond (eqb n 0) (Refused BadSize) (cond (ltb 64 n) (Refused BadSize) (Accepted 0)))
+checkOpen size n = cond (ltb 0 size) (Refused AlreadyOpen) (cond (eqb n 0 || ltb 64 n) (Refused BadSize) (Accepted 0))

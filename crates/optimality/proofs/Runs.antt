@@ -1,7 +1,6 @@
 -- Condition 3: every command leaves a sound state sound, so every state after a list of commands is optimal.
 use Prim.Native.Nat.{ℕ, _≤_, _<_, zero-le}
 use mathlib.Core.Path.{_≡_, refl, ap, _∙_}
-use mathlib.Core.Bool.{Bool, true, false}
 use mathlib.Core.List.{[], _∷_}
 use mathlib.Core.Option.{none}
 use native.Mathlib.Omega.{arith}
@@ -9,16 +8,14 @@ use borrow.Author.Tests.{ltb-true}
 use lib.ListN.{replicate, getD-replicate}
 use Rattle.fieldset.specs.Tables.{tabulate}
 use Rattle.fieldset.proofs.Numbers.{clash}
-use Rattle.fieldset.proofs.Fields.{some-member}
 use Rattle.panel.specs.declared.Link.{Link}
 use Rattle.panel.specs.declared.Panel.{Panel}
-use Rattle.panel.specs.Items.{Item, link, stay, linkAt}
+use Rattle.panel.specs.Items.{Item, link, stay}
 use Rattle.panel.specs.Panels.{opened}
 use Rattle.panel.specs.Steps.{openStep, addStep, removeStep, touchStep, planStep}
 use Rattle.panel.specs.Commands.{Command, opening, adding, removing, touching, planning, performed, openChecks, addChecks, removeChecks, touchChecks, planChecks, coveredIn, outputsIn}
 use Rattle.panel.proofs.Turn.{setter-stay}
-use Rattle.panel.proofs.Legal.{used-small}
-use Rattle.panel.proofs.Changes.{legal-opened}
+use Rattle.panel.proofs.Changes.{legal-opened, unopened-links}
 use Rattle.panel.proofs.Checks.{openable, addable, removable, touchable}
 use Rattle.optimality.specs.Condition3.{Store, empty, entered, System, Run, stepped, after, AfterEveryList, panels, start, Condition3}
 use Rattle.optimality.specs.Agreement.{entryOf, EverySystem, Sound, EveryStart}
@@ -50,15 +47,7 @@ opened-sound b n few no-links =
 
 -- an unopened panel has no links
 no-links : (b : Store) (p : Panel) → Sound b p → p .size ≡ 0 → (i : ℕ) → b .links i ≡ none
-no-links b p x e i = x .agrees .links i ∙ go (linkAt (p .links) i .used) refl
-  where
-    go : (u : Bool) → linkAt (p .links) i .used ≡ u → entryOf (linkAt (p .links) i) ≡ none
-    go true h =
-        let f = x .legal .formed i (used-small (p .links) i (x .legal .links-length) h) h in
-        let (u, l, m) = some-member (linkAt (p .links) i .outputs) (f .outputs-small) (f .some-output) in
-        let k : u < p .size = f .inside u l (f .subset u l m) in
-        absurd (omega arith)
-    go false h = rw h
+no-links b p x e i = x .agrees .links i ∙ rw (unopened-links p (x .legal) e) (ap entryOf (default-link i))
 
 -- ---- the commands
 

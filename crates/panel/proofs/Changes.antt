@@ -1,16 +1,17 @@
 -- The panel at opening, and the changes that come before a reversal, are legal: a new link, a link dropped, a stay moved to the front.
-use Prim.Native.Nat.{ℕ, _+_, _≤_, _<_, zero-le}
+use Prim.Native.Nat.{ℕ, _+_, _≤_, _<_}
 use mathlib.Core.Path.{_≡_, refl, sym, ap, _∙_, subst}
-use mathlib.Core.Bool.{true, false}
+use mathlib.Core.Bool.{Bool, true, false}
 use mathlib.Core.List.{List}
 use native.Mathlib.Decide.{ℕ-discrete, decLt}
 use native.Mathlib.Omega.{arith}
 use borrow.Author.Tests.{lt-ltb, le-ltb, eq-eqb, ne-eqb}
 use lib.ListN.{set, replicate, length-replicate, getD-replicate}
+use lib.Seq.{ext-getD}
 use Rattle.fieldset.specs.Tables.{at, tabulate}
 use Rattle.fieldset.specs.Fields.{member}
 use Rattle.fieldset.proofs.Numbers.{clash}
-use Rattle.fieldset.proofs.Fields.{member-empty, member-only}
+use Rattle.fieldset.proofs.Fields.{member-empty, member-only, some-member}
 use Rattle.fieldset.proofs.Tables.{length-tabulate, getD-tabulate}
 use Rattle.ordering.specs.Order.{hasLoop}
 use Rattle.ordering.proofs.Loops.{ranked-no-loop}
@@ -81,8 +82,37 @@ legal-opened n few = legal (opened n) (stay n) parts tt tt (no-reads-no-loop (se
       };
     }
 
-pub legal-unopened : Legal (opened 0)
-legal-unopened = legal-opened 0 zero-le
+-- an unopened panel has no links, and its tables are those at opening
+module _ (p : Panel) (h : Legal p) (closed : p .size ≡ 0) where
+  none-used : (i : ℕ) → i < 128 → linkAt (p .links) i ≡ noLink
+  none-used i l = go (linkAt (p .links) i .used) refl
+    where
+      go : (b : Bool) → linkAt (p .links) i .used ≡ b → linkAt (p .links) i ≡ noLink
+      go true e =
+          let f = h .formed i l e in
+          let (u, k, m) = some-member (linkAt (p .links) i .outputs) (f .outputs-small) (f .some-output) in
+          absurd (omega (arith, f .inside u k (f .subset u k m)))
+      go false e = h .unused i l e
+
+  pub unopened-links : p .links ≡ replicate 128 noLink
+  unopened-links =
+      ext-getD noLink (p .links) (replicate 128 noLink) (h .links-length ∙ sym (length-replicate 128 noLink))
+      (λ i l. let k : i < 128 = omega (arith, h .links-length) in none-used i k ∙ sym (getD-replicate 128 i noLink noLink k))
+
+  unopened-place : p .place ≡ tabulate (λ f. f) 64
+  unopened-place =
+      ext-getD 0 (p .place) (tabulate (λ f. f) 64) (h .place-length ∙ sym (length-tabulate (λ f. f) 64))
+      (λ f l. let k : f < 64 = omega (arith, h .place-length) in h .place-past f (omega arith) k ∙ sym (getD-tabulate (λ g. g) 64 f 0 k))
+
+  unopened-setter : p .setter ≡ replicate 64 128
+  unopened-setter =
+      ext-getD 0 (p .setter) (replicate 64 128) (h .setter-length ∙ sym (length-replicate {A = ℕ} 64 128))
+      (λ f l. let k : f < 64 = omega (arith, h .setter-length) in h .setter-past f (omega arith) k ∙ sym (getD-replicate {A = ℕ} 64 f 128 0 k))
+
+  -- with n fields it is the panel at opening
+  pub opened-size : (n : ℕ) → _≡_ {A = Panel} (record { size = n; links = p .links; place = p .place; setter = p .setter }) (opened n)
+  unfolding opened
+  opened-size n = rw (unopened-links, unopened-place, unopened-setter) refl
 
 -- ---- another link for an item that sets nothing
 

@@ -20,8 +20,8 @@ use Rattle.panel.specs.declared.Panel.{Panel}
 use Rattle.panel.specs.Items.{link, stay, linkAt, isWaiting}
 use Rattle.panel.specs.Solution.{level, strengthOf, isBlocked}
 use Rattle.panel.specs.Legal.{Legal, Formed}
-use Rattle.tables.specs.Leaves.{StrengthsOf}
-use Rattle.scanning.specs.Scan.{isOver, isBlockedLink}
+use Rattle.tables.specs.Tables.{StrengthsOf}
+use Rattle.scanning.specs.Scan.{isOver, isBlockedLink, withSetters}
 
 module _ (table : List ℕ) (level : ℕ) where
   pub over-none : isOver table level 0 ≡ false
@@ -67,39 +67,43 @@ any-agree m level s t h = any-cong (λ u. member m u && ltb level (s u)) (λ u. 
     go u l true e = rw (h u l e)
     go u l false e = rw e
 
-module _ (p : Panel) (table : List ℕ) (L : Legal p) (S : StrengthsOf p table) where
+-- of the panel with other setters
+module _ (p : Panel) (setter table : List ℕ) (L : Legal p) (S : StrengthsOf (withSetters p setter) table) where
+  abbrev pub q : Panel
+  q = withSetters p setter
+
   -- the outputs of a link are fields of the panel, and their strengths stand in the table
-  pub link-blocked : (i : ℕ) → i < 128 → isBlocked p (link i) ≡ isBlockedLink table (linkAt (p .links) i)
+  pub link-blocked : (i : ℕ) → i < 128 → isBlocked q (link i) ≡ isBlockedLink table (linkAt (p .links) i)
   unfolding isBlocked isOver
   link-blocked i l = go (linkAt (p .links) i) (λ e. L .formed i l e)
     where
       go : (x : Link) → (x .used ≡ true → Formed (p .size) x)
-          → ((x .used && isWaiting (x .standing)) && any (λ u. member (x .outputs) u && ltb (x .level) (strengthOf p u)) 64)
+          → ((x .used && isWaiting (x .standing)) && any (λ u. member (x .outputs) u && ltb (x .level) (strengthOf q u)) 64)
           ≡ ((x .used && isWaiting (x .standing)) && any (λ u. member (x .outputs) u && ltb (x .level) (at table u)) 64)
       go x F = used (x .used) refl
         where
           used : (b : Bool) → x .used ≡ b
-              → ((b && isWaiting (x .standing)) && any (λ u. member (x .outputs) u && ltb (x .level) (strengthOf p u)) 64)
+              → ((b && isWaiting (x .standing)) && any (λ u. member (x .outputs) u && ltb (x .level) (strengthOf q u)) 64)
               ≡ ((b && isWaiting (x .standing)) && any (λ u. member (x .outputs) u && ltb (x .level) (at table u)) 64)
           used true e =
               ap (λ (b : Bool). isWaiting (x .standing) && b)
-              (any-agree (x .outputs) (x .level) (strengthOf p) (at table) (λ u k m. sym (S u (F e .inside u k (F e .subset u k m)))))
+              (any-agree (x .outputs) (x .level) (strengthOf q) (at table) (λ u k m. sym (S u (F e .inside u k (F e .subset u k m)))))
           used false e = refl
 
-  stay-blocked : (f : ℕ) → f < p .size → isBlocked p (stay f) ≡ (ltb (at (p .setter) f) 128 && ltb (level p (stay f)) (at table f))
+  stay-blocked : (f : ℕ) → f < p .size → isBlocked q (stay f) ≡ (ltb (at setter f) 128 && ltb (level q (stay f)) (at table f))
   unfolding isBlocked
   stay-blocked f l =
-      rw (lt-ltb f (p .size) l, any-only (λ u. ltb (level p (stay f)) (strengthOf p u)) f (lt-of-lt-of-le l (L .few)), S f l)
+      rw (lt-ltb f (p .size) l, any-only (λ u. ltb (level q (stay f)) (strengthOf q u)) f (lt-of-lt-of-le l (L .few)), S f l)
 
   module _ (f : ℕ) (l : f < p .size) where
-    pub stay-over : at (p .setter) f < 128 → level p (stay f) < at table f → isBlocked p (stay f) ≡ true
-    stay-over h k = stay-blocked f l ∙ rw (lt-ltb (at (p .setter) f) 128 h) (lt-ltb (level p (stay f)) (at table f) k)
+    pub stay-over : at setter f < 128 → level q (stay f) < at table f → isBlocked q (stay f) ≡ true
+    stay-over h k = stay-blocked f l ∙ rw (lt-ltb (at setter f) 128 h) (lt-ltb (level q (stay f)) (at table f) k)
 
-    pub stay-under : at table f ≤ level p (stay f) → isBlocked p (stay f) ≡ false
-    stay-under k = stay-blocked f l ∙ rw (le-ltb (level p (stay f)) (at table f) k) (and-false (ltb (at (p .setter) f) 128))
+    pub stay-under : at table f ≤ level q (stay f) → isBlocked q (stay f) ≡ false
+    stay-under k = stay-blocked f l ∙ rw (le-ltb (level q (stay f)) (at table f) k) (and-false (ltb (at setter f) 128))
 
-    pub stay-sets : 128 ≤ at (p .setter) f → isBlocked p (stay f) ≡ false
-    stay-sets h = stay-blocked f l ∙ rw (le-ltb (at (p .setter) f) 128 h)
+    pub stay-sets : 128 ≤ at setter f → isBlocked q (stay f) ≡ false
+    stay-sets h = stay-blocked f l ∙ rw (le-ltb (at setter f) 128 h)
 
 -- a link by its parts
 module _ (table : List ℕ) (x : Link) where

@@ -12,8 +12,6 @@ use Rattle.fieldset.specs.Tables.{tabulate}
 use Rattle.panel.specs.declared.Panel.{Panel}
 use Rattle.panel.specs.Items.{Item, link, stay, itemsOf}
 use Rattle.panel.specs.Solution.{level, isBlocked, lesser, least, leastBlocked}
-use Rattle.panel.specs.Legal.{Legal}
-use Rattle.scanning.proofs.Over.{link-level}
 
 -- the first of least level among the blocked of the first n links, or of the first n stays
 abbrev pub leastOf : Panel → (ℕ → Item) → ℕ → Option Item
@@ -121,16 +119,10 @@ module _ (p : Panel) where
   items = least-append (isBlocked p) (level p) (map link (tabulate (λ i. i) 128)) (map stay (tabulate (λ f. f) (p .size)))
 
   -- a blocked link has a lesser level than every stay
-  pub blocked-link-first : (i : ℕ) → Legal p → leastOf p link 128 ≡ numbered link 128 i → i < 128 → some (link i) ≡ leastBlocked p
-  blocked-link-first i L e l =
-      sym (items ∙ rw (e, lt-ltb i 128 l)
-      (least-low (isBlocked p) (level p) (link i) stay (tabulate (λ f. f) (p .size)) (λ f. omega (arith, link-level p i L l))))
+  pub blocked-link-first : (i : ℕ) → level p (link i) ≤ 15 → leastOf p link 128 ≡ numbered link 128 i → i < 128 → leastBlocked p ≡ some (link i)
+  blocked-link-first i low e l =
+      items ∙ rw (e, lt-ltb i 128 l) (least-low (isBlocked p) (level p) (link i) stay (tabulate (λ f. f) (p .size)) (λ f. omega (arith, low)))
 
-  pub no-blocked-link : (i : ℕ) → leastOf p link 128 ≡ numbered link 128 i → 128 ≤ i → leastOf p stay (p .size) ≡ leastBlocked p
-  no-blocked-link i e l = sym (items ∙ rw (e, le-ltb i 128 l))
-
-  pub blocked-stay-first : (f : ℕ) → leastOf p stay (p .size) ≡ numbered stay 64 f → f < 64 → some (stay f) ≡ leastOf p stay (p .size)
-  blocked-stay-first f e l = sym (e ∙ rw (lt-ltb f 64 l))
-
-  pub no-blocked-stay : (f : ℕ) → leastOf p stay (p .size) ≡ numbered stay 64 f → 64 ≤ f → none ≡ leastOf p stay (p .size)
-  no-blocked-stay f e l = sym (e ∙ rw (le-ltb f 64 l))
+  pub no-blocked-link : (i f : ℕ) → leastOf p link 128 ≡ numbered link 128 i → 128 ≤ i → leastOf p stay (p .size) ≡ numbered stay 64 f
+      → leastBlocked p ≡ numbered stay 64 f
+  no-blocked-link i f e l s = items ∙ rw (e, le-ltb i 128 l) s

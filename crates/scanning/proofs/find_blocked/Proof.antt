@@ -1,32 +1,35 @@
 -- `scanning::find_blocked` meets its contract: the links passed, and then the stays passed, are scanned. Assumes nothing.
 use Prim.Native.Nat.{_-_, _≤_, _<_}
-use mathlib.Core.Path.{_≡_, sym, ap, _∙_}
+use mathlib.Core.Path.{_≡_, refl, sym, ap, _∙_}
 use mathlib.Core.Logic.{⊎-elim}
 use native.Mathlib.Omega.{arith}
 use borrow.Author.Needs.{needs}
-use borrow.Author.Tests.{ltb-true, ltb-false}
+use borrow.Author.Tests.{lt-ltb, le-ltb, ltb-true, ltb-false}
 use Rattle.fieldset.specs.Tables.{at}
 use Rattle.panel.specs.Items.{link, stay}
-use Rattle.panel.specs.Solution.{isBlocked, level}
+use Rattle.panel.specs.Solution.{isBlocked, level, leastBlocked}
+use Rattle.scanning.specs.Scan.{withSetters}
 use Rattle.scanning.proofs.Over.{link-blocked, link-level, stay-over, stay-under, stay-sets}
-use Rattle.scanning.proofs.Scan.{leastOf, Scanned, scan-none, scan-takes, scan-leaves, scan-keeps, blocked-link-first, no-blocked-link, blocked-stay-first, no-blocked-stay}
+use Rattle.scanning.proofs.Scan.{leastOf, numbered, Scanned, scan-none, scan-takes, scan-leaves, scan-keeps, blocked-link-first, no-blocked-link}
 use Rattle.scanning.proofs.find_blocked.Statement.{statement}
 use Rattle.scanning.proofs.find_blocked.Tie as tie
 
 abbrev Inv-loop : tie.InvT-loop
-Inv-loop table p found₀ least₀ i₀ found least i = (i ≤ 128) × Scanned (isBlocked p) (level p) link 128 i found least
+Inv-loop setter table p found₀ least₀ i₀ found least i =
+    (i ≤ 128) × Scanned (isBlocked (withSetters p setter)) (level (withSetters p setter)) link 128 i found least
 
 abbrev μ-loop : tie.MeasureT-loop
-μ-loop table p found₀ least₀ i₀ found least i = 128 - i
+μ-loop setter table p found₀ least₀ i₀ found least i = 128 - i
 
 abbrev Inv-loop2 : tie.InvT-loop2
-Inv-loop2 table p found least i n stay₀ low₀ f₀ stay′ low f = (f ≤ n) × Scanned (isBlocked p) (level p) stay 64 f stay′ low
+Inv-loop2 setter table p found least i n stay₀ low₀ f₀ stay′ low f =
+    (f ≤ n) × Scanned (isBlocked (withSetters p setter)) (level (withSetters p setter)) stay 64 f stay′ low
 
 abbrev μ-loop2 : tie.MeasureT-loop2
-μ-loop2 table p found least i n stay₀ low₀ f₀ stay′ low f = n - f
+μ-loop2 setter table p found least i n stay₀ low₀ f₀ stay′ low f = n - f
 
 loop-holds : tie.Need-loop-holds Inv-loop μ-loop Inv-loop2 μ-loop2
-loop-holds c = (omega arith, scan-none (isBlocked (c .args .t1)) (level (c .args .t1)) link 128)
+loop-holds c = (omega arith, scan-none _ _ link 128)
 
 mul-l : tie.Need-mul-l Inv-loop μ-loop Inv-loop2 μ-loop2
 mul-l c = omega arith
@@ -50,7 +53,7 @@ loop-again c =
     let p = b .args .t1 in
     let L = b .pre .0 in
     let l : a .i < 128 = omega arith in
-    let q = link-blocked p (b .args .table .now) L (b .pre .1) (a .i) l in (
+    let q = link-blocked p (b .args .setter .now) (b .args .table .now) L (b .pre .1) (a .i) l in (
       omega arith,
       ⊎-elim (λ w. scan-takes (a .inv .1) (w .3) (w .4) l (q ∙ sym (w .1 .ensures) ∙ w .2 .taken) (w .0 .taken))
           (λ w.
@@ -59,20 +62,26 @@ loop-again c =
           (c .if1 .came),
     )
 
-cast-t21 : tie.Need-cast-t21 Inv-loop μ-loop Inv-loop2 μ-loop2
-cast-t21 c = omega arith
+cast-t22 : tie.Need-cast-t22 Inv-loop μ-loop Inv-loop2 μ-loop2
+cast-t22 c = omega arith
+
+mul-t23 : tie.Need-mul-t23 Inv-loop μ-loop Inv-loop2 μ-loop2
+mul-t23 c = omega arith
+
+element-copy-out-t26 : tie.Need-element-copy-out-t26 Inv-loop μ-loop Inv-loop2 μ-loop2
+element-copy-out-t26 c = omega arith
 
 returns : tie.Need-returns Inv-loop μ-loop Inv-loop2 μ-loop2
 returns c =
-    let s = c .before .before .before in
-    let a = c .before .before .loop in
+    let s = c .before .before .before .before in
+    let a = c .before .before .before .loop in
+    let q = withSetters (s .args .t1) (s .args .setter .now) in
     let e : a .i ≡ 128 = omega arith in
-    blocked-link-first (s .args .t1) (a .found) (s .pre .0) (ap (leastOf (s .args .t1) link) (sym e) ∙ a .inv .1 .result) (c .if3 .taken)
+    let l : a .found < 128 = c .before .if3 .taken in
+    (blocked-link-first q (a .found) (link-level (s .args .t1) (a .found) (s .pre .0) l) (ap (leastOf q link) (sym e) ∙ a .inv .1 .result) l, refl)
 
 loop2-holds : tie.Need-loop2-holds Inv-loop μ-loop Inv-loop2 μ-loop2
-loop2-holds c =
-    let p = c .before .before .before .args .t1 in
-    (omega arith, scan-none (isBlocked p) (level p) stay 64)
+loop2-holds c = (omega arith, scan-none _ _ stay 64)
 
 element-copy-out-level : tie.Need-element-copy-out-level Inv-loop μ-loop Inv-loop2 μ-loop2
 element-copy-out-level c = omega (arith, c .before .before .before .before .before .pre .0 .few)
@@ -99,6 +108,7 @@ loop2-again c =
     let b = c .before .before .before .before .before .before .before .before in
     let a = c .before .before .before .before .loop2 in
     let p = b .args .t1 in
+    let s = b .args .setter .now in
     let t = b .args .table .now in
     let L = b .pre .0 in
     let S = b .pre .1 in
@@ -108,39 +118,36 @@ loop2-again c =
       omega arith,
       ⊎-elim
           (λ w.
-          scan-takes (a .inv .1) (w .4) (w .5) few (stay-over p t L S (a .f) l (w .0 .taken) (ltb-true lev (at t (a .f)) (w .2 .taken)))
+          scan-takes (a .inv .1) (w .4) (w .5) few (stay-over p s t L S (a .f) l (w .0 .taken) (ltb-true lev (at t (a .f)) (w .2 .taken)))
           (ltb-true lev (a .low) (w .3 .taken)))
           (λ w.
           ⊎-elim (λ v. scan-keeps (a .inv .1) (w .1) (w .2) (omega (arith, L .place-small (a .f) l)) (ltb-false lev (a .low) (v .3 .left)))
-          (⊎-elim (λ v. scan-leaves (a .inv .1) (w .1) (w .2) (stay-under p t L S (a .f) l (ltb-false lev (at t (a .f)) (v .2 .left))))
-          (λ v. scan-leaves (a .inv .1) (w .1) (w .2) (stay-sets p t L S (a .f) l (v .left)))) (w .0 .came))
+          (⊎-elim (λ v. scan-leaves (a .inv .1) (w .1) (w .2) (stay-under p s t L S (a .f) l (ltb-false lev (at t (a .f)) (v .2 .left))))
+          (λ v. scan-leaves (a .inv .1) (w .1) (w .2) (stay-sets p s t L S (a .f) l (v .left)))) (w .0 .came))
           (c .if4 .came),
     )
 
-cast-t34 : tie.Need-cast-t34 Inv-loop μ-loop Inv-loop2 μ-loop2
-cast-t34 c = omega arith
+cast-t39 : tie.Need-cast-t39 Inv-loop μ-loop Inv-loop2 μ-loop2
+cast-t39 c = omega arith
+
+-- both scans are done, and no link was found
+scanned-stays : (d : tie.After-loop2 Inv-loop μ-loop Inv-loop2 μ-loop2)
+    → let s = d .before .before .before .before .before in
+    leastBlocked (withSetters (s .args .t1) (s .args .setter .now)) ≡ numbered stay 64 (d .before .loop2 .stay)
+scanned-stays d =
+    let s = d .before .before .before .before .before in
+    let a = d .before .before .before .before .loop in
+    let q = withSetters (s .args .t1) (s .args .setter .now) in
+    let e : a .i ≡ 128 = omega arith in
+    let n : d .before .loop2 .f ≡ q .size = omega arith in
+    no-blocked-link q (a .found) (d .before .loop2 .stay) (ap (leastOf q link) (sym e) ∙ a .inv .1 .result) (d .before .before .if3 .left)
+    (ap (leastOf q stay) (sym n) ∙ d .before .loop2 .inv .1 .result)
 
 returns-2 : tie.Need-returns-2 Inv-loop μ-loop Inv-loop2 μ-loop2
-returns-2 c =
-    let d = c .before .before in
-    let s = d .before .before .before .before in
-    let a = d .before .before .before .loop in
-    let p = s .args .t1 in
-    let e : a .i ≡ 128 = omega arith in
-    let n : d .loop2 .f ≡ p .size = omega arith in
-    blocked-stay-first p (d .loop2 .stay) (ap (leastOf p stay) (sym n) ∙ d .loop2 .inv .1 .result) (c .if7 .taken)
-    ∙ no-blocked-link p (a .found) (ap (leastOf p link) (sym e) ∙ a .inv .1 .result) (d .before .if3 .left)
+returns-2 c = scanned-stays (c .before) ∙ rw (lt-ltb (c .before .before .loop2 .stay) 64 (c .if7 .taken)) refl
 
 returns-3 : tie.Need-returns-3 Inv-loop μ-loop Inv-loop2 μ-loop2
-returns-3 c =
-    let d = c .before .before in
-    let s = d .before .before .before .before in
-    let a = d .before .before .before .loop in
-    let p = s .args .t1 in
-    let e : a .i ≡ 128 = omega arith in
-    let n : d .loop2 .f ≡ p .size = omega arith in
-    no-blocked-stay p (d .loop2 .stay) (ap (leastOf p stay) (sym n) ∙ d .loop2 .inv .1 .result) (c .if7 .left)
-    ∙ no-blocked-link p (a .found) (ap (leastOf p link) (sym e) ∙ a .inv .1 .result) (d .before .if3 .left)
+returns-3 c = scanned-stays (c .before) ∙ rw (le-ltb (c .before .before .loop2 .stay) 64 (c .if7 .left)) refl
 
 pub find-blocked-spec : {M : Type 1} → statement M
 find-blocked-spec =
@@ -157,7 +164,9 @@ find-blocked-spec =
     add-i
     loop-less
     loop-again
-    cast-t21
+    cast-t22
+    mul-t23
+    element-copy-out-t26
     returns
     loop2-holds
     element-copy-out-level
@@ -167,6 +176,6 @@ find-blocked-spec =
     add-f
     loop2-less
     loop2-again
-    cast-t34
+    cast-t39
     returns-2
     returns-3)
