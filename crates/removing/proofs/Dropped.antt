@@ -22,6 +22,8 @@ use Rattle.panel.specs.declared.Panel.{Panel}
 use Rattle.panel.specs.Items.{Item, link, stay, noLink, linkAt, itemOf, setterOf, levelOf, outputsOf, isWaiting, itemsOf}
 use Rattle.panel.specs.Panels.{withLink, freed, dropped}
 use Rattle.panel.specs.Solution.{level, setterLevel, setterOthers, strengthOf, isBlocked, lesser, least, leastBlocked}
+use Rattle.panel.specs.Steps.{removeStep}
+use Rattle.panel.specs.Commands.{removing, performed}
 use Rattle.panel.specs.Legal.{Legal}
 use Rattle.panel.proofs.Turn.{numberOf, setter-stay, setter-number, link-here, link-there}
 use Rattle.panel.proofs.Setters.{reads-there, waits-force}
@@ -56,9 +58,23 @@ least-same q lev lev′ h (c ∷ cs) = rw (least-same q lev lev′ h cs) (go (q 
 pub sets-holds : (p : Panel) → Legal p → (id f : ℕ) → id < 128 → f < 64 → at (p .setter) f ≡ id → linkAt (p .links) id .standing ≡ Holding f
 sets-holds p h id f small l e = subst (λ (i : ℕ). linkAt (p .links) i .standing ≡ Holding f) e (h .setter-holds f l (omega arith))
 
-module _ (p : Panel) (h : Legal p) (id v : ℕ) (small : id < 128) (holds : linkAt (p .links) id .standing ≡ Holding v) where
-  pub field-small : v < 64
-  field-small = omega (arith, h .few, h .holding-field id v small holds)
+pub field-small : (p : Panel) → Legal p → (id v : ℕ) → id < 128 → linkAt (p .links) id .standing ≡ Holding v → v < 64
+field-small p h id v small holds = omega (arith, h .few, h .holding-field id v small holds)
+
+-- a removal of a link that holds v passes its checks
+pub record Held (p : Panel) (id v : ℕ) (levels others reads : List ℕ) : Type 0 where
+  pub legal : Legal p
+  pub tabled : Tabled p levels others reads
+  pub small : id < 128
+  pub holds : linkAt (p .links) id .standing ≡ Holding v
+  pub step : performed p (removing id) ≡ removeStep p id
+
+module _ {p : Panel} {id v : ℕ} {levels others reads : List ℕ} (x : Held p id v levels others reads) where
+  h : Legal p
+  h = x .legal
+
+  pub held-small : v < 64
+  held-small = field-small p h id v (x .small) (x .holds)
 
   -- the stay of v steps in, and then the link is dropped
   abbrev pub stepped : Panel
@@ -69,14 +85,14 @@ module _ (p : Panel) (h : Legal p) (id v : ℕ) (small : id < 128) (holds : link
 
   pub dropped-rest : dropped p id ≡ rest
   unfolding dropped
-  dropped-rest = ap (freed (withLink p id noLink)) holds
+  dropped-rest = ap (freed (withLink p id noLink)) (x .holds)
 
   pub legal-rest : Legal rest
-  legal-rest = subst Legal dropped-rest (legal-dropped p id h small)
+  legal-rest = subst Legal dropped-rest (legal-dropped p id h (x .small))
 
   -- v is set by its stay, every other field as before, and none by the link
   stay-sets : setterOf (rest .setter) v ≡ stay v
-  stay-sets = setter-stay (rest .setter) v (omega (arith, getD-set-same (p .setter) v 128 0 (omega (arith, h .setter-length, field-small))))
+  stay-sets = setter-stay (rest .setter) v (omega (arith, getD-set-same (p .setter) v 128 0 (omega (arith, h .setter-length, held-small))))
 
   others-set : (f : ℕ) → f ≢ v → at (rest .setter) f ≡ at (p .setter) f
   others-set f ne = getD-set-other (p .setter) v f 128 0 ne
@@ -90,7 +106,7 @@ module _ (p : Panel) (h : Legal p) (id v : ℕ) (small : id < 128) (holds : link
       go : Dec (f ≡ v) → ⊥
       go (yes d) = let z : link id ≡ stay v = sym e ∙ ap (setterOf (rest .setter)) d ∙ stay-sets in let y : _≡_ {A = ℕ} 0 1 = cc in omega arith
       go (no d) =
-          let z : Holding v ≡ Holding f = sym holds ∙ sets-holds p h id f small l (sym (others-set f d) ∙ sets) in
+          let z : Holding v ≡ Holding f = sym (x .holds) ∙ sets-holds p h id f (x .small) l (sym (others-set f d) ∙ sets) in
           let y : v ≡ f = cc in
           d (sym y)
 
@@ -103,16 +119,16 @@ module _ (p : Panel) (h : Legal p) (id v : ℕ) (small : id < 128) (holds : link
   outputs-kept (link i) ne = ap (λ (l : Link). l .outputs) (link-there (p .links) id i noLink (λ e. ne (ap link e)))
   outputs-kept (stay f) ne = refl
 
-  pub tabled-rest : {levels others reads : List ℕ} → Tabled p levels others reads → Tabled rest (set levels v (16 + at (p .place) v)) (set others v 0) (set reads v 0)
+  pub tabled-rest : Tabled rest (set levels v (16 + at (p .place) v)) (set others v 0) (set reads v 0)
   unfolding setterOf
-  tabled-rest t =
-      tabled-set p rest 64 64 v (16 + at (p .place) v) 0 0 field-small
-      (λ f x y z l ne.
+  tabled-rest =
+      tabled-set p rest 64 64 v (16 + at (p .place) v) 0 0 held-small
+      (λ f a b c l ne.
       let same : setterOf (rest .setter) f ≡ setterOf (p .setter) f = ap (λ (c : ℕ). itemOf c f) (others-set f ne) in
       let other : setterOf (p .setter) f ≢ link id = λ e. unset f l (same ∙ e) in
-      let c = setterOf (p .setter) f in
-      (l, same-setting p rest f c refl same (level-kept c other) (outputs-kept c other) (reads-there (p .links) id f noLink c other)))
-      (record { level-is = rw stay-sets refl; others-are = rw stay-sets (sym (stay-others v)); reads-are = rw stay-sets refl }) t
+      let d = setterOf (p .setter) f in
+      (l, same-setting p rest f d refl same (level-kept d other) (outputs-kept d other) (reads-there (p .links) id f noLink d other)))
+      (record { level-is = rw stay-sets refl; others-are = rw stay-sets (sym (stay-others v)); reads-are = rw stay-sets refl }) (x .tabled)
 
   -- the link sets nothing and is not blocked: strengths and what is blocked are the same
   pub strength-kept : (f : ℕ) → f < 64 → strengthOf stepped f ≡ strengthOf rest f
@@ -139,7 +155,7 @@ module _ (p : Panel) (h : Legal p) (id v : ℕ) (small : id < 128) (holds : link
   blocked-kept (link i) = go (ℕ-discrete i id)
     where
       go : Dec (i ≡ id) → isBlocked stepped (link i) ≡ isBlocked rest (link i)
-      go (yes e) = rw e (rw (holds, and-false (linkAt (p .links) id .used)) (sym not-blocked))
+      go (yes e) = rw e (rw (x .holds, and-false (linkAt (p .links) id .used)) (sym not-blocked))
       go (no e) =
           ap (λ (b : Bool). (linkAt (p .links) i .used && isWaiting (linkAt (p .links) i .standing)) && b) (over-kept _ _)
           ∙ sym (ap blocked-link (link-there (p .links) id i noLink e))
@@ -165,17 +181,20 @@ module _ (p : Panel) (h : Legal p) (id v : ℕ) (small : id < 128) (holds : link
       let w = blocking rest (stay f) (found-blocked (stay f) (sym found-kept ∙ e)) .waits-now in
       omega (arith, h .few, ltb-true f (p .size) (waits-force (p .size) (rest .links) (rest .setter) (stay f) w))
 
-  -- what is chosen: nothing, or an item
-  abbrev pub Choice : Chosen → Type 0
-  Choice b =
-      ((leastBlocked rest ≡ none) × (b .outputs ≡ 0))
-      ⊎ (d : Item) × (leastBlocked rest ≡ some d) × (b .number ≡ numberOf d) × (b .outputs ≡ outputsOf (rest .links) d) × (b .covered ≡ coverOf (rest .links) d)
+  -- what is chosen, by its number as a setter, its outputs and covered fields: nothing, or an item
+  abbrev pub Choice : ℕ → ℕ → ℕ → Type 0
+  Choice number outputs covered =
+      ((leastBlocked rest ≡ none) × (outputs ≡ 0))
+      ⊎ (d : Item) × (leastBlocked rest ≡ some d) × (number ≡ numberOf d) × (outputs ≡ outputsOf (rest .links) d) × (covered ≡ coverOf (rest .links) d)
 
-  pub choice : (b : Blocked) → Finds stepped b → Choice (chosenOf b)
-  choice Nothing e = inl (sym found-kept ∙ e, refl)
-  choice (ALink i l) (e, is) =
-      let found : leastBlocked rest ≡ some (link i) = sym found-kept ∙ e in
-      let same : l ≡ linkAt (rest .links) i =
-      is ∙ sym (link-there (p .links) id i noLink (λ d. blocked-other (link i) (found-blocked (link i) found) (ap link d))) in
-      inr (link i, found, refl, ap (λ (x : Link). x .outputs) same, ap (λ (x : Link). x .covered) same)
-  choice (AStay f) e = inr (stay f, sym found-kept ∙ e, refl, refl, refl)
+  pub choice : (w : Chosen) (b : Blocked) → w ≡ chosenOf b → Finds stepped b → Choice (w .number) (w .outputs) (w .covered)
+  choice w b e finds = subst (λ (w : Chosen). Choice (w .number) (w .outputs) (w .covered)) (sym e) (go b finds)
+    where
+      go : (b : Blocked) → Finds stepped b → Choice (chosenOf b .number) (chosenOf b .outputs) (chosenOf b .covered)
+      go Nothing e = inl (sym found-kept ∙ e, refl)
+      go (ALink i l) (e, is) =
+          let found : leastBlocked rest ≡ some (link i) = sym found-kept ∙ e in
+          let same : l ≡ linkAt (rest .links) i =
+          is ∙ sym (link-there (p .links) id i noLink (λ d. blocked-other (link i) (found-blocked (link i) found) (ap link d))) in
+          inr (link i, found, refl, ap (λ (y : Link). y .outputs) same, ap (λ (y : Link). y .covered) same)
+      go (AStay f) e = inr (stay f, sym found-kept ∙ e, refl, refl, refl)

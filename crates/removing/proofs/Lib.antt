@@ -1,1 +1,2 @@
 pub mod Dropped
+pub mod Removed

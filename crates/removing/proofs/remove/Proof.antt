@@ -1,140 +1,151 @@
+-- `removing::remove` meets its contract.
+use mathlib.Core.Path.{_≡_, refl, sym, ap, _∙_, subst}
+use mathlib.Core.Logic.{⊎-elim, inl, inr}
+use native.Mathlib.Nat.{mod-eq-of-lt}
+use native.Mathlib.Omega.{arith}
 use borrow.Author.Needs.{needs}
+use Rattle.panel.specs.declared.Standing.the-variants.{Holding}
+use Rattle.panel.specs.declared.Panel.{Panel}
+use Rattle.tables.proofs.Settings.{places}
+use Rattle.reversal.specs.Reversals.{HeldField, Decided}
+use Rattle.reversal.proofs.Turns.{no-loop}
+use Rattle.removing.proofs.Dropped.{Held, held-small, of-field, choice}
+use Rattle.removing.proofs.Removed.{Passed, old-standing, remove-refused, remove-passes, remove-waiting, rest-acyclic, stepped-strengths, undecided, Turned, remove-looped, remove-turned}
 use Rattle.removing.proofs.remove.Statement.{statement}
 use Rattle.removing.proofs.remove.Tie as tie
-use Rattle.removing.proofs.remove.Reads as reads
-use Rattle.removing.proofs.remove.Lts as lts
-use Rattle.fieldset.proofs.below.Reads as below-reads
-use Rattle.fieldset.proofs.wide.Reads as wide-reads
-use Rattle.panel.proofs.no_link.Reads as no-link-reads
-use Rattle.panel.proofs.unchanged.Reads as unchanged-reads
-use Rattle.removing.proofs.check_remove.Reads as check-remove-reads
-use Rattle.removing.proofs.choose.Reads as choose-reads
-use Rattle.reversal.proofs.decide.Reads as decide-reads
-use Rattle.reversal.proofs.step_of.Reads as step-of-reads
-use Rattle.scanning.proofs.find_blocked.Reads as find-blocked-reads
-use Rattle.strength.proofs.strengths.Reads as strengths-reads
-use Rattle.strength.proofs.top_of.Reads as top-of-reads
 
--- src/lib.rt:99:9
+-- ---- the places: the checks passed, the field that the link holds
+
+abbrev start : tie.After-enum-told2 → tie.Start
+start c = c .before .before .before .before
+
+passed : (c : tie.After-enum-told2) → Passed (start c .args .p) (start c .args .id)
+passed c =
+    let s = start c in
+    remove-passes (s .args .p) (s .args .id) (s .args .old) (s .pre .2) _ (c .before .before .check-remove .ensures) _ (c .enum-told2 .given .1)
+
+held : (c : tie.After-wide) → let s = start (c .before .before .before .before) .args in
+    Held (s .p) (s .id) (c .wide .result) (s .levels .now) (s .others .now) (s .reads .now)
+held c =
+    let e = c .before .before .before .before in
+    let s = start e in
+    let (small, step) = passed e in
+    record {
+      legal = s .pre .0;
+      tabled = s .pre .1;
+      small = small;
+      holds = old-standing (s .args .p) (s .pre .0) (s .args .id) small _ (s .pre .2) ∙ c .before .before .s .given .1 ∙ ap Holding (sym (c .wide .ensures));
+      step = step;
+    }
+
+abbrev stay-in : tie.After-reading → tie.After-wide
+stay-in c = c .before .before .before .before
+
 check-remove-requires : tie.Need-check-remove-requires
 check-remove-requires c κs = search needs
 
--- src/lib.rt:101:29
 enum-told : tie.Need-enum-told
 enum-told c = search needs
 
--- src/lib.rt:101:9
 unchanged-requires : tie.Need-unchanged-requires
 unchanged-requires c κs = search needs
 
--- src/lib.rt:101:9
 returns : tie.Need-returns
-returns c = ?
+returns c =
+    let t = c .before .before in
+    let r = t .before .before in
+    let s = r .before .before in
+    remove-refused (s .args .p) (s .args .id) _ (s .pre .2) _ (r .check-remove .ensures) _ _ _ (t .enum-told .given .1) (c .unchanged .ensures)
 
 enum-told-2 : tie.Need-enum-told-2
 enum-told-2 c = search needs
 
--- src/lib.rt:104:27
 enum-known-s : tie.Need-enum-known-s
 enum-known-s c = search needs
 
--- src/lib.rt:105:24
 enum-told-3 : tie.Need-enum-told-3
 enum-told-3 c = search needs
 
--- src/lib.rt:105:47
 no-link-requires : tie.Need-no-link-requires
 no-link-requires c κs = search needs
 
--- src/lib.rt:105:9
 step-of-requires : tie.Need-step-of-requires
-step-of-requires c κs = ?
+step-of-requires c κs =
+    let t = c .before .before in
+    (start (t .before .before) .pre .0 .place-length, subst HeldField (sym (t .enum-told3 .given .1)) tt)
 
--- src/lib.rt:105:9
 returns-2 : tie.Need-returns-2
-returns-2 c = ?
+returns-2 c =
+    let t = c .before .before .before in
+    let e = t .before .before in
+    let s = start e in
+    remove-waiting (s .args .p) (s .pre .0) (s .args .id) (passed e .0) _ _ _ _ (s .pre .2) (c .before .no-link .ensures) (t .enum-told3 .given .1) (passed e .1) (c .step-of .ensures)
 
--- src/lib.rt:108:9
 wide-requires : tie.Need-wide-requires
 wide-requires c κs = search needs
 
--- src/lib.rt:113:5
 array-write-setter : tie.Need-array-write-setter
-array-write-setter c = ?
+array-write-setter c = held-small (held (c .before .before .before .before))
 
--- src/lib.rt:114:21
 array-read-fresh : tie.Need-array-read-fresh
-array-read-fresh c = ?
+array-read-fresh c = held-small (held (c .before .before .before .before))
 
--- src/lib.rt:114:16
 add-fresh : tie.Need-add-fresh
-add-fresh c = ?
+add-fresh c =
+    let w = c .before .before .before .before in
+    omega (arith, places _ (held w .legal) (w .wide .result) (held-small (held w)))
 
--- src/lib.rt:114:5
 array-write-fresh : tie.Need-array-write-fresh
-array-write-fresh c = ?
+array-write-fresh c = held-small (held (c .before .before .before .before))
 
--- src/lib.rt:115:5
 mul-outs : tie.Need-mul-outs
 mul-outs c = search needs
 
--- src/lib.rt:115:5
 array-write-outs : tie.Need-array-write-outs
-array-write-outs c = ?
+array-write-outs c = held-small (held (c .before .before .before .before))
 
--- src/lib.rt:116:5
 mul-reading : tie.Need-mul-reading
 mul-reading c = search needs
 
--- src/lib.rt:116:5
 array-write-reading : tie.Need-array-write-reading
-array-write-reading c = ?
+array-write-reading c = held-small (held (c .before .before .before .before))
 
--- src/lib.rt:118:5
 strengths-requires : tie.Need-strengths-requires
-strengths-requires c κs = ?
+strengths-requires c κs = (rest-acyclic (held (stay-in (c .before .before .before))), refl)
 
--- src/lib.rt:119:20
 find-blocked-requires : tie.Need-find-blocked-requires
-find-blocked-requires c κs = ?
+find-blocked-requires c κs =
+    let t = c .before .before in
+    let x = held (stay-in (t .before .before .before .before)) in
+    (x .legal, stepped-strengths x _ _ refl (t .strengths .ensures))
 
--- src/lib.rt:119:9
 choose-requires : tie.Need-choose-requires
 choose-requires c κs = ?
 
--- src/lib.rt:122:13
 top-of-requires : tie.Need-top-of-requires
 top-of-requires c κs = search needs
 
--- src/lib.rt:123:49
 below-requires : tie.Need-below-requires
 below-requires c κs = ?
 
--- src/lib.rt:123:9
 decide-requires : tie.Need-decide-requires
 decide-requires c κs = ?
 
--- src/lib.rt:126:29
 enum-told-4 : tie.Need-enum-told-4
 enum-told-4 c = search needs
 
--- src/lib.rt:126:9
 unchanged-requires-2 : tie.Need-unchanged-requires-2
 unchanged-requires-2 c κs = ?
 
--- src/lib.rt:126:9
 returns-3 : tie.Need-returns-3
 returns-3 c = ?
 
--- src/lib.rt:128:30
 no-link-requires-2 : tie.Need-no-link-requires-2
 no-link-requires-2 c κs = search needs
 
--- src/lib.rt:128:5
 step-of-requires-2 : tie.Need-step-of-requires-2
 step-of-requires-2 c κs = ?
 
--- src/lib.rt:85:1
 returns-4 : tie.Need-returns-4
 returns-4 c = ?
 
