@@ -9,7 +9,7 @@ use Rattle.panel.specs.declared.Panel.{Panel}
 use Rattle.tables.proofs.Settings.{places}
 use Rattle.reversal.specs.Reversals.{HeldField, Decided}
 use Rattle.reversal.proofs.Turns.{no-loop}
-use Rattle.removing.proofs.Dropped.{Held, held-small, of-field, choice}
+use Rattle.removing.proofs.Dropped.{Held, held-small, of-field, Choice, choice}
 use Rattle.removing.proofs.Removed.{Passed, old-standing, remove-refused, remove-passes, remove-waiting, rest-acyclic, stepped-strengths, undecided, Turned, remove-looped, remove-turned}
 use Rattle.removing.proofs.remove.Statement.{statement}
 use Rattle.removing.proofs.remove.Tie as tie
@@ -24,7 +24,10 @@ passed c =
     let s = start c in
     remove-passes (s .args .p) (s .args .id) (s .args .old) (s .pre .2) _ (c .before .before .check-remove .ensures) _ (c .enum-told2 .given .1)
 
-held : (c : tie.After-wide) → let s = start (c .before .before .before .before) .args in
+abbrev begin : tie.After-wide → tie.Start
+begin c = start (c .before .before .before .before)
+
+held : (c : tie.After-wide) → let s = begin c .args in
     Held (s .p) (s .id) (c .wide .result) (s .levels .now) (s .others .now) (s .reads .now)
 held c =
     let e = c .before .before .before .before in
@@ -38,8 +41,25 @@ held c =
       step = step;
     }
 
-abbrev stay-in : tie.After-reading → tie.After-wide
-stay-in c = c .before .before .before .before
+abbrev stay-in : tie.After-strengths → tie.After-wide
+stay-in c = c .before .before .before .before .before .before .before .before
+
+-- what is chosen, and the turn for it
+
+abbrev scan : tie.After-struct-known → tie.After-strengths
+scan c = c .before .before .before .before .before
+
+chosen : (c : tie.After-struct-known) → let b = c .before .choose .result in Choice (held (stay-in (scan c))) (b .number) (b .outputs) (b .covered)
+chosen c = choice (held (stay-in (scan c))) (c .before .choose .result) (c .before .before .find-blocked .result) (c .before .choose .ensures) (c .before .before .find-blocked .ensures)
+
+turned : (c : tie.Joined1) → let k = c .before in let b = k .before .choose .result in
+    Turned (held (stay-in (scan k))) _ _ refl (scan k .strengths .ensures) (b .number) (b .outputs) (b .covered) (chosen k) (c .if1 .path) (c .if1 .turn)
+turned c =
+    ⊎-elim (λ w. inl (w .0 .taken, w .2 .result, w .2 .ensures, rw (w .10, w .11) (w .9 .ensures)))
+    (λ w. inr (w .0 .left, w .2))
+    (c .if1 .came)
+
+-- ---- the needs
 
 check-remove-requires : tie.Need-check-remove-requires
 check-remove-requires c κs = search needs
@@ -111,43 +131,59 @@ array-write-reading : tie.Need-array-write-reading
 array-write-reading c = held-small (held (c .before .before .before .before))
 
 strengths-requires : tie.Need-strengths-requires
-strengths-requires c κs = (rest-acyclic (held (stay-in (c .before .before .before))), refl)
+strengths-requires c κs = (rest-acyclic (held (c .before .before .before .before .before .before .before)), refl)
 
 find-blocked-requires : tie.Need-find-blocked-requires
 find-blocked-requires c κs =
     let t = c .before .before in
-    let x = held (stay-in (t .before .before .before .before)) in
+    let x = held (stay-in t) in
     (x .legal, stepped-strengths x _ _ refl (t .strengths .ensures))
 
 choose-requires : tie.Need-choose-requires
-choose-requires c κs = ?
+choose-requires c κs = of-field (held (stay-in (c .before .before .before))) (c .find-blocked .result) (c .find-blocked .ensures)
 
 top-of-requires : tie.Need-top-of-requires
 top-of-requires c κs = search needs
 
 below-requires : tie.Need-below-requires
-below-requires c κs = ?
+below-requires c κs = held (stay-in (scan (c .before .before .before .before .before .before))) .legal .few
 
 decide-requires : tie.Need-decide-requires
-decide-requires c κs = ?
+decide-requires c κs =
+    let b = c .before .before in
+    let o = b .before .before .before .before in
+    let k = o .before .before .before in
+    undecided (held (stay-in (scan k))) _ _ refl (scan k .strengths .ensures) _ _ _ (chosen k) _ _ _ (b .below .ensures) (o .before .before .if1 .taken) (o .top-of .ensures) (begin (stay-in (scan k)) .pre .3)
 
 enum-told-4 : tie.Need-enum-told-4
 enum-told-4 c = search needs
 
 unchanged-requires-2 : tie.Need-unchanged-requires-2
-unchanged-requires-2 c κs = ?
+unchanged-requires-2 c κs = held (stay-in (scan (c .before .before .before .before))) .legal .place-length
 
 returns-3 : tie.Need-returns-3
-returns-3 c = ?
+returns-3 c =
+    let t = c .before .before in
+    let j = t .before .before in
+    let k = j .before in
+    remove-looped (held (stay-in (scan k))) _ _ refl (scan k .strengths .ensures) _ _ _ (chosen k) _ _ (turned j) _ _ (begin (stay-in (scan k)) .pre .2) (t .enum-told4 .given .1) (c .unchanged2 .ensures)
 
 no-link-requires-2 : tie.Need-no-link-requires-2
 no-link-requires-2 c κs = search needs
 
 step-of-requires-2 : tie.Need-step-of-requires-2
-step-of-requires-2 c κs = ?
+step-of-requires-2 c κs =
+    let w = stay-in (scan (c .before .before .before .before)) in
+    (held w .legal .place-length, omega (arith, held-small (held w), w .wide .ensures))
 
 returns-4 : tie.Need-returns-4
-returns-4 c = ?
+returns-4 c =
+    let n = c .before in
+    let t = n .before .before in
+    let j = t .before in
+    let k = j .before in
+    let w = stay-in (scan k) in
+    remove-turned (held w) _ _ refl (scan k .strengths .ensures) _ _ _ (chosen k) _ _ (turned j) _ _ _ (n .no-link2 .ensures) (w .wide .ensures) (no-loop _ (t .match3 .keys2)) (c .step-of2 .ensures)
 
 pub remove-spec : {M : Type 1} → statement M
 remove-spec =
