@@ -16,11 +16,16 @@ ghost use Prim.Native.Nat.{_+_, _*_, _^_, _≤_, _<_};
 ghost use lib.ListN.{length, drop};
 ghost use lib.Seq.{sets};
 ghost use Rattle.panel.specs.Panels.{opened};
+ghost use Rattle.panel.specs.Items.{linkAt};
+ghost use Rattle.panel.specs.Answers.{planRest};
+ghost use Rattle.panel.specs.Outcomes.{unchanged};
 ghost use Rattle.panel.specs.Legal.{Legal};
+ghost use Rattle.tables.specs.Tables.{Tabled};
 ghost use Rattle.hex.specs.Hex.{lineOf};
 ghost use Rattle.tally.specs.Tallies.{tallyBytes};
 ghost use Rattle.frames.specs.Texts.{linesOf};
-ghost use Rattle.frames.specs.Frames.{lineAnswer};
+ghost use Rattle.frames.specs.Frames.{numberOf, lineAnswer};
+ghost use Rattle.text.specs.Lines.{rowsLength, restOf, fieldsOf, Framed, Decided};
 ghost use Rattle.text.specs.Runs.{tallyLength, reached, fitting, RanFrom, Paced, Resumed, Told};
 
 // The characters of the longest reply's line: a plan of 64 fields has 2 + 3 * 64 bytes, and the line an LF.
@@ -51,7 +56,7 @@ pub enum Outcome {
 
 // The bytes of a plan's rows, by its reply.
 fn rows_of(reply: Reply) -> usize
-    ensures { λ r. ⌜ r ≡ rowsOf reply ⌝ }
+    ensures { λ r. ⌜ r ≡ planRest reply ⌝ }
 {
     match reply {
         Reply::Accepted(n) => 3 * wide(n),
@@ -88,6 +93,9 @@ fn decide_line(
     path: &mut [u8; 64],
     rows: &mut [u8; ROWS],
 ) -> Step
+    requires { ⌜ Legal p × Tabled p (now levels) (now others) (now reads) × (named ≡ linkAt (p .links) (numberOf (line .command))) ⌝ }
+    requires { ⌜ Framed line × (length (now path) ≡ 64) × (length (now rows) ≡ rowsLength) ⌝ }
+    ensures { λ r. ⌜ Decided p (numberOf (line .command)) named (fieldsOf line) (now (path .exit)) (now (rows .exit)) r (line .command) ⌝ }
 {
     let command = line.command;
     match command {
