@@ -120,7 +120,18 @@ pub fn remove(
     let mut turn = Turn::Free;
     if b.outputs != 0 {
         let top = top_of(&table, b.outputs);
-        turn = decide(&fresh, &outs, &table, n, below(n), top, b.outputs, b.covered, &reading, path);
+        turn = decide(
+            &fresh,
+            &outs,
+            &table,
+            n,
+            below(n),
+            top,
+            b.outputs,
+            b.covered,
+            &reading,
+            path,
+        );
     }
     if let Turn::Looped = turn {
         return unchanged(n, &place, old, Reply::Refused(Refusal::Loop));
