@@ -15,11 +15,10 @@ use Rattle.fieldset.specs.Numbers.{any}
 use Rattle.fieldset.specs.Tables.{at}
 use Rattle.fieldset.specs.Fields.{member, without}
 use Rattle.fieldset.proofs.Numbers.{clash, any-cong}
-use Rattle.panel.specs.declared.Standing.{Standing}
-use Rattle.panel.specs.declared.Standing.the-variants.{Waiting, Holding}
+use Rattle.panel.specs.declared.Standing.the-variants.{Holding}
 use Rattle.panel.specs.declared.Link.{Link}
 use Rattle.panel.specs.declared.Panel.{Panel}
-use Rattle.panel.specs.Items.{Item, link, stay, noLink, linkAt, itemOf, setterOf, levelOf, outputsOf, isWaiting, itemsOf}
+use Rattle.panel.specs.Items.{Item, link, stay, noLink, linkAt, itemOf, setterOf, outputsOf, isWaiting, itemsOf}
 use Rattle.panel.specs.Panels.{withLink, freed, dropped}
 use Rattle.panel.specs.Solution.{level, setterLevel, setterOthers, strengthOf, isBlocked, lesser, least, leastBlocked}
 use Rattle.panel.specs.Steps.{removeStep}
@@ -30,7 +29,7 @@ use Rattle.panel.proofs.Setters.{reads-there, waits-force}
 use Rattle.panel.proofs.Reversal.{blocking}
 use Rattle.panel.proofs.Performed.{least-passes}
 use Rattle.panel.proofs.Changes.{legal-dropped}
-use Rattle.tables.specs.Tables.{Setting, Tabled}
+use Rattle.tables.specs.Tables.{Tabled}
 use Rattle.tables.proofs.Settings.{stay-others, same-setting, tabled-set}
 use Rattle.tables.proofs.Tables.{strength-same}
 use Rattle.scanning.specs.declared.Blocked.{Blocked}

@@ -3,12 +3,12 @@ use mathlib.Core.Path.{_≡_, refl, sym, ap, _∙_, subst}
 use mathlib.Core.Logic.{_≢_, _⊎_, inl, inr}
 use mathlib.Core.Bool.{Bool, true, false, not, cond}
 use mathlib.Core.List.{List}
-use mathlib.Core.Option.{none, some}
+use mathlib.Core.Option.{some}
 use Prim.Native.Nat.{ℕ, zero, suc, _+_, _%_, _<_}
 use native.Mathlib.Nat.{mod-eq-of-lt}
 use native.Mathlib.Omega.{arith}
 use borrow.Author.Tests.{eqb-true, lt-ltb, ltb-true, ltb-false}
-use lib.Dec.{eqb, ltb}
+use lib.Dec.{ltb}
 use lib.ListN.{length, set}
 use Rattle.fieldset.specs.Tables.{at}
 use Rattle.fieldset.specs.Fields.{member, below}
@@ -26,11 +26,11 @@ use Rattle.panel.specs.declared.Reply.{Reply}
 use Rattle.panel.specs.declared.Reply.the-variants.{Accepted, Refused}
 use Rattle.panel.specs.declared.Step.{Step}
 use Rattle.panel.specs.Items.{Item, link, stay, noLink, linkAt, outputsOf, inForce}
-use Rattle.panel.specs.Answers.{Answer, refused}
+use Rattle.panel.specs.Answers.{refused}
 use Rattle.panel.specs.Panels.{withLink, freed, dropped}
-use Rattle.panel.specs.Solution.{isBlocked, leastBlocked, isLooped}
-use Rattle.panel.specs.Steps.{accepted, settled, dropStep, removeStep}
-use Rattle.panel.specs.Commands.{checked, isOpen, Command, removing, performed}
+use Rattle.panel.specs.Solution.{isBlocked, leastBlocked}
+use Rattle.panel.specs.Steps.{settled, dropStep, removeStep}
+use Rattle.panel.specs.Commands.{checked, isOpen, removing, performed}
 use Rattle.panel.specs.Legal.{Legal}
 use Rattle.panel.specs.Outcomes.{unchanged, Decides}
 use Rattle.panel.proofs.Turn.{link-here, reversed-alike}
@@ -48,7 +48,6 @@ use Rattle.reversal.specs.Reversals.{Undecided, Decided, stepOf}
 use Rattle.reversal.proofs.ReadFields.{coverOf}
 use Rattle.reversal.proofs.Decision.{found-refused}
 use Rattle.reversal.proofs.Steps.{Change, decides-free, decides-path}
-use Rattle.removing.specs.declared.Chosen.{Chosen}
 use Rattle.removing.specs.Checks.{checkRemove}
 use Rattle.removing.proofs.Dropped.{sets-holds, field-small, Held, stepped, rest, dropped-rest, legal-rest, tabled-rest, strength-kept, found-blocked, Choice}
 

@@ -45,7 +45,7 @@ fn check_remove(n: usize, id: u8, used: bool) -> Reply
     Reply::Accepted(0)
 }
 
-// The link or stay that a scan finds: its number as a setter, its outputs and covered fields. No outputs: none.
+// The link or stay that a scan finds: its number as a setter, its outputs and covered fields. Without outputs there is none.
 struct Chosen {
     number: u8,
     outputs: u64,
@@ -80,8 +80,8 @@ fn choose(b: Blocked) -> Chosen
 }
 
 // Decides on removing a link; `old` is the link that stands under its number.
-// The contract rules out, for instance, a field left without a setter, a moved count since the stay stepped in, and a refusal that leaves
-// other setters (must-fail: stay_does_not_step_in, moved_since_the_stay_stepped_in, setters_not_put_back).
+// The contract rules out, for instance, a field that its stay does not set or that the reply does not count, a stay that reads, and a blocked link
+// that does not set (must-fail: stay_does_not_step_in, freed_field_not_counted, stay_reads_a_field, blocked_link_does_not_set).
 pub fn remove(
     p: Panel,
     old: Link,
@@ -120,7 +120,18 @@ pub fn remove(
     let mut turn = Turn::Free;
     if b.outputs != 0 {
         let top = top_of(&table, b.outputs);
-        turn = decide(&fresh, &outs, &table, n, below(n), top, b.outputs, b.covered, &reading, path);
+        turn = decide(
+            &fresh,
+            &outs,
+            &table,
+            n,
+            below(n),
+            top,
+            b.outputs,
+            b.covered,
+            &reading,
+            path,
+        );
     }
     if let Turn::Looped = turn {
         return unchanged(n, &place, old, Reply::Refused(Refusal::Loop));

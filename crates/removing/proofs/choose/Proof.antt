@@ -1,7 +1,6 @@
 -- `removing::choose` meets its contract.
-use mathlib.Core.Path.{refl, sym, ap, _∙_, subst}
+use mathlib.Core.Path.{sym, ap, subst}
 use borrow.Author.Needs.{needs}
-use native.Mathlib.Omega.{arith}
 use Rattle.removing.specs.Choice.{OfField, chosenOf}
 use Rattle.removing.proofs.choose.Statement.{statement}
 use Rattle.removing.proofs.choose.Tie as tie

@@ -1,13 +1,11 @@
 -- `removing::remove` meets its contract.
-use mathlib.Core.Path.{_≡_, refl, sym, ap, _∙_, subst}
+use mathlib.Core.Path.{refl, sym, ap, _∙_, subst}
 use mathlib.Core.Logic.{⊎-elim, inl, inr}
-use native.Mathlib.Nat.{mod-eq-of-lt}
 use native.Mathlib.Omega.{arith}
 use borrow.Author.Needs.{needs}
 use Rattle.panel.specs.declared.Standing.the-variants.{Holding}
-use Rattle.panel.specs.declared.Panel.{Panel}
 use Rattle.tables.proofs.Settings.{places}
-use Rattle.reversal.specs.Reversals.{HeldField, Decided}
+use Rattle.reversal.specs.Reversals.{HeldField}
 use Rattle.reversal.proofs.Turns.{no-loop}
 use Rattle.removing.proofs.Dropped.{Held, held-small, of-field, Choice, choice}
 use Rattle.removing.proofs.Removed.{Passed, old-standing, remove-refused, remove-passes, remove-waiting, rest-acyclic, stepped-strengths, undecided, Turned, remove-looped, remove-turned}
