@@ -33,7 +33,7 @@ use Rattle.frames.specs.Frames.{frameOf, commandBytes, commandOf, answerTo, ans
 use Rattle.frames.specs.Reading.{LineRead}
 use Rattle.frames.proofs.Reading.{add-reaches}
 use Rattle.text.specs.Runs.{longest}
-use Rattle.text.specs.Lines.{rowsLength, restOf, Framed, LineStep}
+use Rattle.text.specs.Lines.{rowsLength, restOf, Framed, LineStep, Decided}
 use Rattle.text.proofs.Going.{Did}
 
 -- what its command is answered is what a line is answered
@@ -134,3 +134,15 @@ add-tail p k id level b path s d = rw (take-all (length b - 3) (drop 3 b) (omega
 
 pub framed : (s : List ℕ) (r : Line) → LineRead s r → Framed r
 framed s r h = record { short = h .short; full = h .full; reaches = λ id level e. add-reaches s r id level h e }
+
+-- the step of a line that is no removal, by its command's tag
+pub decided-step : (p : Panel) (k : ℕ) (named : Link) (fields path rows : List ℕ) (s : Step) (c : Command)
+    → (tagOf the-type c ≡ 0) ⊎ ((tagOf the-type c ≡ 1) ⊎ ((tagOf the-type c ≡ 3) ⊎ ((tagOf the-type c ≡ 4) ⊎ (tagOf the-type c ≡ 5))))
+    → Decided p k named fields path rows s c → LineStep p k c fields path rows s
+decided-step p k named fields path rows s (Open n) h d = d
+decided-step p k named fields path rows s (Add id level) h d = d
+decided-step p k named fields path rows s (Remove id) h d =
+    absurd (⊎-elim (λ e. omega arith) (⊎-elim (λ e. omega arith) (⊎-elim (λ e. omega arith) (⊎-elim (λ e. omega arith) (λ e. omega arith)))) h)
+decided-step p k named fields path rows s (Touch f) h d = d
+decided-step p k named fields path rows s Plan h d = d
+decided-step p k named fields path rows s (Refused x) h d = d
