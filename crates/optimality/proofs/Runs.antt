@@ -24,7 +24,7 @@ use Rattle.optimality.proofs.Graphs.{graphOf, settersOf, legal-whole, f
 use Rattle.optimality.proofs.Answers.{checked-answer}
 use Rattle.optimality.proofs.Optimum.{sound-optimal}
 use Rattle.optimality.proofs.Agreement.{agrees-opened, default-link}
-use Rattle.optimality.proofs.Steps.{SoundAfter, add-sound, touch-sound}
+use Rattle.optimality.proofs.Steps.{SoundAfter, add-enters, enter-sound, touch-sound}
 use Rattle.optimality.proofs.Removing.{remove-sound}
 
 -- ---- opening
@@ -51,20 +51,20 @@ no-links b p x e i = x .agrees .links i ∙ rw (unopened-links p (x .legal) e) (
 
 -- ---- the commands
 
-pub performed-sound : (b : Store) (p : Panel) (c : Command) → Sound b p → SoundAfter b c (performed p c)
+pub performed-sound : (b : Store) (p : Panel) (c : Command) → Sound b p → SoundAfter b (entered b c) (performed p c)
 unfolding planStep
 performed-sound b p (opening n) x =
-    checked-answer (SoundAfter b (opening n)) p (openChecks p n) (openStep n) (x, (x, tt))
+    checked-answer (SoundAfter b (entered b (opening n))) p (openChecks p n) (openStep n) (x, (x, tt))
     (λ k. let (e, l, few) = openable p n k in opened-sound b n few (no-links b p x e))
 performed-sound b p (adding id level bytes) x =
-    checked-answer (SoundAfter b (adding id level bytes)) p (addChecks p id level bytes) (addStep p id level (coveredIn bytes) (outputsIn bytes))
-    (x, (x, (x, (x, tt)))) (λ k. add-sound b p x id level bytes (addable p id level bytes k))
+    checked-answer (SoundAfter b (entered b (adding id level bytes))) p (addChecks p id level bytes) (addStep p id level (coveredIn bytes) (outputsIn bytes))
+    (x, (x, (x, (x, tt)))) (λ k. enter-sound x (add-enters (addable p id level bytes k)) x)
 performed-sound b p (removing id) x =
-    checked-answer (SoundAfter b (removing id)) p (removeChecks p id) (removeStep p id) (x, (x, (x, tt)))
+    checked-answer (SoundAfter b (entered b (removing id))) p (removeChecks p id) (removeStep p id) (x, (x, (x, tt)))
     (λ k. remove-sound b p x id (removable p id k .number) (removable p id k .used))
 performed-sound b p (touching f) x =
-    checked-answer (SoundAfter b (touching f)) p (touchChecks p f) (touchStep p f) (x, (x, tt)) (λ k. touch-sound b p x f (touchable p f k))
-performed-sound b p planning x = checked-answer (SoundAfter b planning) p (planChecks p) (planStep p) (x, tt) (λ k. x)
+    checked-answer (SoundAfter b (entered b (touching f))) p (touchChecks p f) (touchStep p f) (x, (x, tt)) (λ k. touch-sound b p x f (touchable p f k))
+performed-sound b p planning x = checked-answer (SoundAfter b b) p (planChecks p) (planStep p) (x, tt) (λ k. x)
 
 -- ---- lists of commands
 
