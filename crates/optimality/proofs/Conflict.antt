@@ -3,6 +3,7 @@ use Prim.Native.Nat.{ℕ}
 use mathlib.Core.Path.{_≡_, refl, ap, _∙_}
 use mathlib.Core.Bool.{Bool, true, false}
 use mathlib.Core.List.{List}
+use mathlib.Core.Option.{some}
 use mathlib.Core.Logic.{_↔_}
 use native.Mathlib.Omega.{arith}
 use borrow.Author.Tests.{eq-eqb}
@@ -12,7 +13,7 @@ use Rattle.fieldset.proofs.Lists.{Whole}
 use Rattle.panel.specs.declared.Link.{Link}
 use Rattle.panel.specs.declared.Panel.{Panel}
 use Rattle.panel.specs.declared.Refusal.the-variants.{Conflict}
-use Rattle.panel.specs.Items.{link, stay, linkAt}
+use Rattle.panel.specs.Items.{link, stay, linkAt, isInForce}
 use Rattle.panel.specs.Answers.{refused}
 use Rattle.panel.specs.Panels.{withLink}
 use Rattle.panel.specs.Solution.{strengthOf, isBlocked, pathFor, planOf}
@@ -20,9 +21,10 @@ use Rattle.panel.specs.Steps.{accepted, turned, enterStep, addStep}
 use Rattle.panel.specs.Commands.{addChecks, coveredIn, outputsIn}
 use Rattle.panel.proofs.Turn.{turn}
 use Rattle.panel.proofs.Legal.{LegalBut}
+use Rattle.panel.proofs.Changes.{Enters, add-enters}
 use Rattle.panel.proofs.Checks.{addable}
 use Rattle.optimality.specs.Condition3.{Store, entry, Pair, AfterEveryList, panels, start}
-use Rattle.optimality.specs.Agreement.{entryOf, Agrees, Sound}
+use Rattle.optimality.specs.Agreement.{entryFor, Agrees, Sound}
 use Rattle.optimality.specs.States.{HoldsRequired}
 use Rattle.optimality.specs.Refusals.{Possible, ConflictExactly}
 use Rattle.optimality.proofs.Matchings.{pairs}
@@ -33,21 +35,19 @@ use Rattle.optimality.proofs.Held.{plan-whole}
 use Rattle.optimality.proofs.Optimum.{matching-matches, matches-matching}
 use Rattle.optimality.proofs.Paths.{path-reversible, after-assigned}
 use Rattle.optimality.proofs.Answers.{pick, checked-step, turned-no-conflict}
-use Rattle.optimality.proofs.Steps.{Enters, add-enters, enter-here, enter-idle, enter-legal, enter-agrees, enter-none}
+use Rattle.optimality.proofs.Steps.{enter-here, enter-idle, enter-legal, enter-force, enter-agrees, enter-none}
 use Rattle.optimality.proofs.Runs.{after-sound}
-use Rattle.optimality.proofs.States.{required-used}
+use Rattle.optimality.proofs.States.{required-force}
 
 -- ---- required links of the store and of the panel
 
 module _ {b : Store} {p : Panel} (a : Agrees b p) (xs : List Pair) where
   required-all : HoldsRequired b xs → HoldsAll (graphOf p) xs
-  required-all h (link i) u z =
-      let l = linkAt (p .links) i in
-      h i (record { level = l .level; covered = l .covered; outputs = l .outputs }) (a .links i ∙ rw u) z
+  required-all h (link i) u z = h i (entryFor (linkAt (p .links) i)) (a .links i ∙ rw u) z
   required-all h (stay f) u z = absurd (omega arith)
 
   all-required : HoldsAll (graphOf p) xs → HoldsRequired b xs
-  all-required h i e q z = let (u, l) = required-used a i e q z in h (link i) u l
+  all-required h i e q z = let (u, l) = required-force a i e q z in h (link i) u l
 
 -- ---- a link of level 0 is entered
 
@@ -56,7 +56,7 @@ module _ {b : Store} {q : Panel} (x : Sound b q) {id : ℕ} {l : Link} (a : Ente
   r = withLink q id l
 
   abbrev b′ : Store
-  b′ = entry b id (entryOf l)
+  b′ = entry b id (some (entryFor l))
 
   k : LegalBut (link id) r
   k = enter-legal x a
@@ -65,7 +65,7 @@ module _ {b : Store} {q : Panel} (x : Sound b q) {id : ℕ} {l : Link} (a : Ente
   agrees = enter-agrees x a
 
   new-waits : Waits (graphOf r) (settersOf r) (link id)
-  new-waits = record { force = ap (λ (l : Link). l .used) (enter-here x a) ∙ a .used; idle = enter-idle x a }
+  new-waits = record { force = ap isInForce (enter-here x a) ∙ enter-force x a; idle = enter-idle x a }
 
   whole : Whole (r .size) (planOf r)
   whole = plan-whole r (k .carrying .few) (k .loopless)

@@ -25,7 +25,7 @@ use Rattle.panel.proofs.Turn.{left}
 use Rattle.panel.proofs.Legal.{Carrying, LegalBut}
 use Rattle.panel.proofs.Setters.{setter-reads-inside}
 use Rattle.panel.proofs.Reversal.{blocking, route-for, turned-carrying, legal-waits}
-use Rattle.panel.proofs.Changes.{legal-add, legal-dropped, legal-front}
+use Rattle.panel.proofs.Changes.{add-enters, legal-add, legal-dropped, legal-front}
 use Rattle.panel.proofs.Checks.{NoneApply, newLink, addable, removable, touchable}
 use Rattle.optimality.specs.Condition3.{AfterEveryList, panels, start}
 use Rattle.optimality.specs.Refusals.{checksOf, Reversal, reversing, entering, settling, dropping, reversal, reversedPanel, Loops, LoopExactly}
@@ -114,9 +114,8 @@ module _ (p : Panel) (h : Legal p) where
   unfolding removeStep planStep reversal
   command-exactly (opening m) n = rw (checked-step p (checksOf p (opening m)) (openStep m) n) (still p (openStep m) (yes _ _))
   command-exactly (adding id level bytes) n =
-      let a = addable p id level bytes n in
       rw (checked-step p (checksOf p (adding id level bytes)) (addStep p id level (coveredIn bytes) (outputsIn bytes)) n)
-      (enter-exactly p id (newLink level bytes) (legal-add p id (newLink level bytes) h (a .number) (a .free) (a .formed) refl refl))
+      (enter-exactly p id (newLink level bytes) (legal-add p id (newLink level bytes) h (add-enters (addable p id level bytes n))))
   command-exactly (removing id) n =
       rw (checked-step p (checksOf p (removing id)) (removeStep p id) n)
       (drop-exactly (dropped p id) (legal-dropped p id h (removable p id n .number)) (linkAt (p .links) id .standing))

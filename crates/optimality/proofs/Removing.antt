@@ -1,6 +1,6 @@
 -- A sound state stays sound where a link goes out of force, as through Remove.
 use Prim.Native.Nat.{ℕ, _≤_, _<_, min, max}
-use mathlib.Core.Path.{_≡_, refl, sym, ap, _∙_, subst}
+use mathlib.Core.Path.{_≡_, refl, sym, ap, _∙_}
 use mathlib.Core.Bool.{Bool, true, false}
 use mathlib.Core.Option.{Option, none, some}
 use mathlib.Core.Logic.{_≢_, _⊎_, inl, inr}
@@ -17,17 +17,18 @@ use Rattle.panel.specs.declared.Standing.{Standing}
 use Rattle.panel.specs.declared.Standing.the-variants.{Waiting, Holding}
 use Rattle.panel.specs.declared.Link.{Link}
 use Rattle.panel.specs.declared.Panel.{Panel}
-use Rattle.panel.specs.Items.{Item, link, stay, noLink, linkAt, outputsOf, inForce, itemsOf}
+use Rattle.panel.specs.Items.{Item, link, stay, noLink, linkAt, outputsOf, isInForce, inForce, itemsOf}
 use Rattle.panel.specs.Panels.{withLink, withSetter, freed, dropped}
 use Rattle.panel.specs.Solution.{level, strengthOf, isBlocked, pathFor, leastBlocked}
 use Rattle.panel.specs.Steps.{settled, dropStep, removeStep}
 use Rattle.panel.specs.Legal.{Legal}
+use Rattle.panel.proofs.InForce.{unused-off, waiting-force}
 use Rattle.panel.proofs.Turn.{put, same-item, link-here, set-setter, number-setter}
 use Rattle.panel.proofs.Legal.{LegalBut}
 use Rattle.panel.proofs.Setters.{waits-idle}
 use Rattle.panel.proofs.Reversal.{blocking, startOf, legal-waits}
 use Rattle.panel.proofs.Changes.{legal-dropped}
-use Rattle.optimality.specs.Condition3.{Entry, Store, entry}
+use Rattle.optimality.specs.Condition3.{Store, entry}
 use Rattle.optimality.specs.Agreement.{Agrees, Sound}
 use Rattle.optimality.proofs.Setters.{Graph, Waits, Free, Unblocked}
 use Rattle.optimality.proofs.Changes.{Change, changed-potential, changed-free}
@@ -38,9 +39,9 @@ use Rattle.optimality.proofs.Agreement.{agrees-link}
 use Rattle.optimality.proofs.Least.{Least, least-blocked, item-listed}
 use Rattle.optimality.proofs.Steps.{SoundAfter, turned-sound, there, link-none}
 
--- a link in force is replaced by one that is not, of no higher level and no other outputs
+-- a link is replaced by one that is not in force, of no higher level and no other outputs
 module _ (b : Store) (p : Panel) (x : Sound b p) (id : ℕ) (lt : id < 128) (used : linkAt (p .links) id .used ≡ true)
-    (l : Link) (off : l .used ≡ false) (low : l .level ≤ linkAt (p .links) id .level)
+    (l : Link) (off : isInForce l ≡ false) (low : l .level ≤ linkAt (p .links) id .level)
     (fewer : (u : ℕ) → member (l .outputs) u ≡ true → member (linkAt (p .links) id .outputs) u ≡ true) where
   abbrev b′ : Store
   b′ = entry b id none
@@ -49,10 +50,10 @@ module _ (b : Store) (p : Panel) (x : Sound b p) (id : ℕ) (lt : id < 128) (use
   gone = link-here (p .links) id l (omega (arith, x .legal .links-length))
 
   never : inForce (p .size) (set (p .links) id l) (link id) ≡ true → ⊥
-  never u = clash u (ap (λ (l : Link). l .used) gone ∙ off)
+  never u = clash u (ap isInForce gone ∙ off)
 
   left-agrees : Agrees b′ (withLink p id l)
-  left-agrees = subst (λ (e : Option Entry). Agrees (entry b id e) (withLink p id l)) (rw off refl) (agrees-link b p id l (omega (arith, x .legal .links-length)) (x .agrees))
+  left-agrees = agrees-link b p id l none (rw off) (omega (arith, x .legal .links-length)) (x .agrees)
 
   -- the link waits
   drop-waiting : linkAt (p .links) id .standing ≡ Waiting → Legal (withLink p id l) → Sound b′ (withLink p id l)
@@ -62,7 +63,7 @@ module _ (b : Store) (p : Panel) (x : Sound b p) (id : ℕ) (lt : id < 128) (use
         agrees = left-agrees;
         unblocked =
             link-none p (x .legal) (x .unblocked) id l
-            (waits-idle (stay (p .size)) (p .size) (p .links) (p .setter) (legal-whole p (x .legal) .carrying .held) (link id) (rw (used, e)))
+            (waits-idle (stay (p .size)) (p .size) (p .links) (p .setter) (legal-whole p (x .legal) .carrying .held) (link id) (rw (waiting-force (linkAt (p .links) id) used e, e)))
             (legal-whole (withLink p id l) k)
             (free-unblocked (legal-whole (withLink p id l) k) (link id) (λ w. absurd (never (w .force))));
       }
@@ -178,5 +179,5 @@ pub remove-sound : (b : Store) (p : Panel) → Sound b p → (id : ℕ) → id <
     → SoundAfter b (entry b id none) (removeStep p id)
 unfolding removeStep dropped
 remove-sound b p x id lt used =
-    drop-sound b p x id lt used noLink refl (omega arith) (λ u o. absurd (clash o (member-empty u))) (linkAt (p .links) id .standing) refl
+    drop-sound b p x id lt used noLink (unused-off noLink refl) (omega arith) (λ u o. absurd (clash o (member-empty u))) (linkAt (p .links) id .standing) refl
     (legal-dropped p id (x .legal) lt)

@@ -8,23 +8,23 @@ use borrow.Author.Tests.{ltb-true}
 use lib.ListN.{replicate, getD-replicate}
 use Rattle.fieldset.specs.Tables.{tabulate}
 use Rattle.fieldset.proofs.Numbers.{clash}
-use Rattle.panel.specs.declared.Link.{Link}
 use Rattle.panel.specs.declared.Panel.{Panel}
-use Rattle.panel.specs.Items.{Item, link, stay}
+use Rattle.panel.specs.Items.{Item, link, stay, noLink, isInForce}
 use Rattle.panel.specs.Panels.{opened}
 use Rattle.panel.specs.Steps.{openStep, addStep, removeStep, touchStep, planStep}
 use Rattle.panel.specs.Commands.{Command, opening, adding, removing, touching, planning, performed, openChecks, addChecks, removeChecks, touchChecks, planChecks, coveredIn, outputsIn}
+use Rattle.panel.proofs.InForce.{unused-off}
 use Rattle.panel.proofs.Turn.{setter-stay}
-use Rattle.panel.proofs.Changes.{legal-opened, unopened-links}
+use Rattle.panel.proofs.Changes.{legal-opened, unopened-links, add-enters}
 use Rattle.panel.proofs.Checks.{openable, addable, removable, touchable}
 use Rattle.optimality.specs.Condition3.{Store, empty, entered, System, Run, stepped, after, AfterEveryList, panels, start, Condition3}
-use Rattle.optimality.specs.Agreement.{entryOf, EverySystem, Sound, EveryStart}
+use Rattle.optimality.specs.Agreement.{EverySystem, Sound, EveryStart}
 use Rattle.optimality.proofs.Setters.{Waits}
 use Rattle.optimality.proofs.Graphs.{graphOf, settersOf, legal-whole, free-unblocked}
 use Rattle.optimality.proofs.Answers.{checked-answer}
 use Rattle.optimality.proofs.Optimum.{sound-optimal}
-use Rattle.optimality.proofs.Agreement.{agrees-opened, default-link}
-use Rattle.optimality.proofs.Steps.{SoundAfter, add-enters, enter-sound, touch-sound}
+use Rattle.optimality.proofs.Agreement.{agrees-opened, default-link, default-entry}
+use Rattle.optimality.proofs.Steps.{SoundAfter, enter-sound, touch-sound}
 use Rattle.optimality.proofs.Removing.{remove-sound}
 
 -- ---- opening
@@ -32,7 +32,7 @@ use Rattle.optimality.proofs.Removing.{remove-sound}
 -- nothing waits in a panel at opening
 opened-idle : (n : ℕ) → n ≤ 64 → (d : Item) → Waits (graphOf (opened n)) (settersOf (opened n)) d → ⊥
 unfolding opened
-opened-idle n few (link i) w = clash (w .force) (ap (λ (l : Link). l .used) (default-link i))
+opened-idle n few (link i) w = clash (w .force) (ap isInForce (default-link i) ∙ unused-off noLink refl)
 opened-idle n few (stay f) w =
     let l : f < n = ltb-true f n (w .force) in
     w .idle f l (setter-stay (replicate 64 128) f (omega (arith, getD-replicate {A = ℕ} 64 f 128 0 (omega arith))))
@@ -47,7 +47,7 @@ opened-sound b n few no-links =
 
 -- an unopened panel has no links
 no-links : (b : Store) (p : Panel) → Sound b p → p .size ≡ 0 → (i : ℕ) → b .links i ≡ none
-no-links b p x e i = x .agrees .links i ∙ rw (unopened-links p (x .legal) e) (ap entryOf (default-link i))
+no-links b p x e i = x .agrees .links i ∙ rw (unopened-links p (x .legal) e) (default-entry i)
 
 -- ---- the commands
 

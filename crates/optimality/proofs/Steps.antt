@@ -2,7 +2,7 @@
 use Prim.Native.Nat.{ℕ, _+_, _≤_, _<_}
 use mathlib.Core.Path.{_≡_, refl, sym, ap, _∙_}
 use mathlib.Core.Bool.{Bool, true, false, cond}
-use mathlib.Core.List.{List}
+use mathlib.Core.Option.{some}
 use mathlib.Core.Logic.{_≢_}
 use native.Mathlib.Nat.{le-of-eq}
 use native.Mathlib.Omega.{arith}
@@ -12,31 +12,30 @@ use lib.ListN.{length, set}
 use Rattle.fieldset.specs.Tables.{at, tabulate}
 use Rattle.fieldset.proofs.Numbers.{clash}
 use Rattle.fieldset.proofs.Tables.{getD-tabulate}
-use Rattle.panel.specs.declared.Standing.the-variants.{Waiting}
 use Rattle.panel.specs.declared.Link.{Link}
 use Rattle.panel.specs.declared.Panel.{Panel}
 use Rattle.panel.specs.declared.Refusal.the-variants.{Conflict, Loop}
-use Rattle.panel.specs.Items.{Item, link, stay, linkAt, levelOf, outputsOf, inForce}
+use Rattle.panel.specs.Items.{Item, link, stay, linkAt, levelOf, outputsOf, isInForce, inForce}
 use Rattle.panel.specs.Answers.{Answer, isRefusal, refused}
 use Rattle.panel.specs.Panels.{withLink, toFront, placeAfter}
 use Rattle.panel.specs.Solution.{level, strengthOf, isBlocked, isLooped, pathFor, reversed}
 use Rattle.panel.specs.Steps.{accepted, turned, enterStep, touchStep}
 use Rattle.panel.specs.Commands.{touching}
-use Rattle.panel.specs.Legal.{Formed, Legal}
+use Rattle.panel.specs.Legal.{Legal}
+use Rattle.panel.proofs.InForce.{waiting-force}
 use Rattle.panel.proofs.Turn.{turn, same-item, link-here, link-there, reversed-size, reversed-place, reversed-alike}
-use Rattle.panel.proofs.Legal.{LegalBut, used-small}
+use Rattle.panel.proofs.Legal.{LegalBut, filled, force-formed}
 use Rattle.panel.proofs.Setters.{setter-force}
 use Rattle.panel.proofs.Reversal.{blocking, legal-waits, legal-reversed}
-use Rattle.panel.proofs.Changes.{legal-add, legal-but, legal-front}
-use Rattle.panel.proofs.Checks.{newLink, Addable}
+use Rattle.panel.proofs.Changes.{Enters, legal-add, legal-but, legal-front}
 use Rattle.optimality.specs.Condition3.{Store, entry, entered}
-use Rattle.optimality.specs.Agreement.{entryOf, Agrees, Sound}
+use Rattle.optimality.specs.Agreement.{entryFor, Agrees, Sound}
 use Rattle.optimality.proofs.Setters.{Waits, Free, Unblocked}
 use Rattle.optimality.proofs.Answers.{pick}
 use Rattle.optimality.proofs.Changes.{free-le, Change, changed-potential, changed-free, pushed, pushed-mono, pushed-ge, pushed-link, pushed-stay}
 use Rattle.optimality.proofs.Reversal.{reversal-unblocked}
 use Rattle.optimality.proofs.Graphs.{graphOf, settersOf, legal-whole, strength-least, none-unblocked, free-unblocked}
-use Rattle.optimality.proofs.Paths.{path-reversible, after-none}
+use Rattle.optimality.proofs.Paths.{path-reversible, after-force, after-none}
 use Rattle.optimality.proofs.Agreement.{agrees-alike, agrees-link, agrees-front}
 
 -- the panel of an answer is sound, with the store b′ or, where the answer is a refusal, with b
@@ -60,7 +59,8 @@ turned-sound b b′ p q c x k bl a s un = go (isLooped r) refl
         let l : Legal r = legal-reversed q c k bl e in
         record {
           legal = l;
-          agrees = agrees-alike b′ q r (reversed-size q c (pathFor q c)) (reversed-place q c (pathFor q c)) (reversed-alike q c (pathFor q c)) a;
+          agrees =
+              agrees-alike b′ q r (reversed-size q c (pathFor q c)) (reversed-place q c (pathFor q c)) (reversed-alike q c (pathFor q c)) (after-force k bl) a;
           unblocked = after-none k bl s un l;
         }
 
@@ -86,7 +86,7 @@ module _ (p : Panel) (id : ℕ) (l : Link) where
       × (outputsOf (set (p .links) id l) w ≡ outputsOf (p .links) w)
   there (link i) ne =
       let e = link-there (p .links) id i l (λ d. ne (ap link d)) in
-      (ap (λ (x : Link). x .used) e, ap (λ (x : Link). x .level) e, ap (λ (x : Link). x .outputs) e)
+      (ap isInForce e, ap (λ (x : Link). x .level) e, ap (λ (x : Link). x .outputs) e)
   there (stay f) ne = (refl, refl, refl)
 
 -- a link that sets nothing
@@ -117,17 +117,6 @@ module _ (p : Panel) (h : Legal p) (none : (d : Item) → isBlocked p d ≡ fals
 
 -- ---- a link is entered
 
--- a well-formed link that waits may be entered under the number
-pub record Enters (q : Panel) (id : ℕ) (l : Link) : Type 0 where
-  pub number : id < 128
-  pub free : linkAt (q .links) id .used ≡ false
-  pub formed : Formed (q .size) l
-  pub used : l .used ≡ true
-  pub rests : l .standing ≡ Waiting
-
-pub add-enters : {p : Panel} {id level : ℕ} {bytes : List ℕ} → Addable p id level bytes → Enters p id (newLink level bytes)
-add-enters a = record { number = a .number; free = a .free; formed = a .formed; used = refl; rests = refl }
-
 module _ {b : Store} {q : Panel} (x : Sound b q) {id : ℕ} {l : Link} (a : Enters q id l) where
   abbrev r : Panel
   r = withLink q id l
@@ -143,21 +132,24 @@ module _ {b : Store} {q : Panel} (x : Sound b q) {id : ℕ} {l : Link} (a : Ente
   enter-idle f k e = clash (rw e at (setter-force q (stay (q .size)) (legal-whole q (x .legal) .carrying) f k)) (a .free)
 
   pub enter-legal : LegalBut (link id) r
-  enter-legal = legal-add q id l (x .legal) (a .number) (a .free) (a .formed) (a .used) (a .rests)
+  enter-legal = legal-add q id l (x .legal) a
 
-  pub enter-agrees : Agrees (entry b id (entryOf l)) r
-  enter-agrees = agrees-link b q id l inside (x .agrees)
+  pub enter-force : isInForce l ≡ true
+  enter-force = waiting-force l (a .used) (a .rests)
+
+  pub enter-agrees : Agrees (entry b id (some (entryFor l))) r
+  enter-agrees = agrees-link b q id l (some (entryFor l)) (rw enter-force) inside (x .agrees)
 
   -- nothing is blocked where the new link is not
   pub enter-none : isBlocked r (link id) ≡ false → (w : Item) → isBlocked r w ≡ false
   enter-none = link-none q (x .legal) (x .unblocked) id l enter-idle enter-legal
 
-  pub enter-sound : {b₀ : Store} {p : Panel} → Sound b₀ p → SoundAfter b₀ (entry b id (entryOf l)) (enterStep p q id l)
+  pub enter-sound : {b₀ : Store} {p : Panel} → Sound b₀ p → SoundAfter b₀ (entry b id (some (entryFor l))) (enterStep p q id l)
   unfolding enterStep
   enter-sound {b₀} {p} y = go (isBlocked r (link id)) refl (eqb (l .level) 0) refl
     where
       go : (t : Bool) → isBlocked r (link id) ≡ t → (z : Bool) → eqb (l .level) 0 ≡ z
-          → SoundAfter b₀ (entry b id (entryOf l)) (pick t (turned p r (link id)) (pick z (refused p Conflict) (accepted p r)))
+          → SoundAfter b₀ (entry b id (some (entryFor l))) (pick t (turned p r (link id)) (pick z (refused p Conflict) (accepted p r)))
       go true e z d =
           turned-sound b₀ _ p r (link id) y enter-legal e enter-agrees (strengthOf r)
           (reversal-unblocked (path-reversible enter-legal e) (link-free q (x .legal) (x .unblocked) id l enter-idle enter-legal))
@@ -184,8 +176,8 @@ module _ (b : Store) (p : Panel) (x : Sound b p) (f : ℕ) (lf : f < p .size) wh
   abbrev q₀ : ℕ
   q₀ = at (p .place) f
 
-  level-small : (i : ℕ) → linkAt (p .links) i .used ≡ true → linkAt (p .links) i .level < 16
-  level-small i u = omega (arith, x .legal .formed i (used-small (p .links) i (x .legal .links-length) u) u .level)
+  level-small : (i : ℕ) → isInForce (linkAt (p .links) i) ≡ true → linkAt (p .links) i .level < 16
+  level-small i u = omega (arith, force-formed (p .size) (p .links) (filled p (x .legal)) i u .level)
 
   place-of : (g : ℕ) → g < p .size → at (tabulate (placeAfter (p .place) f) 64) g ≡ placeAfter (p .place) f g
   place-of g l = getD-tabulate (placeAfter (p .place) f) 64 g 0 (omega (arith, few))
