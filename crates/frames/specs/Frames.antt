@@ -1,5 +1,5 @@
 -- A line's frame, its command, and what document 01's panel answers it.
-use Prim.Native.Nat.{ℕ, _+_}
+use Prim.Native.Nat.{ℕ, _+_, _%_}
 use mathlib.Core.Bool.{Bool, true, false, not, _&&_, cond}
 use mathlib.Core.List.{List, [], _∷_}
 use mathlib.Core.Option.{Option, none, some}
@@ -62,11 +62,29 @@ commandBytes (Touch f) fields = 0x04 ∷ f ∷ []
 commandBytes Plan fields = 0x05 ∷ []
 commandBytes (Refused r) fields = 0xFF ∷ refusalBytes r
 
+-- the number of the link that a command names; 0 where it names none
+abbrev pub numberOf : Command → ℕ
+numberOf (Open n) = 0
+numberOf (Add id level) = id % 128
+numberOf (Remove id) = id % 128
+numberOf (Touch f) = 0
+numberOf Plan = 0
+numberOf (Refused r) = 0
+
 -- ---- document 01's panel
 
 -- the answer to a command as one to a line
 abbrev pub answerTo : Answer → Answered Panel
 answerTo a = record { state = a .panel; reply = a .reply }
+
+-- what a command is answered, with the field bytes beside it
+abbrev pub commandAnswer : Panel → Command → List ℕ → Answered Panel
+commandAnswer q (Open n) fields = answerTo (performed q (opening n))
+commandAnswer q (Add id level) fields = answerTo (performed q (adding id level fields))
+commandAnswer q (Remove id) fields = answerTo (performed q (removing id))
+commandAnswer q (Touch f) fields = answerTo (performed q (touching f))
+commandAnswer q Plan fields = answerTo (performed q planning)
+commandAnswer q (Refused r) fields = record { state = q; reply = 0xFF ∷ refusalBytes r }
 
 -- what a command is answered; no command "leaves the panel as it stood", and its reply is the refusal
 abbrev pub answered : Panel → List ℕ → Option panel.Command → Answered Panel

@@ -3,12 +3,12 @@ use panel::Refusal;
 use panel::Reply;
 ghost use mathlib.Core.Path.{_≡_};
 ghost use mathlib.Core.List.{[], _∷_};
-ghost use Prim.Native.Nat.{_+_, _≤_, min};
+ghost use Prim.Native.Nat.{_+_, _≤_, _<_, min};
 ghost use lib.ListN.{length, take, drop};
 ghost use Rattle.panel.specs.Answers.{refusalBytes, replyBytes};
 ghost use Rattle.panel.specs.Commands.{hasBit6, anyOf};
 ghost use Rattle.hex.specs.Hex.{frameRoom};
-ghost use Rattle.frames.specs.Frames.{fitsKind, checkedFrame, commandBytes};
+ghost use Rattle.frames.specs.Frames.{fitsKind, checkedFrame, commandBytes, numberOf};
 ghost use Rattle.frames.specs.Texts.{refusalOf};
 ghost use Rattle.frames.specs.Reading.{LineRead, lineLength, behindOf};
 
@@ -179,7 +179,9 @@ pub fn refusal_of(first: u8, second: u8) -> u8
 }
 
 // The number of the link that a command names; 0 where it names none.
-pub fn number_of(command: Command) -> u8 {
+pub fn number_of(command: Command) -> u8
+    ensures { λ r. ⌜ (r ≡ numberOf command) × (r < 128) ⌝ }
+{
     match command {
         Command::Open(_) => 0,
         Command::Add(id, _) => id % 128,

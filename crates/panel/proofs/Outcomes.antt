@@ -22,7 +22,7 @@ use Rattle.panel.specs.Answers.{Answer, refused, replyBytes}
 use Rattle.panel.specs.Panels.{freed}
 use Rattle.panel.specs.Solution.{reversed}
 use Rattle.panel.specs.Commands.{Command, performed}
-use Rattle.panel.specs.Outcomes.{unchanged, altered, taken, Decides}
+use Rattle.panel.specs.Outcomes.{unchanged, altered, taken, Takes, Decides}
 use Rattle.panel.proofs.Turn.{reversed-place}
 use Rattle.panel.proofs.Legal.{holding-not-waiting}
 
@@ -46,22 +46,26 @@ module _ (p : Panel) (k : ℕ) (named : Link) (reply : Reply) (same : named ≡ 
   altered-size n = ap (λ (l : List Link). record { size = n; links = l; place = p .place; setter = p .setter }) (rw same (set-getD (p .links) k noLink))
 
   -- the panel with so many fields, and no other setter
-  pub decides-size : (c : Command) (path : List ℕ) (n : ℕ) (a : Answer) → performed p c ≡ a
-      → record { size = n; links = p .links; place = p .place; setter = p .setter } ≡ a .panel → replyBytes reply ≡ a .reply
-      → Decides p k c path (unchanged n (p .place) named reply)
-  decides-size c path n a e panel answer =
+  pub takes-size : (path : List ℕ) (n : ℕ) (after : Panel) → record { size = n; links = p .links; place = p .place; setter = p .setter } ≡ after
+      → Takes p k path (unchanged n (p .place) named reply) after
+  takes-size path n after e =
       let s = unchanged n (p .place) named reply in
-      let now : taken p k s path ≡ record { size = n; links = p .links; place = p .place; setter = p .setter } =
-      taken-still p k s path refl refl refl ∙ altered-size n in
       record {
-        panel = now ∙ panel ∙ ap (λ (x : Answer). x .panel) (sym e);
-        reply = answer ∙ ap (λ (x : Answer). x .reply) (sym e);
-        changed = λ f l. member-empty f ∙ sym (rw now (ap not (eq-eqb (at (p .setter) f) (at (p .setter) f) refl)));
+        panel = taken-still p k s path refl refl refl ∙ altered-size n ∙ e;
+        changed = λ f l. member-empty f ∙ sym (rw (← e) (ap not (eq-eqb (at (p .setter) f) (at (p .setter) f) refl)));
         still = λ z. (refl, refl, refl);
         path-of = record { few = omega arith; fields = λ i l. absurd (omega arith) };
         freed-field = λ v e. absurd (holding-not-waiting e refl);
         keeps = λ f l e. inl same;
       }
+
+  pub decides-size : (c : Command) (path : List ℕ) (n : ℕ) (a : Answer) → performed p c ≡ a
+      → record { size = n; links = p .links; place = p .place; setter = p .setter } ≡ a .panel → replyBytes reply ≡ a .reply
+      → Decides p k c path (unchanged n (p .place) named reply)
+  decides-size c path n a e panel answer = record {
+    takes = takes-size path n (performed p c .panel) (panel ∙ ap (λ (x : Answer). x .panel) (sym e));
+    reply = answer ∙ ap (λ (x : Answer). x .reply) (sym e);
+  }
 
   -- the panel as it is
   pub decides-unchanged : (c : Command) (path : List ℕ) (a : Answer) → performed p c ≡ a → p ≡ a .panel → replyBytes reply ≡ a .reply

@@ -1,5 +1,5 @@
 -- Refusals and replies, by document 01's numbers.
-use Prim.Native.Nat.{ℕ}
+use Prim.Native.Nat.{ℕ, _*_}
 use mathlib.Core.Bool.{Bool}
 use mathlib.Core.List.{List, [], _∷_}
 use lib.Dec.{eqb}
@@ -29,6 +29,11 @@ refusalBytes TextTooLong = 12 ∷ []
 abbrev pub replyBytes : Reply → List ℕ
 replyBytes (Accepted m) = 0x00 ∷ m ∷ []
 replyBytes (Refused r) = 0xFF ∷ refusalBytes r
+
+-- how many bytes a plan's reply has behind these: "n times field, setter .., strength"
+abbrev pub planRest : Reply → ℕ
+planRest (Accepted n) = 3 * n
+planRest (Refused r) = 0
 
 -- a reply that is a refusal
 abbrev pub isRefusal : List ℕ → Bool

@@ -38,19 +38,22 @@ pub record PathOf (path : List ℕ) (count : ℕ) : Type 0 where
   pub few : count ≤ 64
   pub fields : (i : ℕ) → i < count → at path i < 64
 
--- the step of a command, which names the link of number k
-pub record Decides (p : Panel) (k : ℕ) (c : Command) (path : List ℕ) (s : Step) : Type 0 where
-  -- the panel after it and its reply are the command's
-  pub panel : taken p k s path ≡ performed p c .panel
-  pub reply : replyBytes (s .reply) ≡ performed p c .reply
-  -- the fields that get another setter
-  pub changed : (f : ℕ) → f < 64 → member (s .changed) f ≡ not (eqb (at (p .setter) f) (at (taken p k s path .setter) f))
+-- a step that the panel can take, and the panel after it
+pub record Takes (p : Panel) (k : ℕ) (path : List ℕ) (s : Step) (after : Panel) : Type 0 where
+  pub panel : taken p k s path ≡ after
+  -- the fields that get another setter; where there are none, no path is reversed
+  pub changed : (f : ℕ) → f < 64 → member (s .changed) f ≡ not (eqb (at (p .setter) f) (at (after .setter) f))
   pub still : s .changed ≡ 0 → (s .freed ≡ Waiting) × (s .setter ≡ 128) × (s .count ≡ 0)
   pub path-of : PathOf path (s .count)
   -- what a dropped link held is a field
   pub freed-field : (v : ℕ) → s .freed ≡ Holding v → v < 64
   -- a link that sets a field stays, or gives that field free
   pub keeps : (f : ℕ) → f < 64 → at (p .setter) f ≡ k → (s .link ≡ linkAt (p .links) k) ⊎ (s .freed ≡ Holding f)
+
+-- the step of a command, which names the link of number k: the panel after it and its reply are the command's
+pub record Decides (p : Panel) (k : ℕ) (c : Command) (path : List ℕ) (s : Step) : Type 0 where
+  pub takes : Takes p k path s (performed p c .panel)
+  pub reply : replyBytes (s .reply) ≡ performed p c .reply
 
 -- a plan: the first two bytes of the answer's reply are the reply's, and the rest of it, the rows, stands at the start of the buffer, whose
 -- bytes behind are as they were

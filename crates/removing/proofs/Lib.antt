@@ -1,2 +1,2 @@
-pub mod Settling
-pub mod Dropping
+pub mod Dropped
+pub mod Removed

@@ -27,6 +27,7 @@ ghost use Rattle.panel.specs.Legal.{Legal};
 ghost use Rattle.panel.specs.Outcomes.{Decides};
 ghost use Rattle.tables.specs.Tables.{Tabled};
 ghost use Rattle.removing.specs.Checks.{checkRemove};
+ghost use Rattle.removing.specs.Choice.{OfField, chosenOf};
 
 // The reply of the checks of a removal, on a panel of n fields; `used` where the number is in use.
 fn check_remove(n: usize, id: u8, used: bool) -> Reply
@@ -44,9 +45,43 @@ fn check_remove(n: usize, id: u8, used: bool) -> Reply
     Reply::Accepted(0)
 }
 
+// The link or stay that a scan finds: its number as a setter, its outputs and covered fields. Without outputs there is none.
+struct Chosen {
+    number: u8,
+    outputs: u64,
+    covered: u64,
+}
+
+// What a scan finds.
+fn choose(b: Blocked) -> Chosen
+    requires { ⌜ OfField b ⌝ }
+    ensures { λ r. ⌜ r ≡ chosenOf b ⌝ }
+{
+    let mut number = STAY;
+    let mut outputs = 0u64;
+    let mut covered = 0u64;
+    match b {
+        Blocked::Nothing => {}
+        Blocked::Link(i, l) => {
+            number = i;
+            outputs = l.outputs;
+            covered = l.covered;
+        }
+        Blocked::Stay(f) => {
+            outputs = only(wide(f));
+            covered = outputs;
+        }
+    }
+    Chosen {
+        number: number,
+        outputs: outputs,
+        covered: covered,
+    }
+}
+
 // Decides on removing a link; `old` is the link that stands under its number.
-// The contract rules out, for instance, a field left without a setter, a moved count since the stay stepped in, and a refusal that leaves
-// other setters (must-fail: stay_does_not_step_in, moved_since_the_stay_stepped_in, setters_not_put_back).
+// The contract rules out, for instance, a field that its stay does not set or that the reply does not count, a stay that reads, and a blocked link
+// that does not set (must-fail: stay_does_not_step_in, freed_field_not_counted, stay_reads_a_field, blocked_link_does_not_set).
 pub fn remove(
     p: Panel,
     old: Link,
@@ -81,30 +116,25 @@ pub fn remove(
     reading[v] = 0;
     let mut table = [0u8; 64];
     strengths(&fresh, &outs, n, &mut table);
-    let b = find_blocked(p, &setter, &table);
-    // what is blocked has outputs
-    let mut c = STAY;
-    let mut outputs = 0u64;
-    let mut covered = 0u64;
-    match b {
-        Blocked::Nothing => {}
-        Blocked::Link(i, l) => {
-            c = i;
-            outputs = l.outputs;
-            covered = l.covered;
-        }
-        Blocked::Stay(f) => {
-            outputs = only(wide(f));
-            covered = outputs;
-        }
-    }
+    let b = choose(find_blocked(p, &setter, &table));
     let mut turn = Turn::Free;
-    if outputs != 0 {
-        let top = top_of(&table, outputs);
-        turn = decide(&fresh, &outs, &table, n, below(n), top, outputs, covered, &reading, path);
+    if b.outputs != 0 {
+        let top = top_of(&table, b.outputs);
+        turn = decide(
+            &fresh,
+            &outs,
+            &table,
+            n,
+            below(n),
+            top,
+            b.outputs,
+            b.covered,
+            &reading,
+            path,
+        );
     }
     if let Turn::Looped = turn {
         return unchanged(n, &place, old, Reply::Refused(Refusal::Loop));
     }
-    step_of(turn, n, &place, no_link(), s, c)
+    step_of(turn, n, &place, no_link(), s, b.number)
 }

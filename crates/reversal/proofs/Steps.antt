@@ -126,14 +126,16 @@ module _ (p : Panel) (k n : ℕ) (place : List ℕ) (l : Link) (held : Standing)
       pub decides-turn : Decides p k cmd path (stepOf t n place l held c)
       unfolding taken
       decides-turn = record {
-        panel = taking ∙ ap (λ (a : Answer). a .panel) (sym accept);
+        takes = record {
+          panel = taking ∙ ap (λ (a : Answer). a .panel) (sym accept);
+          changed = λ f lf. changed f lf ∙ ap (λ (a : Answer). not (eqb (at (p .setter) f) (at (a .panel .setter) f))) (sym accept);
+          still = still;
+          path-of = path-of;
+          freed-field = ch .field;
+          keeps = ch .keeps;
+        };
         reply =
             ap (λ (m : ℕ). 0x00 ∷ m ∷ []) (sym (moved-size p r _ (legal-after .few) changed past)) ∙ ap (λ (a : Answer). a .reply) (sym accept);
-        changed = λ f lf. changed f lf ∙ ap (λ (q : Panel). not (eqb (at (p .setter) f) (at (q .setter) f))) (sym taking);
-        still = still;
-        path-of = path-of;
-        freed-field = ch .field;
-        keeps = ch .keeps;
       }
 
     -- nothing is reversed

@@ -21,7 +21,7 @@ use Rattle.panel.specs.Items.{link, linkAt, itemOf}
 use Rattle.panel.specs.Panels.{freed}
 use Rattle.panel.specs.Solution.{reversed}
 use Rattle.panel.specs.Commands.{Command, performed}
-use Rattle.panel.specs.Outcomes.{unchanged, altered, taken, PathOf, Decides}
+use Rattle.panel.specs.Outcomes.{altered, taken, Takes}
 use Rattle.panel.specs.Legal.{Legal}
 use Rattle.panel.proofs.Turn.{setter-link, setter-stay, link-here, link-there}
 use Rattle.panel.proofs.Legal.{holding-not-waiting}
@@ -32,51 +32,19 @@ use Rattle.tables.proofs.Settings.{places, placed-setting}
 use Rattle.taking.specs.Taking.{TabledBut}
 use Rattle.taking.proofs.Reversal.{tabled-whole}
 
--- a step: taken, it gives this panel
-pub record Gives (p : Panel) (k : ℕ) (path : List ℕ) (s : Step) (after : Panel) : Type 0 where
-  pub panel : taken p k s path ≡ after
-  pub legal : Legal after
-  pub still : s .changed ≡ 0 → (s .freed ≡ Waiting) × (s .setter ≡ 128) × (s .count ≡ 0)
-  pub path-of : PathOf path (s .count)
-  pub freed-field : (v : ℕ) → s .freed ≡ Holding v → v < 64
-  pub keeps : (f : ℕ) → f < 64 → at (p .setter) f ≡ k → (s .link ≡ linkAt (p .links) k) ⊎ (s .freed ≡ Holding f)
-
--- the step of a command gives the panel after it
-pub gives-performed : {p : Panel} {k : ℕ} {c : Command} {path : List ℕ} {s : Step} → Legal p → Decides p k c path s → Gives p k path s (performed p c .panel)
-gives-performed {p} {c = c} h d = record {
-  panel = d .panel;
-  legal = legal-performed p c h;
-  still = d .still;
-  path-of = d .path-of;
-  freed-field = d .freed-field;
-  keeps = d .keeps;
-}
-
--- the step that changes nothing gives the panel as it was
-pub gives-same : {p : Panel} {k : ℕ} (path : List ℕ) {named : Link} {reply : Reply} → Legal p → named ≡ linkAt (p .links) k
-    → Gives p k path (unchanged (p .size) (p .place) named reply) p
-gives-same {p} {k} path {named} {reply} h same = record {
-  panel = taken-still p k (unchanged (p .size) (p .place) named reply) path refl refl refl ∙ altered-size p k named reply same (p .size);
-  legal = h;
-  still = λ z. (refl, refl, refl);
-  path-of = record { few = omega arith; fields = λ i l. absurd (omega arith) };
-  freed-field = λ v e. absurd (holding-not-waiting e refl);
-  keeps = λ f l e. inl same;
-}
-
 -- the panel after a step, and its tables
 pub record Taken (after r : Panel) (levels others reads : List ℕ) : Type 0 where
   pub panel : r ≡ after
   pub legal : Legal r
   pub tabled : Tabled r levels others reads
 
-module _ {p : Panel} {k : ℕ} {path : List ℕ} {s : Step} {after : Panel} (d : Gives p k path s after) where
+module _ {p : Panel} {k : ℕ} {path : List ℕ} {s : Step} {after : Panel} (d : Takes p k path s after) (legal-after : Legal after) where
   -- the places that the step gives
   pub places-taken : Places (s .place)
-  places-taken = rw (ap (λ (q : Panel). q .place) (sym (d .panel)) ∙ taken-place p k s path) at (places after (d .legal))
+  places-taken = rw (ap (λ (q : Panel). q .place) (sym (d .panel)) ∙ taken-place p k s path) at (places after legal-after)
 
   taken-by : {r : Panel} {levels others reads : List ℕ} → r ≡ taken p k s path → Tabled r levels others reads → Taken after r levels others reads
-  taken-by {r} e t = record { panel = e ∙ d .panel; legal = subst Legal (sym (e ∙ d .panel)) (d .legal); tabled = t }
+  taken-by {r} e t = record { panel = e ∙ d .panel; legal = subst Legal (sym (e ∙ d .panel)) legal-after; tabled = t }
 
   -- where the path is reversed
   pub taken-reversed : {r : Panel} {levels others reads : List ℕ}

@@ -1,6 +1,7 @@
 // The two operations on a text of lines.
 use fieldset::wide;
 use frames::Command;
+use frames::Line;
 use panel::Link;
 use panel::Panel;
 use panel::Reply;
@@ -15,11 +16,16 @@ ghost use Prim.Native.Nat.{_+_, _*_, _^_, _≤_, _<_};
 ghost use lib.ListN.{length, drop};
 ghost use lib.Seq.{sets};
 ghost use Rattle.panel.specs.Panels.{opened};
+ghost use Rattle.panel.specs.Items.{linkAt};
+ghost use Rattle.panel.specs.Answers.{planRest};
+ghost use Rattle.panel.specs.Outcomes.{unchanged};
 ghost use Rattle.panel.specs.Legal.{Legal};
+ghost use Rattle.tables.specs.Tables.{Tabled};
 ghost use Rattle.hex.specs.Hex.{lineOf};
 ghost use Rattle.tally.specs.Tallies.{tallyBytes};
 ghost use Rattle.frames.specs.Texts.{linesOf};
-ghost use Rattle.frames.specs.Frames.{lineAnswer};
+ghost use Rattle.frames.specs.Frames.{numberOf, lineAnswer};
+ghost use Rattle.text.specs.Lines.{rowsLength, restOf, fieldsOf, Framed, Decided};
 ghost use Rattle.text.specs.Runs.{tallyLength, reached, fitting, RanFrom, Paced, Resumed, Told};
 
 // The characters of the longest reply's line: a plan of 64 fields has 2 + 3 * 64 bytes, and the line an LF.
@@ -48,20 +54,66 @@ pub enum Outcome {
     TextTooLong,
 }
 
-// How many bytes behind its head the reply to a plan has: three for each field.
-fn rest_of(reply: Reply) -> usize {
+// The bytes of a plan's rows, by its reply.
+fn rows_of(reply: Reply) -> usize
+    ensures { λ r. ⌜ r ≡ planRest reply ⌝ }
+{
     match reply {
         Reply::Accepted(n) => 3 * wide(n),
         Reply::Refused(_) => 0,
     }
 }
 
-// The step of a line that changes nothing.
+// How many bytes the reply to a command has behind its head: three for each field of a plan.
+fn rest_of(command: Command, reply: Reply) -> usize
+    ensures { λ r. ⌜ r ≡ restOf command reply ⌝ }
+{
+    match command {
+        Command::Plan => rows_of(reply),
+        _ => 0,
+    }
+}
+
+// The step of a line that leaves the panel as it is.
 fn keep(p: Panel, named: Link, reply: Reply) -> Step
     ensures { λ r. ⌜ r ≡ unchanged (p .size) (p .place) named reply ⌝ }
 {
     let place = p.place;
     unchanged(p.size, &place, named, reply)
+}
+
+// The step of a line by its command, but for a removal; `named` is the link of the number that the command names.
+fn decide_line(
+    p: Panel,
+    named: Link,
+    levels: &[u8; 64],
+    others: &[u64; 64],
+    reads: &[u64; 64],
+    line: Line,
+    path: &mut [u8; 64],
+    rows: &mut [u8; ROWS],
+) -> Step
+    requires { ⌜ Legal p × Tabled p (now levels) (now others) (now reads) × (named ≡ linkAt (p .links) (numberOf (line .command))) ⌝ }
+    requires { ⌜ Framed line × (length (now path) ≡ 64) × (length (now rows) ≡ rowsLength) ⌝ }
+    ensures { λ r. ⌜ Decided p (numberOf (line .command)) named (fieldsOf line) (now (path .exit)) (now (rows .exit)) r (line .command) ⌝ }
+{
+    let command = line.command;
+    match command {
+        Command::Open(n) => opening::open(p, named, n),
+        Command::Add(id, level) => {
+            let frame = line.frame;
+            let len = line.len;
+            let bytes = &frame[..len];
+            adding::add(p, named, levels, others, reads, id, level, &bytes[3..], path)
+        }
+        Command::Remove(_) => keep(p, named, Reply::Accepted(0)),
+        Command::Touch(f) => touching::touch(p, named, levels, others, reads, f, path),
+        Command::Plan => {
+            let reply = planning::plan(p, levels, others, reads, rows);
+            keep(p, named, reply)
+        }
+        Command::Refused(r) => keep(p, named, Reply::Refused(r)),
+    }
 }
 
 // Answers whole lines while the room has place for a longest reply; what does not fit the buffer is counted, not stored.
@@ -91,26 +143,12 @@ fn answer_lines(
         let end = frames::line_end(text, at);
         let line = frames::read_line(&text[at..end]);
         let command = line.command;
-        let frame = line.frame;
-        let len = line.len;
         let k = wide(frames::number_of(command));
         let named = q.links[k];
-        let mut count: usize = 0;
-        // a call for each kind: through one function the panel would be copied for every line, since a removal scans its links
+        // a removal scans all links: it stands here, since in decide_line it would have the panel copied for every line
         let step = match command {
-            Command::Open(size) => opening::open(q, named, size),
-            Command::Add(id, level) => {
-                let bytes = &frame[..len];
-                adding::add(q, named, &levels, &others, &reads, id, level, &bytes[3..], &mut path)
-            }
             Command::Remove(id) => removing::remove(q, named, &levels, &others, &reads, id, &mut path),
-            Command::Touch(f) => touching::touch(q, named, &levels, &others, &reads, f, &mut path),
-            Command::Plan => {
-                let reply = planning::plan(q, &levels, &others, &reads, &mut rows);
-                count = rest_of(reply);
-                keep(q, named, reply)
-            }
-            Command::Refused(r) => keep(q, named, Reply::Refused(r)),
+            _ => decide_line(q, named, &levels, &others, &reads, line, &mut path, &mut rows),
         };
         // the panel takes the step
         let place = step.place;
@@ -124,6 +162,7 @@ fn answer_lines(
             q = reverse(q, step.freed, step.setter, &path, step.count, &mut levels, &mut others, &mut reads);
         }
         let reply = step.reply;
+        let count = rest_of(command, reply);
         let b = frames::reply_bytes(reply);
         n = hex::put_line(out, n, b[0], b[1], &rows[..count]);
         u = tally::tallied_line(u, frames::refusal_of(b[0], b[1]));

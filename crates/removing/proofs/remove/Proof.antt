@@ -1,354 +1,220 @@
--- `removing::remove` meets its contract. The loop's invariant: the tables have the entries of the fields passed.
-use Prim.Native.Nat.{ℕ, _-_, _≤_}
-use mathlib.Core.Path.{_≡_, refl, sym, ap, _∙_, subst}
+-- `removing::remove` meets its contract.
+use mathlib.Core.Path.{refl, sym, ap, _∙_, subst}
 use mathlib.Core.Logic.{⊎-elim, inl, inr}
 use native.Mathlib.Omega.{arith}
 use borrow.Author.Needs.{needs}
-use lib.ListN.{replicate}
-use Rattle.fieldset.specs.Tables.{tabulate}
-use Rattle.panel.specs.declared.Panel.{Panel}
-use Rattle.panel.specs.declared.Refusal.the-variants.{Loop}
-use Rattle.panel.specs.Items.{foundOf}
-use Rattle.panel.specs.Answers.{refused}
-use Rattle.panel.specs.Legal.{Legal}
-use Rattle.tables.proofs.Filling.{TablesOf, entered-link, entered-stay, fill-more}
-use Rattle.removing.proofs.Dropping.{remove-closed, remove-bad, remove-unused, Dropped, remove-waiting, Freed, freed, field-small, legal-freed, remove-holding, one-moved, number-small, undone}
-use Rattle.removing.proofs.Settling.{Taken, Found, taken-link, taken-stay, link-small, stay-small, panel-acyclic, panel-strengths, found-some, found-none, undecided, settle-refused, settle-turned, settle-none}
+use Rattle.panel.specs.declared.Standing.the-variants.{Holding}
+use Rattle.tables.proofs.Settings.{places}
+use Rattle.reversal.specs.Reversals.{HeldField}
+use Rattle.reversal.proofs.Turns.{no-loop}
+use Rattle.removing.proofs.Dropped.{Held, held-small, of-field, Choice, choice}
+use Rattle.removing.proofs.Removed.{Passed, old-standing, remove-refused, remove-passes, remove-waiting, rest-acyclic, stepped-strengths, undecided, Turned, remove-looped, remove-turned}
 use Rattle.removing.proofs.remove.Statement.{statement}
 use Rattle.removing.proofs.remove.Tie as tie
 
-abbrev Inv-loop : tie.InvT-loop
-Inv-loop id p n reply k old v before levels₀ others₀ reads₀ g₀ levels others reads g = (g ≤ n) × TablesOf p g levels₀ others₀ reads₀ levels others reads
+-- ---- the places: the checks passed, the field that the link holds
 
-abbrev μ-loop : tie.MeasureT-loop
-μ-loop id p n reply k old v before levels₀ others₀ reads₀ g₀ levels others reads g = n - g
+abbrev start : tie.After-enum-told2 → tie.Start
+start c = c .before .before .before .before
 
--- ---- the places: the entry, the link dropped, its field free, the tables filled, the scan
+passed : (c : tie.After-enum-told2) → Passed (start c .args .p) (start c .args .id)
+passed c =
+    let s = start c in
+    remove-passes (s .args .p) (s .args .id) (s .args .old) (s .pre .2) _ (c .before .before .check-remove .ensures) _ (c .enum-told2 .given .1)
 
-abbrev start : tie.After-no-link Inv-loop μ-loop → tie.Start Inv-loop μ-loop
-start c = c .before .before .before .before .before .before
+abbrev begin : tie.After-wide → tie.Start
+begin c = start (c .before .before .before .before)
 
-dropped : (c : tie.After-no-link Inv-loop μ-loop) → Dropped (start c .args .t1) (start c .args .id) (c .before .before .before .wide .result) (c .no-link .result)
-dropped c =
-    let w = c .before .before .before in
+held : (c : tie.After-wide) → let s = begin c .args in
+    Held (s .p) (s .id) (c .wide .result) (s .levels .now) (s .others .now) (s .reads .now)
+held c =
+    let e = c .before .before .before .before in
+    let s = start e in
+    let (small, step) = passed e in
     record {
-      legal = start c .pre;
-      opened = w .before .before .if1 .taken;
-      small = w .before .if2 .taken;
-      same = w .wide .ensures;
-      used = c .before .if3 .taken;
-      none = c .no-link .ensures;
+      legal = s .pre .0;
+      tabled = s .pre .1;
+      small = small;
+      holds = old-standing (s .args .p) (s .pre .0) (s .args .id) small _ (s .pre .2) ∙ c .before .before .s .given .1 ∙ ap Holding (sym (c .wide .ensures));
+      step = step;
     }
 
-abbrev drop : tie.After-wide2 Inv-loop μ-loop → tie.After-no-link Inv-loop μ-loop
-drop c = c .before .before .before .before .before
+abbrev stay-in : tie.After-strengths → tie.After-wide
+stay-in c = c .before .before .before .before .before .before .before .before
 
--- the panel before, and with the field free
-abbrev old : tie.After-wide2 Inv-loop μ-loop → Panel
-old c = start (drop c) .args .t1
+-- what is chosen, and the turn for it
 
-abbrev new : tie.After-wide2 Inv-loop μ-loop → Panel
-new c = freed (old c) (drop c .before .before .before .wide .result) (drop c .no-link .result) (c .wide2 .result)
+abbrev scan : tie.After-struct-known → tie.After-strengths
+scan c = c .before .before .before .before .before
 
-freeing : (c : tie.After-wide2 Inv-loop μ-loop) → Freed (old c) (start (drop c) .args .id) (drop c .before .before .before .wide .result) (drop c .no-link .result)
-    (c .before .before .before .s .given .0 .0) (c .wide2 .result)
-freeing c = record { dropped = dropped (drop c); holds = c .before .before .before .s .given .1; field = c .wide2 .ensures }
+chosen : (c : tie.After-struct-known) → let b = c .before .choose .result in Choice (held (stay-in (scan c))) (b .number) (b .outputs) (b .covered)
+chosen c = choice (held (stay-in (scan c))) (c .before .choose .result) (c .before .before .find-blocked .result) (c .before .choose .ensures) (c .before .before .find-blocked .ensures)
 
-legal : (c : tie.After-wide2 Inv-loop μ-loop) → Legal (new c)
-legal c = legal-freed (freeing c)
-
-filled : (c : tie.After-loop Inv-loop μ-loop) → let a = c .before .loop in let q = new (c .before .before) in
-    TablesOf q (q .size) (replicate 64 0) (replicate 64 0) (replicate 64 0) (a .levels) (a .others) (a .reads)
-filled c =
-    let a = c .before .loop in
-    let q = new (c .before .before) in
-    let e : a .g ≡ q .size = omega arith in
-    subst (λ (k : ℕ). TablesOf q k (replicate 64 0) (replicate 64 0) (replicate 64 0) (a .levels) (a .others) (a .reads)) e (a .inv .1)
-
-abbrev free : tie.After-find-blocked Inv-loop μ-loop → tie.After-wide2 Inv-loop μ-loop
-free c = c .before .before .before .before .before .before .before .before
-
-found : (c : tie.At-match2-came Inv-loop μ-loop) → Found (new (free (c .before))) (c .match2 .setter) (c .match2 .outputs) (c .match2 .covered)
-found c =
-    let e = c .before .find-blocked .ensures in
-    ⊎-elim (λ w. inl (sym e ∙ ap foundOf (w .1 .given .1), w .3))
-    (⊎-elim
-    (λ w. inr (taken-link _ _ (w .1 .given .0 .0) (w .3 .result) _ _ _ e (w .1 .given .1) (w .3 .ensures) (w .5) (w .6) (w .7)))
-    (λ w. inr (taken-stay _ _ (w .1 .given .0 .0) (w .3 .result) (w .4 .result) _ _ _ e (w .1 .given .1) (w .3 .ensures) (w .4 .ensures) (w .5) (w .6) (w .7))))
-    (c .match2 .came)
-
-abbrev scan : tie.After-top-of Inv-loop μ-loop → tie.At-match2-came Inv-loop μ-loop
-scan c = c .before .before .before
-
-taken : (c : tie.After-top-of Inv-loop μ-loop) → let m = scan c in
-    Taken (new (free (m .before))) (m .match2 .setter) (m .match2 .outputs) (m .match2 .covered)
-taken c = let m = scan c in found-some _ (legal (free (m .before))) _ _ _ (found m) (c .before .before .if5 .taken)
-
-abbrev turning : tie.After-decide Inv-loop μ-loop → tie.After-wide2 Inv-loop μ-loop
-turning c = free (scan (c .before .before .before .before .before .before .before) .before)
+turned : (c : tie.Joined1) → let k = c .before in let b = k .before .choose .result in
+    Turned (held (stay-in (scan k))) _ _ refl (scan k .strengths .ensures) (b .number) (b .outputs) (b .covered) (chosen k) (c .if1 .path) (c .if1 .turn)
+turned c =
+    ⊎-elim (λ w. inl (w .0 .taken, w .2 .result, w .2 .ensures, rw (w .10, w .11) (w .9 .ensures)))
+    (λ w. inr (w .0 .left, w .2))
+    (c .if1 .came)
 
 -- ---- the needs
 
-wide-requires : tie.Need-wide-requires Inv-loop μ-loop
-wide-requires c κs = search needs
+check-remove-requires : tie.Need-check-remove-requires
+check-remove-requires c κs = search needs
 
-mul-old : tie.Need-mul-old Inv-loop μ-loop
-mul-old c = search needs
-
-element-copy-out-old : tie.Need-element-copy-out-old Inv-loop μ-loop
-element-copy-out-old c = search needs
-
-no-link-requires : tie.Need-no-link-requires Inv-loop μ-loop
-no-link-requires c κs = search needs
-
-mul-t40 : tie.Need-mul-t40 Inv-loop μ-loop
-mul-t40 c = search needs
-
-element-set-from-p : tie.Need-element-set-from-p Inv-loop μ-loop
-element-set-from-p c = search needs
-
-enum-known-s : tie.Need-enum-known-s Inv-loop μ-loop
-enum-known-s c = search needs
-
-wide-requires-2 : tie.Need-wide-requires-2 Inv-loop μ-loop
-wide-requires-2 c κs = search needs
-
-element-write-p : tie.Need-element-write-p Inv-loop μ-loop
-element-write-p c = field-small (freeing c)
-
-loop-holds : tie.Need-loop-holds Inv-loop μ-loop
-unfolding tabulate
-loop-holds c = (omega arith, record { levels = refl; others = refl; reads = refl })
-
-element-copy-out-c : tie.Need-element-copy-out-c Inv-loop μ-loop
-element-copy-out-c c = omega arith
-
-element-copy-out-stay-entry : tie.Need-element-copy-out-stay-entry Inv-loop μ-loop
-element-copy-out-stay-entry c = omega arith
-
-stay-entry-requires : tie.Need-stay-entry-requires Inv-loop μ-loop
-stay-entry-requires c κs =
-    let f = c .before .before .before .before in
-    omega (arith, legal f .place-small (c .before .before .before .loop .g) (omega arith), legal f .few)
-
-wide-requires-3 : tie.Need-wide-requires-3 Inv-loop μ-loop
-wide-requires-3 c κs = search needs
-
-mul-link-entry : tie.Need-mul-link-entry Inv-loop μ-loop
-mul-link-entry c = search needs
-
-element-copy-out-link-entry : tie.Need-element-copy-out-link-entry Inv-loop μ-loop
-element-copy-out-link-entry c = omega arith
-
-link-entry-requires : tie.Need-link-entry-requires Inv-loop μ-loop
-link-entry-requires c κs = omega (arith, legal (c .before .before .before .before .before .before .before .before) .few)
-
-array-write-levels : tie.Need-array-write-levels Inv-loop μ-loop
-array-write-levels c = omega arith
-
-mul-others : tie.Need-mul-others Inv-loop μ-loop
-mul-others c = search needs
-
-array-write-others : tie.Need-array-write-others Inv-loop μ-loop
-array-write-others c = omega arith
-
-mul-reads : tie.Need-mul-reads Inv-loop μ-loop
-mul-reads c = search needs
-
-array-write-reads : tie.Need-array-write-reads Inv-loop μ-loop
-array-write-reads c = omega arith
-
-add-g : tie.Need-add-g Inv-loop μ-loop
-add-g c = omega arith
-
-loop-less : tie.Need-loop-less Inv-loop μ-loop
-loop-less c = omega arith
-
-loop-again : tie.Need-loop-again Inv-loop μ-loop
-loop-again c =
-    let a = c .before .before .before .before .before .loop in
-    let f = c .before .before .before .before .before .before in
-    let q = new f in (
-      omega arith,
-      fill-more q (a .g) (omega (arith, legal f .few)) refl refl refl
-          (⊎-elim
-          (λ w. entered-link q (a .g) (w .1 .result) _ _ (w .0 .taken) (w .1 .ensures) (w .3 .ensures) (w .4))
-          (λ w. entered-stay q (a .g) _ _ (w .0 .left) (c .before .stay-entry .ensures) (w .1))
-          (c .if4 .came))
-          (a .inv .1),
-    )
-
-strengths-requires : tie.Need-strengths-requires Inv-loop μ-loop
-strengths-requires c κs =
-    let l = c .before .before .before in
-    let f = l .before .before in
-    (panel-acyclic (new f) (legal f) _ _ _ (filled l), refl)
-
-find-blocked-requires : tie.Need-find-blocked-requires Inv-loop μ-loop
-find-blocked-requires c κs =
-    let g = c .before in
-    let l = g .before .before .before .before in
-    let f = l .before .before in
-    (legal f, panel-strengths (new f) (legal f) _ _ _ (filled l) _ (g .strengths .ensures))
-
-enum-told : tie.Need-enum-told Inv-loop μ-loop
+enum-told : tie.Need-enum-told
 enum-told c = search needs
 
-enum-known-b : tie.Need-enum-known-b Inv-loop μ-loop
-enum-known-b c = search needs
+unchanged-requires : tie.Need-unchanged-requires
+unchanged-requires c κs = search needs
 
-wide-requires-4 : tie.Need-wide-requires-4 Inv-loop μ-loop
-wide-requires-4 c κs = search needs
+returns : tie.Need-returns
+returns c =
+    let t = c .before .before in
+    let r = t .before .before in
+    let s = r .before .before in
+    remove-refused (s .args .p) (s .args .id) _ (s .pre .2) _ (r .check-remove .ensures) _ _ _ (t .enum-told .given .1) (c .unchanged .ensures)
 
-mul-l : tie.Need-mul-l Inv-loop μ-loop
-mul-l c = search needs
+enum-told-2 : tie.Need-enum-told-2
+enum-told-2 c = search needs
 
-element-copy-out-l : tie.Need-element-copy-out-l Inv-loop μ-loop
-element-copy-out-l c =
-    let e = c .before .before in
-    let b = e .before .before in
-    link-small (new (free b)) (legal (free b)) (b .find-blocked .result) (e .b .given .0 .0) (c .wide4 .result) (b .find-blocked .ensures) (e .b .given .1) (c .wide4 .ensures)
+enum-known-s : tie.Need-enum-known-s
+enum-known-s c = search needs
 
-enum-known-b-2 : tie.Need-enum-known-b-2 Inv-loop μ-loop
-enum-known-b-2 c = search needs
+enum-told-3 : tie.Need-enum-told-3
+enum-told-3 c = search needs
 
-wide-requires-5 : tie.Need-wide-requires-5 Inv-loop μ-loop
-wide-requires-5 c κs = search needs
+no-link-requires : tie.Need-no-link-requires
+no-link-requires c κs = search needs
 
-only-requires : tie.Need-only-requires Inv-loop μ-loop
-only-requires c κs =
-    let e = c .before .before in
-    let b = e .before .before in
-    stay-small (new (free b)) (legal (free b)) (b .find-blocked .result) (e .b2 .given .0 .0) (c .wide5 .result) (b .find-blocked .ensures) (e .b2 .given .1) (c .wide5 .ensures)
+step-of-requires : tie.Need-step-of-requires
+step-of-requires c κs =
+    let t = c .before .before in
+    (start (t .before .before) .pre .0 .place-length, subst HeldField (sym (t .enum-told3 .given .1)) tt)
 
-top-of-requires : tie.Need-top-of-requires Inv-loop μ-loop
+returns-2 : tie.Need-returns-2
+returns-2 c =
+    let t = c .before .before .before in
+    let e = t .before .before in
+    let s = start e in
+    remove-waiting (s .args .p) (s .pre .0) (s .args .id) (passed e .0) _ _ _ _ (s .pre .2) (c .before .no-link .ensures) (t .enum-told3 .given .1) (passed e .1) (c .step-of .ensures)
+
+wide-requires : tie.Need-wide-requires
+wide-requires c κs = search needs
+
+array-write-setter : tie.Need-array-write-setter
+array-write-setter c = held-small (held (c .before .before .before .before))
+
+array-read-fresh : tie.Need-array-read-fresh
+array-read-fresh c = held-small (held (c .before .before .before .before))
+
+add-fresh : tie.Need-add-fresh
+add-fresh c =
+    let w = c .before .before .before .before in
+    omega (arith, places _ (held w .legal) (w .wide .result) (held-small (held w)))
+
+array-write-fresh : tie.Need-array-write-fresh
+array-write-fresh c = held-small (held (c .before .before .before .before))
+
+mul-outs : tie.Need-mul-outs
+mul-outs c = search needs
+
+array-write-outs : tie.Need-array-write-outs
+array-write-outs c = held-small (held (c .before .before .before .before))
+
+mul-reading : tie.Need-mul-reading
+mul-reading c = search needs
+
+array-write-reading : tie.Need-array-write-reading
+array-write-reading c = held-small (held (c .before .before .before .before))
+
+strengths-requires : tie.Need-strengths-requires
+strengths-requires c κs = (rest-acyclic (held (c .before .before .before .before .before .before .before)), refl)
+
+find-blocked-requires : tie.Need-find-blocked-requires
+find-blocked-requires c κs =
+    let t = c .before .before in
+    let x = held (stay-in t) in
+    (x .legal, stepped-strengths x _ _ refl (t .strengths .ensures))
+
+choose-requires : tie.Need-choose-requires
+choose-requires c κs = of-field (held (stay-in (c .before .before .before))) (c .find-blocked .result) (c .find-blocked .ensures)
+
+top-of-requires : tie.Need-top-of-requires
 top-of-requires c κs = search needs
 
-below-requires : tie.Need-below-requires Inv-loop μ-loop
-below-requires c κs = search needs
+below-requires : tie.Need-below-requires
+below-requires c κs = held (stay-in (scan (c .before .before .before .before .before .before))) .legal .few
 
-decide-requires : tie.Need-decide-requires Inv-loop μ-loop
+decide-requires : tie.Need-decide-requires
 decide-requires c κs =
     let b = c .before .before in
     let o = b .before .before .before .before in
-    let g = scan o .before .before .before in
-    let f = free (scan o .before) in
-    undecided (new f) (legal f) _ _ _ (filled (g .before .before .before .before)) _ (g .strengths .ensures) _ _ _ (o .top-of .result) (taken o) (o .top-of .ensures) (b .below .result) _ (b .below .ensures) refl
+    let k = o .before .before .before in
+    undecided (held (stay-in (scan k))) _ _ refl (scan k .strengths .ensures) _ _ _ (chosen k) _ _ _ (b .below .ensures) (o .before .before .if1 .taken) (o .top-of .ensures) (begin (stay-in (scan k)) .pre .3)
 
-mul-old-2 : tie.Need-mul-old-2 Inv-loop μ-loop
-mul-old-2 c = omega (arith, number-small (freeing (turning (c .before))))
+enum-told-4 : tie.Need-enum-told-4
+enum-told-4 c = search needs
 
-element-set-from-old : tie.Need-element-set-from-old Inv-loop μ-loop
-element-set-from-old c = number-small (freeing (turning (c .before)))
+unchanged-requires-2 : tie.Need-unchanged-requires-2
+unchanged-requires-2 c κs = held (stay-in (scan (c .before .before .before .before))) .legal .place-length
 
-reverse-requires : tie.Need-reverse-requires Inv-loop μ-loop
-reverse-requires c κs = let d = c .before .before .decide .ensures in (d .fields, d .full)
-
-moved-requires : tie.Need-moved-requires Inv-loop μ-loop
-moved-requires c κs = legal (turning (c .before .before .before .before .before .before)) .few
-
-enum-told-2 : tie.Need-enum-told-2 Inv-loop μ-loop
-enum-told-2 c = search needs
-
-returns : tie.Need-returns Inv-loop μ-loop
-returns c =
-    let d = c .before in
-    let o = d .before .before .before .before .before .before .before in
-    let g = scan o .before .before .before in
-    let f = turning d in
-    remove-holding (freeing f) _
-    (ap (λ (x : Panel). refused x Loop) (undone (old f) (drop f .before .before .before .wide .result) (drop f .no-link .result))
-    ∙ settle-refused (new f) (legal f) _ _ _ (filled (g .before .before .before .before)) _ (g .strengths .ensures) _ _ _ (o .top-of .result) (taken o) (o .top-of .ensures) _ _ _ (d .decide .ensures) (old f) (c .if6 .taken))
-
-returns-2 : tie.Need-returns-2 Inv-loop μ-loop
-returns-2 c =
-    let r = c .before .before .before .before in
-    let w = r .before .before in
-    let d = w .before in
-    let o = d .before .before .before .before .before .before .before in
-    let g = scan o .before .before .before in
-    let f = turning d in
-    remove-holding (freeing f) _
-    (settle-turned (new f) (legal f) _ _ _ (filled (g .before .before .before .before)) _ (g .strengths .ensures) _ _ _ (o .top-of .result) (taken o) (o .top-of .ensures) _ _ _ (d .decide .ensures) (old f) (r .reverse .result) (c .moved .result) (w .if6 .left) (r .reverse .ensures) (c .moved .ensures))
-
-returns-3 : tie.Need-returns-3 Inv-loop μ-loop
+returns-3 : tie.Need-returns-3
 returns-3 c =
-    let m = c .before in
-    let f = free (m .before) in
-    remove-holding (freeing f) _ (settle-none (old f) (new f) 1 (found-none _ (legal f) _ _ _ (found m) (c .if5 .left)) (one-moved (freeing f)))
+    let t = c .before .before in
+    let j = t .before .before in
+    let k = j .before in
+    remove-looped (held (stay-in (scan k))) _ _ refl (scan k .strengths .ensures) _ _ _ (chosen k) _ _ (turned j) _ _ (begin (stay-in (scan k)) .pre .2) (t .enum-told4 .given .1) (c .unchanged2 .ensures)
 
-returns-4 : tie.Need-returns-4 Inv-loop μ-loop
-returns-4 c = remove-waiting (dropped (c .before .before)) _ refl (c .enum-told2 .given .1)
+no-link-requires-2 : tie.Need-no-link-requires-2
+no-link-requires-2 c κs = search needs
 
-returns-5 : tie.Need-returns-5 Inv-loop μ-loop
-returns-5 c =
-    let w = c .before .before in
-    let s = w .before .before .before in
-    remove-unused (s .args .t1) (s .pre) (s .args .id) (w .before .before .if1 .taken) (w .before .if2 .taken) (w .wide .result) (w .wide .ensures) _ refl (c .if3 .left)
+step-of-requires-2 : tie.Need-step-of-requires-2
+step-of-requires-2 c κs =
+    let w = stay-in (scan (c .before .before .before .before)) in
+    (held w .legal .place-length, omega (arith, held-small (held w), w .wide .ensures))
 
-returns-6 : tie.Need-returns-6 Inv-loop μ-loop
-returns-6 c =
-    let s = c .before .before in
-    remove-bad (s .args .t1) (s .pre) (s .args .id) _ refl (c .before .if1 .taken) (c .if2 .left)
-
-returns-7 : tie.Need-returns-7 Inv-loop μ-loop
-returns-7 c =
-    let s = c .before in
-    remove-closed (s .args .t1) (s .pre) (s .args .id) _ refl (c .if1 .left)
+returns-4 : tie.Need-returns-4
+returns-4 c =
+    let n = c .before in
+    let t = n .before .before in
+    let j = t .before in
+    let k = j .before in
+    let w = stay-in (scan k) in
+    remove-turned (held w) _ _ refl (scan k .strengths .ensures) _ _ _ (chosen k) _ _ (turned j) _ _ _ (n .no-link2 .ensures) (w .wide .ensures) (no-loop _ (t .match3 .keys2)) (c .step-of2 .ensures)
 
 pub remove-spec : {M : Type 1} → statement M
 remove-spec =
     tie.close
     (tie.spec
-    Inv-loop
-    μ-loop
-    wide-requires
-    mul-old
-    element-copy-out-old
-    no-link-requires
-    mul-t40
-    element-set-from-p
+    check-remove-requires
+    enum-told
+    unchanged-requires
+    returns
+    enum-told-2
     enum-known-s
-    wide-requires-2
-    element-write-p
-    loop-holds
-    element-copy-out-c
-    element-copy-out-stay-entry
-    stay-entry-requires
-    wide-requires-3
-    mul-link-entry
-    element-copy-out-link-entry
-    link-entry-requires
-    array-write-levels
-    mul-others
-    array-write-others
-    mul-reads
-    array-write-reads
-    add-g
-    loop-less
-    loop-again
+    enum-told-3
+    no-link-requires
+    step-of-requires
+    returns-2
+    wide-requires
+    array-write-setter
+    array-read-fresh
+    add-fresh
+    array-write-fresh
+    mul-outs
+    array-write-outs
+    mul-reading
+    array-write-reading
     strengths-requires
     find-blocked-requires
-    enum-told
-    enum-known-b
-    wide-requires-4
-    mul-l
-    element-copy-out-l
-    enum-known-b-2
-    wide-requires-5
-    only-requires
+    choose-requires
     top-of-requires
     below-requires
     decide-requires
-    mul-old-2
-    element-set-from-old
-    reverse-requires
-    moved-requires
-    enum-told-2
-    returns
-    returns-2
+    enum-told-4
+    unchanged-requires-2
     returns-3
-    returns-4
-    returns-5
-    returns-6
-    returns-7)
+    no-link-requires-2
+    step-of-requires-2
+    returns-4)

@@ -1,0 +1,199 @@
+-- A link that holds a field is dropped: what is the same where the link stays and only its field's stay steps in.
+use mathlib.Core.Path.{_≡_, refl, sym, ap, _∙_, subst, fun-ext}
+use mathlib.Core.Logic.{_≢_, _⊎_, inl, inr}
+use mathlib.Core.Bool.{Bool, true, false, _&&_, and-false, cond}
+use mathlib.Core.List.{List, [], _∷_}
+use mathlib.Core.Option.{Option, none, some}
+use Prim.Native.Nat.{ℕ, _+_, _<_}
+use native.Mathlib.Decide.{ℕ-discrete}
+use native.Mathlib.Omega.{arith}
+use borrow.Author.Tests.{ltb-true}
+use lib.Dec.{ltb}
+use lib.ListN.{set}
+use lib.Seq.{getD-set-same, getD-set-other}
+use Rattle.fieldset.specs.Numbers.{any}
+use Rattle.fieldset.specs.Tables.{at}
+use Rattle.fieldset.specs.Fields.{member, without}
+use Rattle.fieldset.proofs.Numbers.{clash, any-cong}
+use Rattle.panel.specs.declared.Standing.the-variants.{Holding}
+use Rattle.panel.specs.declared.Link.{Link}
+use Rattle.panel.specs.declared.Panel.{Panel}
+use Rattle.panel.specs.Items.{Item, link, stay, noLink, linkAt, itemOf, setterOf, outputsOf, isWaiting, itemsOf}
+use Rattle.panel.specs.Panels.{withLink, freed, dropped}
+use Rattle.panel.specs.Solution.{level, setterLevel, setterOthers, strengthOf, isBlocked, lesser, least, leastBlocked}
+use Rattle.panel.specs.Steps.{removeStep}
+use Rattle.panel.specs.Commands.{removing, performed}
+use Rattle.panel.specs.Legal.{Legal}
+use Rattle.panel.proofs.Turn.{numberOf, setter-stay, setter-number, link-here, link-there}
+use Rattle.panel.proofs.Setters.{reads-there, waits-force}
+use Rattle.panel.proofs.Reversal.{blocking}
+use Rattle.panel.proofs.Performed.{least-passes}
+use Rattle.panel.proofs.Changes.{legal-dropped}
+use Rattle.tables.specs.Tables.{Tabled}
+use Rattle.tables.proofs.Settings.{stay-others, same-setting, tabled-set}
+use Rattle.tables.proofs.Tables.{strength-same}
+use Rattle.scanning.specs.declared.Blocked.{Blocked}
+use Rattle.scanning.specs.declared.Blocked.the-variants.{Nothing, Link as ALink, Stay as AStay}
+use Rattle.scanning.specs.Scan.{withSetters, Finds}
+use Rattle.reversal.proofs.ReadFields.{coverOf}
+use Rattle.removing.specs.declared.Chosen.{Chosen}
+use Rattle.removing.specs.Choice.{OfField, chosenOf}
+
+-- two levels that agree on the items that pass
+least-same : (q : Item → Bool) (lev lev′ : Item → ℕ) → ((d : Item) → q d ≡ true → lev d ≡ lev′ d) → (cs : List Item) → least q lev cs ≡ least q lev′ cs
+unfolding least
+least-same q lev lev′ h [] = refl
+least-same q lev lev′ h (c ∷ cs) = rw (least-same q lev lev′ h cs) (go (q c) refl)
+  where
+    lesser-same : (o : Option Item) → least q lev′ cs ≡ o → q c ≡ true → lesser lev c o ≡ lesser lev′ c o
+    lesser-same none e t = refl
+    lesser-same (some d) e t = rw (h c t, h d (least-passes q lev′ cs d e)) refl
+
+    go : (b : Bool) → q c ≡ b → cond b (lesser lev c (least q lev′ cs)) (least q lev′ cs) ≡ cond b (lesser lev′ c (least q lev′ cs)) (least q lev′ cs)
+    go true t = lesser-same (least q lev′ cs) refl t
+    go false t = refl
+
+-- what a link sets is what it holds
+pub sets-holds : (p : Panel) → Legal p → (id f : ℕ) → id < 128 → f < 64 → at (p .setter) f ≡ id → linkAt (p .links) id .standing ≡ Holding f
+sets-holds p h id f small l e = subst (λ (i : ℕ). linkAt (p .links) i .standing ≡ Holding f) e (h .setter-holds f l (omega arith))
+
+pub field-small : (p : Panel) → Legal p → (id v : ℕ) → id < 128 → linkAt (p .links) id .standing ≡ Holding v → v < 64
+field-small p h id v small holds = omega (arith, h .few, h .holding-field id v small holds)
+
+-- a removal of a link that holds v passes its checks
+pub record Held (p : Panel) (id v : ℕ) (levels others reads : List ℕ) : Type 0 where
+  pub legal : Legal p
+  pub tabled : Tabled p levels others reads
+  pub small : id < 128
+  pub holds : linkAt (p .links) id .standing ≡ Holding v
+  pub step : performed p (removing id) ≡ removeStep p id
+
+module _ {p : Panel} {id v : ℕ} {levels others reads : List ℕ} (x : Held p id v levels others reads) where
+  h : Legal p
+  h = x .legal
+
+  pub held-small : v < 64
+  held-small = field-small p h id v (x .small) (x .holds)
+
+  -- the stay of v steps in, and then the link is dropped
+  abbrev pub stepped : Panel
+  stepped = withSetters p (set (p .setter) v 128)
+
+  abbrev pub rest : Panel
+  rest = withLink stepped id noLink
+
+  pub dropped-rest : dropped p id ≡ rest
+  unfolding dropped
+  dropped-rest = ap (freed (withLink p id noLink)) (x .holds)
+
+  pub legal-rest : Legal rest
+  legal-rest = subst Legal dropped-rest (legal-dropped p id h (x .small))
+
+  -- v is set by its stay, every other field as before, and none by the link
+  stay-sets : setterOf (rest .setter) v ≡ stay v
+  stay-sets = setter-stay (rest .setter) v (omega (arith, getD-set-same (p .setter) v 128 0 (omega (arith, h .setter-length, held-small))))
+
+  others-set : (f : ℕ) → f ≢ v → at (rest .setter) f ≡ at (p .setter) f
+  others-set f ne = getD-set-other (p .setter) v f 128 0 ne
+
+  unset : (f : ℕ) → f < 64 → setterOf (rest .setter) f ≢ link id
+  unset f l e = go (ℕ-discrete f v)
+    where
+      sets : at (rest .setter) f ≡ id
+      sets = setter-number (rest .setter) f id e .0
+
+      go : Dec (f ≡ v) → ⊥
+      go (yes d) = let z : link id ≡ stay v = sym e ∙ ap (setterOf (rest .setter)) d ∙ stay-sets in let y : _≡_ {A = ℕ} 0 1 = cc in omega arith
+      go (no d) =
+          let z : Holding v ≡ Holding f = sym (x .holds) ∙ sets-holds p h id f (x .small) l (sym (others-set f d) ∙ sets) in
+          let y : v ≡ f = cc in
+          d (sym y)
+
+  -- another item
+  level-kept : (d : Item) → d ≢ link id → level rest d ≡ level p d
+  level-kept (link i) ne = ap (λ (l : Link). l .level) (link-there (p .links) id i noLink (λ e. ne (ap link e)))
+  level-kept (stay f) ne = refl
+
+  outputs-kept : (d : Item) → d ≢ link id → outputsOf (rest .links) d ≡ outputsOf (p .links) d
+  outputs-kept (link i) ne = ap (λ (l : Link). l .outputs) (link-there (p .links) id i noLink (λ e. ne (ap link e)))
+  outputs-kept (stay f) ne = refl
+
+  pub tabled-rest : Tabled rest (set levels v (16 + at (p .place) v)) (set others v 0) (set reads v 0)
+  unfolding setterOf
+  tabled-rest =
+      tabled-set p rest 64 64 v (16 + at (p .place) v) 0 0 held-small
+      (λ f a b c l ne.
+      let same : setterOf (rest .setter) f ≡ setterOf (p .setter) f = ap (λ (c : ℕ). itemOf c f) (others-set f ne) in
+      let other : setterOf (p .setter) f ≢ link id = λ e. unset f l (same ∙ e) in
+      let d = setterOf (p .setter) f in
+      (l, same-setting p rest f d refl same (level-kept d other) (outputs-kept d other) (reads-there (p .links) id f noLink d other)))
+      (record { level-is = rw stay-sets refl; others-are = rw stay-sets (sym (stay-others v)); reads-are = rw stay-sets refl }) (x .tabled)
+
+  -- the link sets nothing and is not blocked: strengths and what is blocked are the same
+  pub strength-kept : (f : ℕ) → f < 64 → strengthOf stepped f ≡ strengthOf rest f
+  unfolding strengthOf
+  strength-kept f l =
+      strength-same 64 (setterLevel stepped) (setterLevel rest) (setterOthers stepped) (setterOthers rest)
+      (λ g k. sym (level-kept (setterOf (rest .setter) g) (unset g k)))
+      (λ g k. ap (λ (m : ℕ). without m g) (sym (outputs-kept (setterOf (rest .setter) g) (unset g k)))) (λ g u k j e. j) (p .size) f l
+
+  over-kept : (m l : ℕ) → any (λ u. member m u && ltb l (strengthOf stepped u)) 64 ≡ any (λ u. member m u && ltb l (strengthOf rest u)) 64
+  over-kept m l =
+      any-cong (λ u. member m u && ltb l (strengthOf stepped u)) (λ u. member m u && ltb l (strengthOf rest u)) 64
+      (λ u k. ap (λ (s : ℕ). member m u && ltb l s) (strength-kept u k))
+
+  abbrev blocked-link : Link → Bool
+  blocked-link l = (l .used && isWaiting (l .standing)) && any (λ u. member (l .outputs) u && ltb (l .level) (strengthOf rest u)) 64
+
+  not-blocked : isBlocked rest (link id) ≡ false
+  unfolding isBlocked
+  not-blocked = ap blocked-link (link-here (p .links) id noLink (omega (arith, h .links-length)))
+
+  blocked-kept : (d : Item) → isBlocked stepped d ≡ isBlocked rest d
+  unfolding isBlocked
+  blocked-kept (link i) = go (ℕ-discrete i id)
+    where
+      go : Dec (i ≡ id) → isBlocked stepped (link i) ≡ isBlocked rest (link i)
+      go (yes e) = rw e (rw (x .holds, and-false (linkAt (p .links) id .used)) (sym not-blocked))
+      go (no e) =
+          ap (λ (b : Bool). (linkAt (p .links) i .used && isWaiting (linkAt (p .links) i .standing)) && b) (over-kept _ _)
+          ∙ sym (ap blocked-link (link-there (p .links) id i noLink e))
+  blocked-kept (stay f) = ap (λ (b : Bool). (ltb f (p .size) && ltb (at (rest .setter) f) 128) && b) (over-kept _ _)
+
+  blocked-other : (d : Item) → isBlocked rest d ≡ true → d ≢ link id
+  blocked-other d b e = clash b (ap (isBlocked rest) e ∙ not-blocked)
+
+  found-kept : leastBlocked stepped ≡ leastBlocked rest
+  unfolding leastBlocked
+  found-kept =
+      ap (λ (b : Item → Bool). least b (level stepped) (itemsOf (p .size))) (fun-ext blocked-kept)
+      ∙ least-same (isBlocked rest) (level stepped) (level rest) (λ d b. sym (level-kept d (blocked-other d b))) (itemsOf (p .size))
+
+  pub found-blocked : (d : Item) → leastBlocked rest ≡ some d → isBlocked rest d ≡ true
+  unfolding leastBlocked
+  found-blocked d e = least-passes (isBlocked rest) (level rest) (itemsOf (p .size)) d e
+
+  pub of-field : (b : Blocked) → Finds stepped b → OfField b
+  of-field Nothing e = tt
+  of-field (ALink i l) e = tt
+  of-field (AStay f) e =
+      let w = blocking rest (stay f) (found-blocked (stay f) (sym found-kept ∙ e)) .waits-now in
+      omega (arith, h .few, ltb-true f (p .size) (waits-force (p .size) (rest .links) (rest .setter) (stay f) w))
+
+  -- what is chosen, by its number as a setter, its outputs and covered fields: nothing, or an item
+  abbrev pub Choice : ℕ → ℕ → ℕ → Type 0
+  Choice number outputs covered =
+      ((leastBlocked rest ≡ none) × (outputs ≡ 0))
+      ⊎ (d : Item) × (leastBlocked rest ≡ some d) × (number ≡ numberOf d) × (outputs ≡ outputsOf (rest .links) d) × (covered ≡ coverOf (rest .links) d)
+
+  pub choice : (w : Chosen) (b : Blocked) → w ≡ chosenOf b → Finds stepped b → Choice (w .number) (w .outputs) (w .covered)
+  choice w b e finds = subst (λ (w : Chosen). Choice (w .number) (w .outputs) (w .covered)) (sym e) (go b finds)
+    where
+      go : (b : Blocked) → Finds stepped b → Choice (chosenOf b .number) (chosenOf b .outputs) (chosenOf b .covered)
+      go Nothing e = inl (sym found-kept ∙ e, refl)
+      go (ALink i l) (e, is) =
+          let found : leastBlocked rest ≡ some (link i) = sym found-kept ∙ e in
+          let same : l ≡ linkAt (rest .links) i =
+          is ∙ sym (link-there (p .links) id i noLink (λ d. blocked-other (link i) (found-blocked (link i) found) (ap link d))) in
+          inr (link i, found, refl, ap (λ (y : Link). y .outputs) same, ap (λ (y : Link). y .covered) same)
+      go (AStay f) e = inr (stay f, sym found-kept ∙ e, refl, refl, refl)

@@ -1,0 +1,264 @@
+-- What a removal decides: by its checks, by the link's standing, and by what is blocked then.
+use mathlib.Core.Path.{_≡_, refl, sym, ap, _∙_, subst}
+use mathlib.Core.Logic.{_≢_, _⊎_, inl, inr}
+use mathlib.Core.Bool.{Bool, true, false, not, cond}
+use mathlib.Core.List.{List}
+use mathlib.Core.Option.{some}
+use Prim.Native.Nat.{ℕ, zero, suc, _+_, _%_, _<_}
+use native.Mathlib.Nat.{mod-eq-of-lt}
+use native.Mathlib.Omega.{arith}
+use borrow.Author.Tests.{eqb-true, lt-ltb, ltb-true, ltb-false}
+use lib.Dec.{ltb}
+use lib.ListN.{length, set}
+use Rattle.fieldset.specs.Tables.{at}
+use Rattle.fieldset.specs.Fields.{member, below}
+use Rattle.fieldset.proofs.Numbers.{clash}
+use Rattle.fieldset.proofs.Fields.{member-empty, member-below, member-only}
+use Rattle.strength.specs.Strength.{greatest, strength}
+use Rattle.strength.specs.Filling.{Acyclic, Within}
+use Rattle.panel.specs.declared.Standing.{Standing}
+use Rattle.panel.specs.declared.Standing.the-variants.{Waiting, Holding}
+use Rattle.panel.specs.declared.Link.{Link}
+use Rattle.panel.specs.declared.Panel.{Panel}
+use Rattle.panel.specs.declared.Refusal.{Refusal}
+use Rattle.panel.specs.declared.Refusal.the-variants.{NotOpen, BadLink, NoSuchLink, Loop}
+use Rattle.panel.specs.declared.Reply.{Reply}
+use Rattle.panel.specs.declared.Reply.the-variants.{Accepted, Refused}
+use Rattle.panel.specs.declared.Step.{Step}
+use Rattle.panel.specs.Items.{Item, link, stay, noLink, linkAt, outputsOf, inForce}
+use Rattle.panel.specs.Answers.{refused}
+use Rattle.panel.specs.Panels.{withLink, freed, dropped}
+use Rattle.panel.specs.Solution.{isBlocked, leastBlocked}
+use Rattle.panel.specs.Steps.{settled, dropStep, removeStep}
+use Rattle.panel.specs.Commands.{checked, isOpen, removing, performed}
+use Rattle.panel.specs.Legal.{Legal}
+use Rattle.panel.specs.Outcomes.{unchanged, Decides}
+use Rattle.panel.proofs.Turn.{link-here, reversed-alike}
+use Rattle.panel.proofs.Legal.{Filled, LegalBut, used-small}
+use Rattle.panel.proofs.Setters.{outputs-inside, waits-force}
+use Rattle.panel.proofs.Reversal.{Blocking, blocking, legal-waits}
+use Rattle.panel.proofs.Checks.{Says}
+use Rattle.panel.proofs.Outcomes.{decides-unchanged}
+use Rattle.tables.specs.Tables.{Tabled, StrengthsOf}
+use Rattle.tables.proofs.Maps.{tableOf}
+use Rattle.tables.proofs.Tables.{greatest-same, panel-acyclic, panel-among, panel-strengths, all-strengths}
+use Rattle.reversal.specs.declared.Turn.{Turn}
+use Rattle.reversal.specs.declared.Turn.the-variants.{Free, Looped, Path}
+use Rattle.reversal.specs.Reversals.{Undecided, Decided, stepOf}
+use Rattle.reversal.proofs.ReadFields.{coverOf}
+use Rattle.reversal.proofs.Decision.{found-refused}
+use Rattle.reversal.proofs.Steps.{Change, decides-free, decides-path}
+use Rattle.removing.specs.Checks.{checkRemove}
+use Rattle.removing.proofs.Dropped.{sets-holds, field-small, Held, stepped, rest, dropped-rest, legal-rest, tabled-rest, strength-kept, found-blocked, Choice}
+
+-- ---- the checks
+
+module _ (p : Panel) (id : ℕ) where
+  -- the step is carried out
+  abbrev pub Passed : Type 0
+  Passed = (id < 128) × (performed p (removing id) ≡ removeStep p id)
+
+  says : (used : Bool) → (id < 128 → used ≡ linkAt (p .links) id .used) → Says p (removing id) Passed (checkRemove (p .size) id used)
+  unfolding checked
+  says used same = go (isOpen p) refl (ltb 127 id) refl used refl
+    where
+      go : (a : Bool) → isOpen p ≡ a → (b : Bool) → ltb 127 id ≡ b → (c : Bool) → used ≡ c
+          → Says p (removing id) Passed (cond (not a) (Refused NotOpen) (cond b (Refused BadLink) (cond (not c) (Refused NoSuchLink) (Accepted 0))))
+      go false e b f c u = rw e refl
+      go true e true f c u = rw (e, f) refl
+      go true e false f c u = known c u (omega (arith, ltb-false 127 id f))
+        where
+          known : (c : Bool) → used ≡ c → id < 128 → Says p (removing id) Passed (cond (not c) (Refused NoSuchLink) (Accepted 0))
+          known false u l = rw (e, f, sym (same l) ∙ u) refl
+          known true u l = (refl, (l, rw (e, f, sym (same l) ∙ u) refl))
+
+  module _ (old : Link) (same : old ≡ linkAt (p .links) (id % 128)) (reply : Reply) (checks : reply ≡ checkRemove (p .size) id (old .used)) where
+    said : Says p (removing id) Passed reply
+    said =
+        subst (Says p (removing id) Passed) (sym checks)
+        (says (old .used) (λ l. ap (λ (x : Link). x .used) same ∙ ap (λ (i : ℕ). linkAt (p .links) i .used) (mod-eq-of-lt l)))
+
+    pub remove-refused : (x : Refusal) (path : List ℕ) (s : Step) → reply ≡ Refused x → s ≡ unchanged (p .size) (p .place) old reply
+        → Decides p (id % 128) (removing id) path s
+    remove-refused x path s e is =
+        rw (is, e) (decides-unchanged p (id % 128) old (Refused x) same (removing id) path (refused p x) (sym (subst (Says p (removing id) Passed) e said)) refl refl)
+
+    pub remove-passes : (m : ℕ) → reply ≡ Accepted m → Passed
+    remove-passes m e = subst (Says p (removing id) Passed) e said .1
+
+-- ---- the change
+
+module _ (p : Panel) (h : Legal p) (id : ℕ) (small : id < 128) where
+  freed-parts : (q : Panel) (s : Standing) → (freed q s .size ≡ q .size) × (freed q s .links ≡ q .links)
+  freed-parts q Waiting = (refl, refl)
+  freed-parts q (Holding v) = (refl, refl)
+
+  pub change : (s : Standing) → linkAt (p .links) id .standing ≡ s → Change p id (p .size) (p .place) noLink s
+  change s is = record {
+    legal = h;
+    size = freed-parts (withLink p id noLink) s .0;
+    field = λ v e. field-small p h id v small (is ∙ e);
+    gone = λ v r e k vs c turned q.
+        let now : at (r .setter) v ≡ id = sym q ∙ h .holding-sets id v small (is ∙ e) in
+        clash (subst (λ (i : ℕ). linkAt (r .links) i .used ≡ true) now (k .setter-used v (field-small p h id v small (is ∙ e)) (omega arith)))
+        (ap (λ (x : Panel). linkAt (x .links) id .used) turned ∙ reversed-alike _ c vs id .used
+        ∙ ap (λ (x : List Link). linkAt x id .used) (freed-parts (withLink p id noLink) s .1)
+        ∙ ap (λ (l : Link). l .used) (link-here (p .links) id noLink (omega (arith, h .links-length))));
+    keeps = λ f l e. inr (sym is ∙ sets-holds p h id f small l e);
+  }
+
+  -- the link under the number
+  pub old-standing : (old : Link) → old ≡ linkAt (p .links) (id % 128) → linkAt (p .links) id .standing ≡ old .standing
+  old-standing old same = ap (λ (i : ℕ). linkAt (p .links) i .standing) (sym (mod-eq-of-lt small)) ∙ ap (λ (x : Link). x .standing) (sym same)
+
+  pub remove-waiting : (old l : Link) (path : List ℕ) (s : Step) → old ≡ linkAt (p .links) (id % 128) → l ≡ noLink → old .standing ≡ Waiting
+      → performed p (removing id) ≡ removeStep p id → s ≡ stepOf Free (p .size) (p .place) l (old .standing) 128 → Decides p (id % 128) (removing id) path s
+  unfolding removeStep dropped
+  remove-waiting old l path s same el w pass is =
+      let rests : linkAt (p .links) id .standing ≡ Waiting = old-standing old same ∙ w in
+      rw (is, w, el, mod-eq-of-lt small)
+      (decides-free p id (p .size) (p .place) noLink Waiting (change Waiting rests) (removing id) path 128
+      (pass ∙ ap (λ (t : Standing). dropStep p (freed (withLink p id noLink) t) t) rests))
+
+-- ---- a link that held v
+
+-- a set that has a member
+some-of : (m u : ℕ) → member m u ≡ true → 0 < m
+some-of zero u e = absurd (clash e (member-empty u))
+some-of (suc m) u e = omega arith
+
+-- what an item in force covers are fields of the panel
+cover-inside : (n : ℕ) (links : List Link) → Filled n links → (d : Item) → inForce n links d ≡ true → (u : ℕ) → u < 64
+    → member (coverOf links d) u ≡ true → u < n
+cover-inside n links h (link i) f u l e = h .good i (used-small links i (h .full) f) .formed f .inside u l e
+cover-inside n links h (stay g) f u l e = rw (eqb-true u g (sym (member-only g u l) ∙ e)) (ltb-true g n f)
+
+module _ {p : Panel} {id v : ℕ} {levels others reads : List ℕ} (x : Held p id v levels others reads) where
+  abbrev q : Panel
+  q = rest x
+
+  legal : Legal q
+  legal = legal-rest x
+
+  -- the tables, where the stay of v sets it
+  abbrev L : List ℕ
+  L = set levels v (16 + at (p .place) v)
+
+  abbrev O : List ℕ
+  O = set others v 0
+
+  abbrev R : List ℕ
+  R = set reads v 0
+
+  tabled : Tabled q L O R
+  tabled = tabled-rest x
+
+  pub rest-acyclic : Acyclic O (p .size)
+  rest-acyclic = panel-acyclic q legal L O R tabled
+
+  module _ (table before : List ℕ) (full : length before ≡ 64) (is : table ≡ tableOf (strength (at L) (at O) (p .size)) (p .size) before) where
+    pub stepped-strengths : StrengthsOf (stepped x) table
+    stepped-strengths f l =
+        panel-strengths q legal L O R tabled table before full is f l ∙ sym (strength-kept x f (omega (arith, x .legal .few)))
+
+    -- an item is blocked
+    module _ (d : Item) (found : leastBlocked q ≡ some d) where
+      blocked : isBlocked q d ≡ true
+      blocked = found-blocked x d found
+
+      block : Blocking q d
+      block = blocking q d blocked
+
+      but : LegalBut d q
+      but = legal-waits q d legal (block .waits-now)
+
+      force : inForce (q .size) (q .links) d ≡ true
+      force = waits-force (q .size) (q .links) (q .setter) d (block .waits-now)
+
+      some-output : 0 < outputsOf (q .links) d
+      some-output = some-of (outputsOf (q .links) d) (block .field) (block .output)
+
+      outputs-in : Within (outputsOf (q .links) d) (below (p .size))
+      outputs-in u l e = member-below (p .size) u l ∙ lt-ltb u (p .size) (outputs-inside (q .size) (q .links) (but .carrying .filled) d u force l e)
+
+      is-greatest : (s : ℕ) → s ≡ greatest (member (outputsOf (q .links) d)) (at table) 64
+          → s ≡ greatest (member (outputsOf (q .links) d)) (strength (at L) (at O) (p .size)) 64
+      is-greatest s top =
+          top ∙ greatest-same (outputsOf (q .links) d) (at table) (strength (at L) (at O) (p .size))
+          (λ u l e. all-strengths q legal L O R tabled table before full is .right u l (outputs-in u l e))
+
+    module _ (number outputs covered : ℕ) (choice : Choice x number outputs covered) where
+      pub undecided : (known s : ℕ) (path : List ℕ) → known ≡ below (p .size) → outputs ≢ 0 → s ≡ greatest (member outputs) (at table) 64 → length path ≡ 64
+          → Undecided L O table (p .size) known s outputs covered R path
+      undecided known s path ek ne top long = go choice
+        where
+          go : Choice x number outputs covered → Undecided L O table (p .size) known s outputs covered R path
+          go (inl (free, z)) = absurd (ne z)
+          go (inr (d, found, en, eo, ec)) = rw (ek, eo, ec) (record {
+            acyclic = rest-acyclic;
+            strengths = all-strengths q legal L O R tabled table before full is;
+            outputs-known = outputs-in d found;
+            some-output = some-output d found;
+            outputs-inside = outputs-in d found;
+            is-greatest = is-greatest d found s (rw eo at top);
+            among = panel-among q legal L O R tabled;
+            covered-inside = λ u l e.
+                member-below (p .size) u l ∙ lt-ltb u (p .size) (cover-inside (q .size) (q .links) (but d found .carrying .filled) d (force d found) u l e);
+            reads-length = tabled .reads-full;
+            path-length = long;
+          })
+
+      module _ (path : List ℕ) where
+        -- the turn that is decided, where something is blocked
+        abbrev pub Turned : Turn → Type 0
+        Turned t =
+            ((outputs ≢ 0) × (s : ℕ) × (s ≡ greatest (member outputs) (at table) 64) × Decided L O (p .size) s outputs covered R path t)
+            ⊎ ((outputs ≡ 0) × (t ≡ Free))
+
+        -- the step, or a refusal
+        abbrev Comes : Turn → Type 0
+        Comes Free = Decides p id (removing id) path (stepOf Free (p .size) (p .place) noLink (Holding v) number)
+        Comes Looped = performed p (removing id) ≡ refused p Loop
+        Comes (Path count m) = Decides p id (removing id) path (stepOf (Path count m) (p .size) (p .place) noLink (Holding v) number)
+
+        step : performed p (removing id) ≡ settled p q (leastBlocked q)
+        unfolding removeStep
+        step = x .step ∙ ap (dropStep p (dropped p id)) (x .holds) ∙ ap (λ (r : Panel). settled p r (leastBlocked r)) (dropped-rest x)
+
+        held : Change p id (p .size) (p .place) noLink (Holding v)
+        held = change p (x .legal) id (x .small) (Holding v) (x .holds)
+
+        comes : (t : Turn) → Turned t → Comes t
+        comes t turned = go choice t turned
+          where
+            go : Choice x number outputs covered → (t : Turn) → Turned t → Comes t
+            go (inl (free, z)) t (inl (ne, s, top, d)) = absurd (ne z)
+            go (inl (free, z)) t (inr (_, e)) =
+                subst Comes (sym e)
+                (decides-free p id (p .size) (p .place) noLink (Holding v) held (removing id) path number (step ∙ ap (settled p q) free))
+            go (inr (d, found, en, eo, ec)) t (inr (z, _)) = absurd (omega (arith, some-output d found, eo, z))
+            go (inr (d, found, en, eo, ec)) Free (inl (ne, s, top, never)) = absurd never
+            go (inr (d, found, en, eo, ec)) Looped (inl (ne, s, top, (count, f))) =
+                step ∙ ap (settled p q) found
+                ∙ found-refused q d (but d found .carrying) (legal .loopless) (force d found) L O R tabled (blocked d found) s count path true
+                (is-greatest d found s (rw eo at top)) (rw (eo, ec) at f) p refl
+            go (inr (d, found, en, eo, ec)) (Path count m) (inl (ne, s, top, (f, em))) =
+                rw en
+                (decides-path p id (p .size) (p .place) noLink (Holding v) held (removing id) path d (but d found .carrying) (legal .loopless) (force d found) L O R
+                tabled (blocked d found) s count m (is-greatest d found s (rw eo at top)) (rw (eo, ec) at f) em (step ∙ ap (settled p q) found))
+
+        -- the reply of a loop, and the step, whose parts are the code's
+        module _ (t : Turn) (turned : Turned t) (s : Step) where
+          pub remove-looped : (old : Link) → old ≡ linkAt (p .links) (id % 128) → t ≡ Looped → s ≡ unchanged (p .size) (p .place) old (Refused Loop)
+              → Decides p (id % 128) (removing id) path s
+          remove-looped old same e is =
+              rw is (decides-unchanged p (id % 128) old (Refused Loop) same (removing id) path (refused p Loop) (subst Comes e (comes t turned)) refl refl)
+
+          pub remove-turned : (l : Link) (u : ℕ) → l ≡ noLink → v ≡ u → t ≢ Looped → s ≡ stepOf t (p .size) (p .place) l (Holding u) number
+              → Decides p (id % 128) (removing id) path s
+          remove-turned l u el same ne is = rw (mod-eq-of-lt (x .small), is, el, ← same) (go t (comes t turned) ne)
+            where
+              go : (t : Turn) → Comes t → t ≢ Looped → Decides p id (removing id) path (stepOf t (p .size) (p .place) noLink (Holding v) number)
+              go Free d ne = d
+              go Looped d ne = absurd (ne refl)
+              go (Path count m) d ne = d
