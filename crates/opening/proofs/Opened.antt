@@ -6,6 +6,7 @@ use Prim.Native.Nat.{ℕ}
 use native.Mathlib.Omega.{arith}
 use borrow.Author.Tests.{ltb-false}
 use lib.Dec.{eqb, ltb}
+use lib.ListN.{length}
 use Rattle.panel.specs.declared.Link.{Link}
 use Rattle.panel.specs.declared.Panel.{Panel}
 use Rattle.panel.specs.declared.Refusal.{Refusal}
@@ -38,12 +39,12 @@ module _ (p : Panel) (n : ℕ) where
       go false e true f = rw (e, f) refl
       go false e false f = (refl, omega (arith, ltb-false 0 (p .size) e), rw (e, f) refl)
 
-  module _ (reply : Reply) (named : Link) (k : ℕ) (same : named ≡ linkAt (p .links) k) (path : List ℕ) (s : Step) (checks : reply ≡ checkOpen (p .size) n) where
+  module _ (reply : Reply) (named : Link) (k : ℕ) (same : named ≡ linkAt (p .links) k) (path : List ℕ) (long : length path ≡ 64) (s : Step) (checks : reply ≡ checkOpen (p .size) n) where
     pub open-refused : (r : Refusal) → reply ≡ Refused r → s ≡ unchanged (p .size) (p .place) named reply → Decides p k (opening n) path s
     open-refused r e is =
-        rw (is, e) (decides-unchanged p k named (Refused r) same (opening n) path (refused p r) (subst Says (sym checks ∙ e) says) refl refl)
+        rw (is, e) (decides-unchanged p k named (Refused r) same (opening n) path long (refused p r) (subst Says (sym checks ∙ e) says) refl refl)
 
     pub open-accepted : (m size : ℕ) → Legal p → reply ≡ Accepted m → size ≡ n → s ≡ unchanged size (p .place) named reply → Decides p k (opening n) path s
     open-accepted m size h e en is =
         let (z, closed, answer) = subst Says (sym checks ∙ e) says in
-        rw (is, e, en, z) (decides-size p k named (Accepted 0) same (opening n) path n (openStep n) answer (opened-size p h closed n) refl)
+        rw (is, e, en, z) (decides-size p k named (Accepted 0) same (opening n) path long n (openStep n) answer (opened-size p h closed n) refl)

@@ -11,6 +11,7 @@ use panel::unchanged;
 ghost use mathlib.Core.Path.{_≡_};
 ghost use Prim.Native.Nat.{ℕ};
 ghost use mathlib.Core.List.{List};
+ghost use lib.ListN.{length};
 ghost use Rattle.panel.specs.Items.{linkAt};
 ghost use Rattle.panel.specs.Panels.{opened};
 ghost use Rattle.panel.specs.Commands.{opening};
@@ -57,7 +58,7 @@ fn check_open(size: usize, n: u8) -> Reply
 // The contract rules out, for instance, a panel of another size and a refusal of 64 fields (must-fail: one_field_only, size_64_refused).
 pub fn open(p: Panel, named: Link, n: u8) -> Step
     requires { ⌜ Legal p ⌝ }
-    ensures { λ r. ⌜ ((k : ℕ) (path : List ℕ) → named ≡ linkAt (p .links) k → Decides p k (opening n) path r) ⌝ }
+    ensures { λ r. ⌜ ((k : ℕ) (path : List ℕ) → length path ≡ 64 → named ≡ linkAt (p .links) k → Decides p k (opening n) path r) ⌝ }
 {
     let size = p.size;
     let place = p.place;

@@ -6,6 +6,7 @@ use mathlib.Core.List.{List}
 use mathlib.Core.Logic.{inl}
 use native.Mathlib.Omega.{arith}
 use borrow.Author.Tests.{eq-eqb}
+use lib.ListN.{length}
 use lib.Seq.{set-getD}
 use Rattle.fieldset.specs.Tables.{at}
 use Rattle.fieldset.proofs.Fields.{member-empty}
@@ -46,34 +47,34 @@ module _ (p : Panel) (k : ℕ) (named : Link) (reply : Reply) (same : named ≡ 
   altered-size n = ap (λ (l : List Link). record { size = n; links = l; place = p .place; setter = p .setter }) (rw same (set-getD (p .links) k noLink))
 
   -- the panel with so many fields, and no other setter
-  pub takes-size : (path : List ℕ) (n : ℕ) (after : Panel) → record { size = n; links = p .links; place = p .place; setter = p .setter } ≡ after
+  pub takes-size : (path : List ℕ) → length path ≡ 64 → (n : ℕ) (after : Panel) → record { size = n; links = p .links; place = p .place; setter = p .setter } ≡ after
       → Takes p k path (unchanged n (p .place) named reply) after
-  takes-size path n after e =
+  takes-size path long n after e =
       let s = unchanged n (p .place) named reply in
       record {
         panel = taken-still p k s path refl refl refl ∙ altered-size n ∙ e;
         changed = λ f l. member-empty f ∙ sym (rw (← e) (ap not (eq-eqb (at (p .setter) f) (at (p .setter) f) refl)));
         still = λ z. (refl, refl, refl);
-        path-of = record { few = omega arith; fields = λ i l. absurd (omega arith) };
+        path-of = record { full = long; few = omega arith; fields = λ i l. absurd (omega arith) };
         freed-field = λ v e. absurd (holding-not-waiting e refl);
         keeps = λ f l e. inl same;
       }
 
-  pub decides-size : (c : Command) (path : List ℕ) (n : ℕ) (a : Answer) → performed p c ≡ a
+  pub decides-size : (c : Command) (path : List ℕ) → length path ≡ 64 → (n : ℕ) (a : Answer) → performed p c ≡ a
       → record { size = n; links = p .links; place = p .place; setter = p .setter } ≡ a .panel → replyBytes reply ≡ a .reply
       → Decides p k c path (unchanged n (p .place) named reply)
-  decides-size c path n a e panel answer = record {
-    takes = takes-size path n (performed p c .panel) (panel ∙ ap (λ (x : Answer). x .panel) (sym e));
+  decides-size c path long n a e panel answer = record {
+    takes = takes-size path long n (performed p c .panel) (panel ∙ ap (λ (x : Answer). x .panel) (sym e));
     reply = answer ∙ ap (λ (x : Answer). x .reply) (sym e);
   }
 
   -- the panel as it is
-  pub decides-unchanged : (c : Command) (path : List ℕ) (a : Answer) → performed p c ≡ a → p ≡ a .panel → replyBytes reply ≡ a .reply
+  pub decides-unchanged : (c : Command) (path : List ℕ) → length path ≡ 64 → (a : Answer) → performed p c ≡ a → p ≡ a .panel → replyBytes reply ≡ a .reply
       → Decides p k c path (unchanged (p .size) (p .place) named reply)
-  decides-unchanged c path a e panel answer = decides-size c path (p .size) a e panel answer
+  decides-unchanged c path long a e panel answer = decides-size c path long (p .size) a e panel answer
 
 -- a refusal
-pub decides-refused : (p : Panel) (k : ℕ) (named : Link) (reply : Reply) (c : Command) (path : List ℕ) (x : Refusal) (s : Step) → named ≡ linkAt (p .links) k → reply ≡ Refused x
+pub decides-refused : (p : Panel) (k : ℕ) (named : Link) (reply : Reply) (c : Command) (path : List ℕ) → length path ≡ 64 → (x : Refusal) (s : Step) → named ≡ linkAt (p .links) k → reply ≡ Refused x
     → refused p x ≡ performed p c → s ≡ unchanged (p .size) (p .place) named reply → Decides p k c path s
-decides-refused p k named reply c path x s same is e eq =
-    rw eq (decides-unchanged p k named reply same c path (refused p x) (sym e) refl (ap replyBytes is))
+decides-refused p k named reply c path long x s same is e eq =
+    rw eq (decides-unchanged p k named reply same c path long (refused p x) (sym e) refl (ap replyBytes is))

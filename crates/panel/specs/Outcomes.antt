@@ -5,7 +5,7 @@ use mathlib.Core.Bool.{not}
 use mathlib.Core.Logic.{_⊎_}
 use mathlib.Core.List.{List}
 use lib.Dec.{eqb}
-use lib.ListN.{take, drop, set}
+use lib.ListN.{length, take, drop, set}
 use lib.Seq.{sets}
 use Rattle.fieldset.specs.Tables.{at}
 use Rattle.fieldset.specs.Fields.{member}
@@ -33,8 +33,9 @@ altered p k s = record { size = s .size; links = set (p .links) k (s .link); pla
 unfoldable pub taken : Panel → ℕ → Step → List ℕ → Panel
 taken p k s path = reversed (freed (altered p k s) (s .freed)) (itemOf (s .setter) (at path 0)) (take (s .count) path)
 
--- a path of so many fields stands at the start of a buffer
+-- a path of so many fields stands at the start of a buffer of 64
 pub record PathOf (path : List ℕ) (count : ℕ) : Type 0 where
+  pub full : length path ≡ 64
   pub few : count ≤ 64
   pub fields : (i : ℕ) → i < count → at path i < 64
 

@@ -78,10 +78,10 @@ module _ (p : Panel) (id : ℕ) where
         subst (Says p (removing id) Passed) (sym checks)
         (says (old .used) (λ l. ap (λ (x : Link). x .used) same ∙ ap (λ (i : ℕ). linkAt (p .links) i .used) (mod-eq-of-lt l)))
 
-    pub remove-refused : (x : Refusal) (path : List ℕ) (s : Step) → reply ≡ Refused x → s ≡ unchanged (p .size) (p .place) old reply
+    pub remove-refused : (x : Refusal) (path : List ℕ) (s : Step) → length path ≡ 64 → reply ≡ Refused x → s ≡ unchanged (p .size) (p .place) old reply
         → Decides p (id % 128) (removing id) path s
-    remove-refused x path s e is =
-        rw (is, e) (decides-unchanged p (id % 128) old (Refused x) same (removing id) path (refused p x) (sym (subst (Says p (removing id) Passed) e said)) refl refl)
+    remove-refused x path s long e is =
+        rw (is, e) (decides-unchanged p (id % 128) old (Refused x) same (removing id) path long (refused p x) (sym (subst (Says p (removing id) Passed) e said)) refl refl)
 
     pub remove-passes : (m : ℕ) → reply ≡ Accepted m → Passed
     remove-passes m e = subst (Says p (removing id) Passed) e said .1
@@ -111,13 +111,13 @@ module _ (p : Panel) (h : Legal p) (id : ℕ) (small : id < 128) where
   pub old-standing : (old : Link) → old ≡ linkAt (p .links) (id % 128) → linkAt (p .links) id .standing ≡ old .standing
   old-standing old same = ap (λ (i : ℕ). linkAt (p .links) i .standing) (sym (mod-eq-of-lt small)) ∙ ap (λ (x : Link). x .standing) (sym same)
 
-  pub remove-waiting : (old l : Link) (path : List ℕ) (s : Step) → old ≡ linkAt (p .links) (id % 128) → l ≡ noLink → old .standing ≡ Waiting
+  pub remove-waiting : (old l : Link) (path : List ℕ) (s : Step) → length path ≡ 64 → old ≡ linkAt (p .links) (id % 128) → l ≡ noLink → old .standing ≡ Waiting
       → performed p (removing id) ≡ removeStep p id → s ≡ stepOf Free (p .size) (p .place) l (old .standing) 128 → Decides p (id % 128) (removing id) path s
   unfolding removeStep dropped
-  remove-waiting old l path s same el w pass is =
+  remove-waiting old l path s long same el w pass is =
       let rests : linkAt (p .links) id .standing ≡ Waiting = old-standing old same ∙ w in
       rw (is, w, el, mod-eq-of-lt small)
-      (decides-free p id (p .size) (p .place) noLink Waiting (change Waiting rests) (removing id) path 128
+      (decides-free p id (p .size) (p .place) noLink Waiting (change Waiting rests) (removing id) path long 128
       (pass ∙ ap (λ (t : Standing). dropStep p (freed (withLink p id noLink) t) t) rests))
 
 -- ---- a link that held v
@@ -213,12 +213,12 @@ module _ {p : Panel} {id v : ℕ} {levels others reads : List ℕ} (x : Held p i
         abbrev pub Turned : Turn → Type 0
         Turned t =
             ((outputs ≢ 0) × (s : ℕ) × (s ≡ greatest (member outputs) (at table) 64) × Decided L O (p .size) s outputs covered R path t)
-            ⊎ ((outputs ≡ 0) × (t ≡ Free))
+            ⊎ ((outputs ≡ 0) × (t ≡ Free) × (length path ≡ 64))
 
         -- the step, or a refusal
         abbrev Comes : Turn → Type 0
         Comes Free = Decides p id (removing id) path (stepOf Free (p .size) (p .place) noLink (Holding v) number)
-        Comes Looped = performed p (removing id) ≡ refused p Loop
+        Comes Looped = (performed p (removing id) ≡ refused p Loop) × (length path ≡ 64)
         Comes (Path count m) = Decides p id (removing id) path (stepOf (Path count m) (p .size) (p .place) noLink (Holding v) number)
 
         step : performed p (removing id) ≡ settled p q (leastBlocked q)
@@ -233,15 +233,15 @@ module _ {p : Panel} {id v : ℕ} {levels others reads : List ℕ} (x : Held p i
           where
             go : Choice x number outputs covered → (t : Turn) → Turned t → Comes t
             go (inl (free, z)) t (inl (ne, s, top, d)) = absurd (ne z)
-            go (inl (free, z)) t (inr (_, e)) =
+            go (inl (free, z)) t (inr (_, e, long)) =
                 subst Comes (sym e)
-                (decides-free p id (p .size) (p .place) noLink (Holding v) held (removing id) path number (step ∙ ap (settled p q) free))
-            go (inr (d, found, en, eo, ec)) t (inr (z, _)) = absurd (omega (arith, some-output d found, eo, z))
+                (decides-free p id (p .size) (p .place) noLink (Holding v) held (removing id) path long number (step ∙ ap (settled p q) free))
+            go (inr (d, found, en, eo, ec)) t (inr (z, _, _)) = absurd (omega (arith, some-output d found, eo, z))
             go (inr (d, found, en, eo, ec)) Free (inl (ne, s, top, never)) = absurd never
             go (inr (d, found, en, eo, ec)) Looped (inl (ne, s, top, (count, f))) =
-                step ∙ ap (settled p q) found
+                (step ∙ ap (settled p q) found
                 ∙ found-refused q d (but d found .carrying) (legal .loopless) (force d found) L O R tabled (blocked d found) s count path true
-                (is-greatest d found s (rw eo at top)) (rw (eo, ec) at f) p refl
+                (is-greatest d found s (rw eo at top)) (rw (eo, ec) at f) p refl, f .fields .full)
             go (inr (d, found, en, eo, ec)) (Path count m) (inl (ne, s, top, (f, em))) =
                 rw en
                 (decides-path p id (p .size) (p .place) noLink (Holding v) held (removing id) path d (but d found .carrying) (legal .loopless) (force d found) L O R
@@ -252,7 +252,8 @@ module _ {p : Panel} {id v : ℕ} {levels others reads : List ℕ} (x : Held p i
           pub remove-looped : (old : Link) → old ≡ linkAt (p .links) (id % 128) → t ≡ Looped → s ≡ unchanged (p .size) (p .place) old (Refused Loop)
               → Decides p (id % 128) (removing id) path s
           remove-looped old same e is =
-              rw is (decides-unchanged p (id % 128) old (Refused Loop) same (removing id) path (refused p Loop) (subst Comes e (comes t turned)) refl refl)
+              let (loops, long) = subst Comes e (comes t turned) in
+              rw is (decides-unchanged p (id % 128) old (Refused Loop) same (removing id) path long (refused p Loop) loops refl refl)
 
           pub remove-turned : (l : Link) (u : ℕ) → l ≡ noLink → v ≡ u → t ≢ Looped → s ≡ stepOf t (p .size) (p .place) l (Holding u) number
               → Decides p (id % 128) (removing id) path s

@@ -55,8 +55,15 @@ module _ (levels others table : List ℕ) (n known s outputs covered : ℕ) (rea
       fields-taken : take count path₁ ≡ w .fields
       fields-taken = rw (w .stored) (take-at (w .fields) (drop (length (w .fields)) path₀) count (sym (w .counted)))
 
+      -- the buffer keeps its length
+      pub after-length : length path₁ ≡ 64
+      after-length =
+          ap length (w .stored)
+          ∙ simp (length-append, length-drop) (omega (arith, is-reversible .short, u .acyclic .few, u .path-length))
+
       pub path-of : PathOf path₁ count
       path-of = record {
+        full = after-length;
         few = omega (arith, w .counted, is-reversible .short, u .acyclic .few);
         fields = λ i l.
             let k : i < length (w .fields) = omega (arith, w .counted) in
@@ -66,12 +73,6 @@ module _ (levels others table : List ℕ) (n known s outputs covered : ℕ) (rea
             omega (arith, u .acyclic .few);
       }
 
-      -- the buffer keeps its length
-      pub after-length : length path₁ ≡ 64
-      after-length =
-          ap length (w .stored)
-          ∙ simp (length-append, length-drop) (omega (arith, is-reversible .short, u .acyclic .few, u .path-length))
-
       pub after-among : Among (reversedReads reads covered (take count path₁)) n
       after-among =
           rw fields-taken (among-reversed n (w .fields) reads covered (u .reads-length) (u .among) (u .covered-inside) (is-reversible .inside))
@@ -80,7 +81,6 @@ module _ (levels others table : List ℕ) (n known s outputs covered : ℕ) (rea
           → Found levels others n s outputs covered reads path₁ count looped
       decided reads₁ looped rs lp = record {
         fields = path-of;
-        full = after-length;
         is-path =
             fields-taken ∙ w .is-path
             ∙ ap (λ (x : ℕ). path (at levels) (at others) (strength (at levels) (at others) n) x n v) (tie .strong)

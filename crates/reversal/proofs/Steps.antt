@@ -139,12 +139,12 @@ module _ (p : Panel) (k n : ℕ) (place : List ℕ) (l : Link) (held : Standing)
       }
 
     -- nothing is reversed
-    pub decides-free : (c : ℕ) → performed p cmd ≡ accepted p after → Decides p k cmd path (stepOf Free n place l held c)
+    pub decides-free : length path ≡ 64 → (c : ℕ) → performed p cmd ≡ accepted p after → Decides p k cmd path (stepOf Free n place l held c)
     unfolding reversed anyOf
-    decides-free c accept =
+    decides-free long c accept =
         decides-turn Free c [] (stay 0) after refl refl (sym (fields-none []))
         (λ f. sym (ap not (eq-eqb (at (after .setter) f) (at (after .setter) f) refl))) accept
-        (record { few = omega arith; fields = λ i l. absurd (omega arith) }) (λ z. (refl, refl)) refl
+        (record { full = long; few = omega arith; fields = λ i l. absurd (omega arith) }) (λ z. (refl, refl)) refl
 
     module _ (d : Item) (h : Carrying d after) (loopless : isLooped after ≡ false) (force : inForce (after .size) (after .links) d ≡ true)
         (levels others reads : List ℕ) (tabled : Tabled after levels others reads) where
@@ -183,7 +183,7 @@ module _ (p : Panel) (k n : ℕ) (place : List ℕ) (l : Link) (held : Standing)
             ∙ rw (lev-is, outs-are) refl
 
         pub resolved-free : Resolved levels others (after .size) lev outs cover reads path Free → isBlocked after d ≡ false
-        resolved-free e = blocked-is ∙ e
+        resolved-free e = blocked-is ∙ e .0
 
         pub resolved-loop : Resolved levels others (after .size) lev outs cover reads path Looped → (isBlocked after d ≡ true → performed p cmd ≡ turned p after d)
             → performed p cmd ≡ refused p Loop
@@ -195,7 +195,7 @@ module _ (p : Panel) (k n : ℕ) (place : List ℕ) (l : Link) (held : Standing)
         pub resolved-step : (t : Turn) → t ≢ Looped → Resolved levels others (after .size) lev outs cover reads path t
             → (t ≡ Free → isBlocked after d ≡ false → performed p cmd ≡ accepted p after) → (isBlocked after d ≡ true → performed p cmd ≡ turned p after d)
             → Decides p k cmd path (stepOf t n place l held (numberOf d))
-        resolved-step Free ne e free step = decides-free (numberOf d) (free refl (resolved-free e))
+        resolved-step Free ne e free step = decides-free (e .1) (numberOf d) (free refl (resolved-free e))
         resolved-step Looped ne e free step = absurd (ne refl)
         resolved-step (Path count m) ne (e, f) free step =
             let b : isBlocked after d ≡ true = blocked-is ∙ e in

@@ -48,7 +48,6 @@ pub record Undecided (levels others table : List ℕ) (n known s outputs covered
 -- What stands behind the path is free.
 pub record Found (levels others : List ℕ) (n s outputs covered : ℕ) (reads after : List ℕ) (count : ℕ) (looped : Bool) : Type 0 where
   pub fields : PathOf after count
-  pub full : length after ≡ 64
   pub is-path :
       take count after
       ≡ path (at levels) (at others) (strength (at levels) (at others) n) s n (lowestAt (strength (at levels) (at others) n) s outputs)
@@ -74,7 +73,7 @@ pub record Unresolved (others : List ℕ) (n outputs covered : ℕ) (reads path 
 -- whether it is blocked, and what is then decided
 abbrev pub Resolved : List ℕ → List ℕ → ℕ → ℕ → ℕ → ℕ → List ℕ → List ℕ → Turn → Type 0
 Resolved levels others n level outputs covered reads after Free =
-    ltb level (greatest (member outputs) (strength (at levels) (at others) n) 64) ≡ false
+    (ltb level (greatest (member outputs) (strength (at levels) (at others) n) 64) ≡ false) × (length after ≡ 64)
 Resolved levels others n level outputs covered reads after Looped =
     let s = greatest (member outputs) (strength (at levels) (at others) n) 64 in
     (ltb level s ≡ true) × Decided levels others n s outputs covered reads after Looped

@@ -29,7 +29,7 @@ pub enum Turn {
 
 // The read fields after a path is reversed: `covered` are the covered fields of what sets its first field.
 fn reverse_reads(reads: &mut [u64; 64], covered: u64, path: &[u8; 64], count: usize)
-    requires { ⌜ PathOf (now path) count × (length (now path) ≡ 64) × (length (now reads) ≡ 64) ⌝ }
+    requires { ⌜ PathOf (now path) count × (length (now reads) ≡ 64) ⌝ }
     ensures { λ r. ⌜ now (reads .exit) ≡ reversedReads (now (reads .entry)) covered (take count (now (path .entry))) ⌝ }
 {
     let mut cover = covered;
@@ -45,7 +45,7 @@ fn reverse_reads(reads: &mut [u64; 64], covered: u64, path: &[u8; 64], count: us
 
 // The set of a path's fields.
 fn path_fields(path: &[u8; 64], count: usize) -> u64
-    requires { ⌜ PathOf (now path) count × (length (now path) ≡ 64) ⌝ }
+    requires { ⌜ PathOf (now path) count ⌝ }
     ensures { λ r. ⌜ r ≡ fieldsOf (take count (now (path .entry))) ⌝ }
 {
     let mut set = 0u64;

@@ -52,7 +52,7 @@ pub fn reverse(
     others: &mut [u64; 64],
     reads: &mut [u64; 64],
 ) -> Panel
-    requires { ⌜ PathOf (now path) count × (length (now path) ≡ 64) × Places (p .place) × TabledBut p held (now levels) (now others) (now reads) ⌝ }
+    requires { ⌜ PathOf (now path) count × Places (p .place) × TabledBut p held (now levels) (now others) (now reads) ⌝ }
     ensures { λ r. ⌜ (r ≡ reversed (freed p held) (itemOf setter (at (now (path .entry)) 0)) (take count (now (path .entry)))) × Tabled r (now (levels .exit)) (now (others .exit)) (now (reads .exit)) ⌝ }
 {
     if let Standing::Holding(v) = held {

@@ -1,10 +1,12 @@
 -- What document 01's panel answers one line: the step of its command, and what the line does once the step is taken. Assumes nothing.
 use mathlib.Core.Path.{_≡_, refl, sym, ap, ap₂, _∙_, subst}
+use mathlib.Core.Logic.{_⊎_, ⊎-elim}
 use mathlib.Core.List.{List, [], _∷_, _++_, append-nil}
 use Prim.Native.Nat.{ℕ, _+_, _-_, _≤_}
 use native.Mathlib.Omega.{arith}
 use lib.ListN.{length, getD, take, drop, length-take, length-drop, take-append-drop}
 use lib.Seq.{sets-eq, length-sets, take-at, take-all}
+use denote.Enum.Declared.{tagOf}
 use Rattle.panel.specs.declared.Link.{Link}
 use Rattle.panel.specs.declared.Panel.{Panel}
 use Rattle.panel.specs.declared.Refusal.{Refusal}
@@ -14,7 +16,7 @@ use Rattle.panel.specs.declared.Step.{Step}
 use Rattle.panel.specs.Items.{linkAt}
 use Rattle.panel.specs.Answers.{replyBytes, planRest}
 use Rattle.panel.specs.Commands as panel
-use Rattle.panel.specs.Commands.{performed, planning}
+use Rattle.panel.specs.Commands.{opening, adding, removing, touching, planning, performed}
 use Rattle.panel.specs.Outcomes.{unchanged, Takes, Decides, Plans}
 use Rattle.panel.specs.Legal.{Legal}
 use Rattle.panel.proofs.Outcomes.{takes-size}
@@ -25,6 +27,7 @@ use Rattle.hex.proofs.Bytes.{length-line}
 use Rattle.frames.specs.declared.Command.{Command}
 use Rattle.frames.specs.declared.Command.the-variants.{Open, Add, Remove, Touch, Plan, Refused}
 use Rattle.frames.specs.declared.Line.{Line}
+use Rattle.frames.proofs.Command.{the-type}
 use Rattle.frames.specs.Texts.{Answered}
 use Rattle.frames.specs.Frames.{frameOf, commandBytes, commandOf, answerTo, answered, commandAnswer, lineAnswer}
 use Rattle.frames.specs.Reading.{LineRead}
@@ -46,16 +49,27 @@ line-answer q line k fields read = go k ∙ ap (λ (x : List ℕ). answered q x 
   go (Refused r) = refl
 
 pub answer-legal : (q : Panel) (k : Command) (fields : List ℕ) → Legal q → Legal (commandAnswer q k fields .state)
-answer-legal q (Open n) fields h = legal-performed q _ h
-answer-legal q (Add id level) fields h = legal-performed q _ h
-answer-legal q (Remove id) fields h = legal-performed q _ h
-answer-legal q (Touch f) fields h = legal-performed q _ h
-answer-legal q Plan fields h = legal-performed q _ h
+answer-legal q (Open n) fields h = legal-performed q (opening n) h
+answer-legal q (Add id level) fields h = legal-performed q (adding id level fields) h
+answer-legal q (Remove id) fields h = legal-performed q (removing id) h
+answer-legal q (Touch f) fields h = legal-performed q (touching f) h
+answer-legal q Plan fields h = legal-performed q planning h
 answer-legal q (Refused r) fields h = h
+
+-- a command that is no plan, by its tag
+pub no-rest : (c : Command) (r : Reply)
+    → (tagOf the-type c ≡ 0) ⊎ ((tagOf the-type c ≡ 1) ⊎ ((tagOf the-type c ≡ 2) ⊎ ((tagOf the-type c ≡ 3) ⊎ (tagOf the-type c ≡ 5)))) → restOf c r ≡ 0
+no-rest (Open n) r h = refl
+no-rest (Add id level) r h = refl
+no-rest (Remove id) r h = refl
+no-rest (Touch f) r h = refl
+no-rest Plan r h =
+    absurd (⊎-elim (λ e. omega arith) (⊎-elim (λ e. omega arith) (⊎-elim (λ e. omega arith) (⊎-elim (λ e. omega arith) (λ e. omega arith)))) h)
+no-rest (Refused x) r h = refl
 
 -- ---- the arms
 
-module _ (p : Panel) (k : ℕ) (fields path rows : List ℕ) (long : length path ≡ 64) where
+module _ (p : Panel) (k : ℕ) (fields path rows : List ℕ) where
   -- a command that the panel performs, and whose reply has no rows
   pub performed-step : length rows ≡ rowsLength → (command : Command) (c : panel.Command) (s : Step) → commandAnswer p command fields ≡ answerTo (performed p c)
       → restOf command (s .reply) ≡ 0 → Decides p k c path s → LineStep p k command fields path rows s
@@ -64,17 +78,15 @@ module _ (p : Panel) (k : ℕ) (fields path rows : List ℕ) (long : length path
     reply = rw z (append-nil (replyBytes (s .reply))) ∙ d .reply ∙ ap (λ (a : Answered Panel). a .reply) (sym e);
     rest = omega arith;
     rows-full = full;
-    path-full = long;
   }
 
-  module _ (named : Link) (same : named ≡ linkAt (p .links) k) where
+  module _ (long : length path ≡ 64) (named : Link) (same : named ≡ linkAt (p .links) k) where
     pub refused-step : length rows ≡ rowsLength → (x : Refusal) → LineStep p k (Refused x) fields path rows (unchanged (p .size) (p .place) named (Refusing x))
     refused-step full x = record {
-      takes = takes-size p k named (Refusing x) same path (p .size) p refl;
+      takes = takes-size p k named (Refusing x) same path long (p .size) p refl;
       reply = append-nil (replyBytes (Refusing x));
       rest = omega arith;
       rows-full = full;
-      path-full = long;
     }
 
     pub plan-step : Legal p → (r : Reply) (before : List ℕ) → length before ≡ rowsLength → Plans p r before rows
@@ -84,14 +96,13 @@ module _ (p : Panel) (k : ℕ) (fields path rows : List ℕ) (long : length path
         let many : length (drop 2 whole) ≡ planRest r = plan-length p h ∙ sym (plan-rest p r h (g .reply)) in
         let fits : 0 + length (drop 2 whole) ≤ length before = omega (arith, plan-length p h, h .few) in
         record {
-          takes = takes-size p k named r same path (p .size) (performed p planning .panel) (sym (plan-keeps p));
+          takes = takes-size p k named r same path long (p .size) (performed p planning .panel) (sym (plan-keeps p));
           reply =
               ap₂ (λ (a : List ℕ) (b : List ℕ). a ++ b) (g .reply)
               (ap (take (planRest r)) (g .rows ∙ sets-eq (drop 2 whole) before 0 fits) ∙ take-at (drop 2 whole) (drop (0 + length (drop 2 whole)) before) (planRest r) many)
               ∙ take-append-drop 2 whole;
           rest = omega (arith, plan-rest p r h (g .reply), h .few);
           rows-full = ap length (g .rows) ∙ simp length-sets size;
-          path-full = long;
         }
 
 -- ---- what the line does; its reply is two bytes and the rows
@@ -117,8 +128,9 @@ did q line c fields read k path rows s d p ep h count ec b is two =
     }
 
 -- a tail that goes to the end: the field bytes of an add
-pub tail : (n : ℕ) (b : List ℕ) → take (length b - n) (drop n b) ≡ drop n b
-tail n b = take-all (length b - n) (drop n b) (omega (arith, length-drop n b))
+pub add-tail : (p : Panel) (k id level : ℕ) (b path : List ℕ) (s : Step) → Decides p k (adding id level (take (length b - 3) (drop 3 b))) path s
+    → Decides p k (adding id level (drop 3 b)) path s
+add-tail p k id level b path s d = rw (take-all (length b - 3) (drop 3 b) (omega (arith, length-drop 3 b))) at d
 
 pub framed : (s : List ℕ) (r : Line) → LineRead s r → Framed r
 framed s r h = record { short = h .short; full = h .full; reaches = λ id level e. add-reaches s r id level h e }

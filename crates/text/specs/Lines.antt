@@ -46,7 +46,6 @@ pub record LineStep (p : Panel) (k : ℕ) (command : Command) (fields path rows 
   pub reply : replyBytes (s .reply) ++ take (restOf command (s .reply)) rows ≡ commandAnswer p command fields .reply
   pub rest : restOf command (s .reply) ≤ rowsLength
   pub rows-full : length rows ≡ rowsLength
-  pub path-full : length path ≡ 64
 
 -- the step of a line but for a removal, for which it leaves the panel as it is
 abbrev pub Decided : Panel → ℕ → Link → List ℕ → List ℕ → List ℕ → Step → Command → Type 0

@@ -158,8 +158,9 @@ fn answer_lines(
         q.place = place;
         q.links[k] = link;
         stay_levels(&mut levels, &setter, &place);
+        let freed = step.freed;
         if step.changed != 0 {
-            q = reverse(q, step.freed, step.setter, &path, step.count, &mut levels, &mut others, &mut reads);
+            q = reverse(q, freed, step.setter, &path, step.count, &mut levels, &mut others, &mut reads);
         }
         let reply = step.reply;
         let count = rest_of(command, reply);

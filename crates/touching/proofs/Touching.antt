@@ -175,9 +175,9 @@ module _ (p : Panel) (h : Legal p) (f : ℕ) (t : Touchable p f) (place : List �
             (front-as (λ q. isBlocked q (stay f) ≡ true → performed p (touching f) ≡ turned p q (stay f)) touch-turns)
 
   -- a stay that sets its field
-  pub touch-idle : 128 ≤ at (p .setter) f → (path : List ℕ) (k : ℕ) (named : Link) → named ≡ linkAt (p .links) k
+  pub touch-idle : 128 ≤ at (p .setter) f → (path : List ℕ) → length path ≡ 64 → (k : ℕ) (named : Link) → named ≡ linkAt (p .links) k
       → Decides p k (touching f) path (stepOf Free (p .size) place named Waiting 128)
-  touch-idle high path k named same =
-      decides-free p k (p .size) place named Waiting (unmoved p h k named same place) (touching f) path 128
+  touch-idle high path long k named same =
+      decides-free p k (p .size) place named Waiting (unmoved p h k named same place) (touching f) path long 128
       (subst (λ (l : List Link). performed p (touching f) ≡ accepted p (record { size = p .size; links = l; place = place; setter = p .setter }))
       (sym (kept p k named same)) (touch-free (front-idle high)))

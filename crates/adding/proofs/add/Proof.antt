@@ -71,7 +71,7 @@ returns : tie.Need-returns
 returns c =
     let e = c .before .before in
     let k = e .before .before in
-    decides-refused _ _ _ _ (cmd-of k) _ _ _ (s-of k .pre .2) (e .enum-told .given .1) (subst (Says _ (cmd-of k) (passed-of k)) (e .enum-told .given .1) (says-of k)) (c .unchanged .ensures)
+    decides-refused _ _ _ _ (cmd-of k) _ (s-of k .pre .3) _ _ (s-of k .pre .2) (e .enum-told .given .1) (subst (Says _ (cmd-of k) (passed-of k)) (e .enum-told .given .1) (says-of k)) (c .unchanged .ensures)
 
 enum-told-2 : tie.Need-enum-told-2
 enum-told-2 c = search needs
@@ -93,9 +93,9 @@ returns-2 c =
     let e = c .before .before in
     let r = e .before .before in
     let k = k-of r in
-    decides-refused _ _ _ _ (cmd-of k) _ Loop _ (s-of k .pre .2) refl
-    (add-loop _ _ _ _ _ (passed (r .before .before) .enterable) (s-of k .pre .1) (cmd-of k) _ (passed (r .before .before) .step)
-    (subst (Resolved _ _ _ _ _ _ _ _) (e .enum-told3 .given .1) (r .resolve .ensures)))
+    let l = subst (Resolved _ _ _ _ _ _ _ (path-of r)) (e .enum-told3 .given .1) (r .resolve .ensures) in
+    decides-refused _ _ _ _ (cmd-of k) (path-of r) (l .1 .1 .fields .full) Loop _ (s-of k .pre .2) refl
+    (add-loop _ _ _ _ _ (passed (r .before .before) .enterable) (s-of k .pre .1) (cmd-of k) (path-of r) (passed (r .before .before) .step) l)
     (c .unchanged2 .ensures)
 
 enum-told-4 : tie.Need-enum-told-4
@@ -110,9 +110,9 @@ returns-3 c =
     let z = e .before .before in
     let r = z .before .before in
     let k = k-of r in
-    decides-refused _ _ _ _ (cmd-of k) _ Conflict _ (s-of k .pre .2) refl
-    (add-conflict _ _ _ _ _ (passed (r .before .before) .enterable) (s-of k .pre .1) (cmd-of k) (path-of r) (passed (r .before .before) .step) (z .if1 .taken)
-    (subst (Resolved _ _ _ _ _ _ _ _) (e .enum-told4 .given .1) (r .resolve .ensures)))
+    let l = subst (Resolved _ _ _ _ _ _ _ (path-of r)) (e .enum-told4 .given .1) (r .resolve .ensures) in
+    decides-refused _ _ _ _ (cmd-of k) (path-of r) (l .1) Conflict _ (s-of k .pre .2) refl
+    (add-conflict _ _ _ _ _ (passed (r .before .before) .enterable) (s-of k .pre .1) (cmd-of k) (path-of r) (passed (r .before .before) .step) (z .if1 .taken) l)
     (c .unchanged3 .ensures)
 
 waiting-link-requires : tie.Need-waiting-link-requires

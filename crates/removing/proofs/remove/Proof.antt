@@ -1,5 +1,6 @@
 -- `removing::remove` meets its contract.
 use mathlib.Core.Path.{refl, sym, ap, _∙_, subst}
+use lib.ListN.{length}
 use mathlib.Core.Logic.{⊎-elim, inl, inr}
 use native.Mathlib.Omega.{arith}
 use borrow.Author.Needs.{needs}
@@ -54,7 +55,7 @@ turned : (c : tie.Joined1) → let k = c .before in let b = k .before .choose .r
     Turned (held (stay-in (scan k))) _ _ refl (scan k .strengths .ensures) (b .number) (b .outputs) (b .covered) (chosen k) (c .if1 .path) (c .if1 .turn)
 turned c =
     ⊎-elim (λ w. inl (w .0 .taken, w .2 .result, w .2 .ensures, rw (w .10, w .11) (w .9 .ensures)))
-    (λ w. inr (w .0 .left, w .2))
+    (λ w. inr (w .0 .left, w .2, ap length (w .1) ∙ begin (stay-in (scan (c .before))) .pre .3))
     (c .if1 .came)
 
 -- ---- the needs
@@ -73,7 +74,7 @@ returns c =
     let t = c .before .before in
     let r = t .before .before in
     let s = r .before .before in
-    remove-refused (s .args .p) (s .args .id) _ (s .pre .2) _ (r .check-remove .ensures) _ _ _ (t .enum-told .given .1) (c .unchanged .ensures)
+    remove-refused (s .args .p) (s .args .id) _ (s .pre .2) _ (r .check-remove .ensures) _ _ _ (s .pre .3) (t .enum-told .given .1) (c .unchanged .ensures)
 
 enum-told-2 : tie.Need-enum-told-2
 enum-told-2 c = search needs
@@ -97,7 +98,7 @@ returns-2 c =
     let t = c .before .before .before in
     let e = t .before .before in
     let s = start e in
-    remove-waiting (s .args .p) (s .pre .0) (s .args .id) (passed e .0) _ _ _ _ (s .pre .2) (c .before .no-link .ensures) (t .enum-told3 .given .1) (passed e .1) (c .step-of .ensures)
+    remove-waiting (s .args .p) (s .pre .0) (s .args .id) (passed e .0) _ _ _ _ (s .pre .3) (s .pre .2) (c .before .no-link .ensures) (t .enum-told3 .given .1) (passed e .1) (c .step-of .ensures)
 
 wide-requires : tie.Need-wide-requires
 wide-requires c κs = search needs

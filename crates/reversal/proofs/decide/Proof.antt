@@ -1,7 +1,7 @@
 -- `reversal::decide` meets its contract.
 use mathlib.Core.Path.{sym, _∙_}
 use borrow.Author.Needs.{needs}
-use Rattle.reversal.proofs.Deciding.{start-small, start-known, path-of, after-length, after-among, decided}
+use Rattle.reversal.proofs.Deciding.{start-small, start-known, path-of, after-among, decided}
 use Rattle.reversal.proofs.decide.Statement.{statement}
 use Rattle.reversal.proofs.decide.Tie as tie
 
@@ -28,7 +28,6 @@ reverse-reads-requires : tie.Need-reverse-reads-requires
 reverse-reads-requires c κs =
     let w = c .before .before .before in (
       path-of _ _ _ _ _ _ _ _ _ _ (s-of w .fits .outputs .fits) (s-of w .pre) _ (w .before .before .lowest-at .ensures) _ _ _ (w .path-from .ensures),
-      after-length _ _ _ _ _ _ _ _ _ _ (s-of w .fits .outputs .fits) (s-of w .pre) _ (w .before .before .lowest-at .ensures) _ _ _ (w .path-from .ensures),
       s-of w .pre .reads-length,
     )
 
@@ -47,10 +46,8 @@ returns c =
 
 path-fields-requires : tie.Need-path-fields-requires
 path-fields-requires c κs =
-    let w = c .before .before .before .before .before .before .before .before in (
-      path-of _ _ _ _ _ _ _ _ _ _ (s-of w .fits .outputs .fits) (s-of w .pre) _ (w .before .before .lowest-at .ensures) _ _ _ (w .path-from .ensures),
-      after-length _ _ _ _ _ _ _ _ _ _ (s-of w .fits .outputs .fits) (s-of w .pre) _ (w .before .before .lowest-at .ensures) _ _ _ (w .path-from .ensures),
-    )
+    let w = c .before .before .before .before .before .before .before .before in
+    path-of _ _ _ _ _ _ _ _ _ _ (s-of w .fits .outputs .fits) (s-of w .pre) _ (w .before .before .lowest-at .ensures) _ _ _ (w .path-from .ensures)
 
 returns-2 : tie.Need-returns-2
 returns-2 c =

@@ -21,13 +21,13 @@ loop-holds : tie.Need-loop-holds Inv-loop μ-loop
 loop-holds c = (omega arith, sym (fields-none (c .args .path .now)))
 
 element-copy-out-wide : tie.Need-element-copy-out-wide Inv-loop μ-loop
-element-copy-out-wide c = omega (arith, c .before .before .pre .0 .few)
+element-copy-out-wide c = omega (arith, c .before .before .pre .few)
 
 wide-requires : tie.Need-wide-requires Inv-loop μ-loop
 wide-requires c κs = search needs
 
 with-requires : tie.Need-with-requires Inv-loop μ-loop
-with-requires c κs = omega (arith, c .before .before .before .before .pre .0 .fields (c .before .before .before .loop .i) (omega arith))
+with-requires c κs = omega (arith, c .before .before .before .before .pre .fields (c .before .before .before .loop .i) (omega arith))
 
 add-i : tie.Need-add-i Inv-loop μ-loop
 add-i c = search needs
@@ -40,7 +40,7 @@ loop-again c =
     let b = c .before .before .before .before .before in
     let a = c .before .before .before .before .loop in (
       omega arith,
-      c .with .ensures ∙ fields-more (b .args .path .now) (a .i) (a .set) (c .before .wide .result) (omega (arith, b .pre .0 .few)) (a .inv .1) (c .before .wide .ensures),
+      c .with .ensures ∙ fields-more (b .args .path .now) (a .i) (a .set) (c .before .wide .result) (omega (arith, b .pre .few)) (a .inv .1) (c .before .wide .ensures),
     )
 
 returns : tie.Need-returns Inv-loop μ-loop

@@ -14,7 +14,7 @@ greatest-requires c κs = let u = c .before .pre in (u .acyclic, u .outputs-insi
 returns : tie.Need-returns
 returns c =
     let g = c .before in
-    le-ltb _ _ (rw (g .greatest .ensures .is-greatest) at (c .if1 .taken))
+    (le-ltb _ _ (rw (g .greatest .ensures .is-greatest) at (c .if1 .taken)), g .before .before .pre .path-length)
 
 decide-requires : tie.Need-decide-requires
 decide-requires c κs =

@@ -22,7 +22,7 @@ abbrev μ-loop : tie.MeasureT-loop
 freed-field : (c : tie.After-wide Inv-loop μ-loop) → c .wide .result < 64
 freed-field c =
     let s = c .before .before .before .before in
-    omega (arith, s .pre .3 .field _ (c .before .before .held .given .1), c .wide .ensures)
+    omega (arith, s .pre .2 .field _ (c .before .before .held .given .1), c .wide .ensures)
 
 next-field : (c : tie.After-wide2 Inv-loop μ-loop) → c .wide2 .result < 64
 next-field c =
@@ -42,7 +42,7 @@ element-copy-out-levels : tie.Need-element-copy-out-levels Inv-loop μ-loop
 element-copy-out-levels c = freed-field c
 
 add-levels : tie.Need-add-levels Inv-loop μ-loop
-add-levels c = search (needs, c .before .before .before .before .before .pre .2 (c .before .wide .result) (freed-field (c .before)))
+add-levels c = search (needs, c .before .before .before .before .before .pre .1 (c .before .wide .result) (freed-field (c .before)))
 
 element-write-levels : tie.Need-element-write-levels Inv-loop μ-loop
 element-write-levels c = freed-field (c .before)
@@ -69,8 +69,8 @@ starts : (c : tie.At-match-came Inv-loop μ-loop)
 starts c =
     let s = c .before in
     let full : length (s .args .t1 .setter) ≡ 64 = search needs in
-    ⊎-elim (λ w. reversing-freed _ _ _ (s .pre .2) full (s .pre .3) (w .1 .given .1) (w .3 .ensures) (w .5) (w .6) (w .7) (w .8))
-    (λ w. reversing-all _ _ _ (s .pre .2) full (s .pre .3) (w .1 .given .1) (w .2) (w .3) (w .4) (w .5)) (c .match .came)
+    ⊎-elim (λ w. reversing-freed _ _ _ (s .pre .1) full (s .pre .2) (w .1 .given .1) (w .3 .ensures) (w .5) (w .6) (w .7) (w .8))
+    (λ w. reversing-all _ _ _ (s .pre .1) full (s .pre .2) (w .1 .given .1) (w .2) (w .3) (w .4) (w .5)) (c .match .came)
 
 loop-holds : tie.Need-loop-holds Inv-loop μ-loop
 loop-holds c = starts c .1

@@ -1,109 +1,141 @@
+-- `text::decide_line` meets its contract, an arm by one law.
+use mathlib.Core.Path.{_≡_, refl, sym, ap, _∙_, subst}
+use mathlib.Core.List.{List}
+use Prim.Native.Nat.{ℕ, _%_, _≤_}
+use native.Mathlib.Omega.{arith}
 use borrow.Author.Needs.{needs}
+use lib.ListN.{length, take, drop, length-take}
+use lib.Seq.{length-take-le}
+use Rattle.panel.specs.declared.Link.{Link}
+use Rattle.panel.specs.declared.Panel.{Panel}
+use Rattle.panel.specs.declared.Step.{Step}
+use Rattle.panel.specs.Items.{linkAt}
+use Rattle.panel.specs.Commands.{opening, adding, touching}
+use Rattle.panel.specs.Outcomes.{Decides}
+use Rattle.frames.specs.declared.Command.{Command}
+use Rattle.frames.specs.declared.Command.the-variants.{Open, Add, Touch, Plan, Refused}
+use Rattle.frames.specs.Frames.{numberOf}
+use Rattle.text.specs.Lines.{fieldsOf, Decided, LineStep}
+use Rattle.text.proofs.Arms.{performed-step, refused-step, plan-step, add-tail}
 use Rattle.text.proofs.decide_line.Statement.{statement}
 use Rattle.text.proofs.decide_line.Tie as tie
-use Rattle.text.proofs.decide_line.Reads as reads
-use Rattle.text.proofs.decide_line.Lts as lts
-use Rattle.adding.proofs.add.Reads as add-reads
-use Rattle.opening.proofs.open.Reads as open-reads
-use Rattle.planning.proofs.plan.Reads as plan-reads
-use Rattle.text.proofs.keep.Reads as keep-reads
-use Rattle.touching.proofs.touch.Reads as touch-reads
 
--- src/lib.rt:102:23
+-- ---- what is known on the way
+
+-- the link of its number
+named-at : (s : tie.Start) {c : Command} → s .args .line .command ≡ c → s .args .named ≡ linkAt (s .args .p .links) (numberOf c)
+named-at s e = s .pre .0 .2 ∙ ap (λ (x : Command). linkAt (s .args .p .links) (numberOf x)) e
+
+-- an add's frame reaches its field bytes
+tail-there : (c : tie.After-frame2) → let l = c .before .before .before .before .before .args .line in 3 ≤ length (take (l .len) (l .frame))
+tail-there c =
+    let k = c .before .before .before in
+    let s = k .before .before in
+    let l = s .args .line in
+    omega (arith, s .pre .1 .0 .reaches _ _ (k .command2 .given .1), s .pre .1 .0 .short, s .pre .1 .0 .full, length-take (l .len) (l .frame))
+
 enum-known-command : tie.Need-enum-known-command
 enum-known-command c = search needs
 
--- src/lib.rt:102:29
 open-requires : tie.Need-open-requires
-open-requires c κs = search needs
+open-requires c κs = c .before .before .before .pre .0 .0
 
--- src/lib.rt:103:22
 enum-known-command-2 : tie.Need-enum-known-command-2
 enum-known-command-2 c = search needs
 
--- src/lib.rt:106:25
 array-share-prefix-frame : tie.Need-array-share-prefix-frame
 array-share-prefix-frame c = search needs
 
--- src/lib.rt:106:17
 slice-aggregate-bytes : tie.Need-slice-aggregate-bytes
-slice-aggregate-bytes c = ?
+slice-aggregate-bytes c =
+    let s = c .before .before .before .before .before in
+    sym (length-take-le _ _ (omega (arith, s .pre .1 .0 .short, s .pre .1 .0 .full)))
 
--- src/lib.rt:107:69
 sub-add : tie.Need-sub-add
-sub-add c = ?
+sub-add c = tail-there c
 
--- src/lib.rt:107:69
 part-add-start : tie.Need-part-add-start
-part-add-start c = ?
+part-add-start c = tail-there c
 
--- src/lib.rt:107:69
 part-add-end : tie.Need-part-add-end
 part-add-end c = search needs
 
--- src/lib.rt:107:13
 add-requires : tie.Need-add-requires
-add-requires c κs = ?
+add-requires c κs =
+    let k = c .before .before .before .before .before in
+    let s = k .before .before in
+    (s .pre .0 .0, s .pre .0 .1, s .pre .0 .2 ∙ ap (λ (x : Command). linkAt (s .args .p .links) (numberOf x)) (k .command2 .given .1), s .pre .1 .1)
 
--- src/lib.rt:109:46
 enum-told : tie.Need-enum-told
 enum-told c = search needs
 
--- src/lib.rt:109:31
 keep-requires : tie.Need-keep-requires
 keep-requires c κs = search needs
 
--- src/lib.rt:110:24
 enum-known-command-3 : tie.Need-enum-known-command-3
 enum-known-command-3 c = search needs
 
--- src/lib.rt:110:30
 touch-requires : tie.Need-touch-requires
 touch-requires c κs = search needs
 
--- src/lib.rt:112:66
 enum-told-2 : tie.Need-enum-told-2
 enum-told-2 c = search needs
 
--- src/lib.rt:112:17
 plan-requires : tie.Need-plan-requires
 plan-requires c κs = search needs
 
--- src/lib.rt:113:13
 keep-requires-2 : tie.Need-keep-requires-2
 keep-requires-2 c κs = search needs
 
--- src/lib.rt:115:26
 enum-known-command-4 : tie.Need-enum-known-command-4
 enum-known-command-4 c = search needs
 
--- src/lib.rt:115:32
 keep-requires-3 : tie.Need-keep-requires-3
 keep-requires-3 c κs = search needs
 
--- src/lib.rt:86:1
 returns : tie.Need-returns
-returns c = ?
+returns c =
+    let k = c .before .before in
+    let s = k .before .before in
+    let e = k .command .given .1 in
+    rw e (performed-step _ 0 _ _ _ (s .pre .1 .2) (Open _) (opening _) _ refl refl (c .open .ensures 0 _ (s .pre .1 .1) (named-at s e)))
 
--- src/lib.rt:86:1
 returns-2 : tie.Need-returns-2
-returns-2 c = ?
+returns-2 c =
+    let k = c .before .before .before .before .before .before in
+    let s = k .before .before in
+    let l = s .args .line in
+    let e = k .command2 .given .1 in
+    rw e
+    (performed-step _ _ _ _ _ (s .pre .1 .2) (Add _ _) (adding _ _ (fieldsOf l)) _ refl refl
+    (add-tail _ _ _ _ (take (l .len) (l .frame)) _ _ (c .add .ensures)))
 
--- src/lib.rt:86:1
 returns-3 : tie.Need-returns-3
-returns-3 c = ?
+returns-3 c =
+    let s = c .before .before .before in
+    rw (c .before .enum-told .given .1) (c .keep .ensures)
 
--- src/lib.rt:86:1
 returns-4 : tie.Need-returns-4
-returns-4 c = ?
+returns-4 c =
+    let k = c .before .before .before in
+    let s = k .before .before in
+    let e = k .command3 .given .1 in
+    rw e (performed-step _ 0 _ _ _ (s .pre .1 .2) (Touch _) (touching _) _ refl refl (c .touch .ensures 0 (named-at s e)))
 
--- src/lib.rt:86:1
 returns-5 : tie.Need-returns-5
-returns-5 c = ?
+returns-5 c =
+    let n = c .before in
+    let t = n .before .before in
+    let e = t .enum-told2 .given .1 in
+    let s = t .before .before in
+    rw (e, c .keep2 .ensures) (plan-step _ 0 _ _ _ (s .pre .1 .1) _ (named-at s e) (s .pre .0 .0) _ _ (s .pre .1 .2) (n .plan .ensures))
 
--- src/lib.rt:86:1
 returns-6 : tie.Need-returns-6
-returns-6 c = ?
+returns-6 c =
+    let k = c .before .before in
+    let s = k .before .before in
+    let e = k .command4 .given .1 in
+    rw (e, c .keep3 .ensures) (refused-step _ 0 _ _ _ (s .pre .1 .1) _ (named-at s e) (s .pre .1 .2) _)
 
 pub decide-line-spec : {M : Type 1} → statement M
 decide-line-spec =

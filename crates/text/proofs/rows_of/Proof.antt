@@ -1,31 +1,27 @@
+-- `text::rows_of` meets its contract.
+use mathlib.Core.Path.{_≡_, _∙_, sym, ap}
+use Prim.Native.Nat.{ℕ, _*_}
+use native.Mathlib.Omega.{arith}
 use borrow.Author.Needs.{needs}
+use Rattle.panel.specs.Answers.{planRest}
 use Rattle.text.proofs.rows_of.Statement.{statement}
 use Rattle.text.proofs.rows_of.Tie as tie
-use Rattle.text.proofs.rows_of.Reads as reads
-use Rattle.text.proofs.rows_of.Lts as lts
-use Rattle.fieldset.proofs.wide.Reads as wide-reads
 
--- src/lib.rt:62:25
 enum-known-reply : tie.Need-enum-known-reply
 enum-known-reply c = search needs
 
--- src/lib.rt:62:35
 wide-requires : tie.Need-wide-requires
 wide-requires c κs = search needs
 
--- src/lib.rt:62:31
 mul-result : tie.Need-mul-result
 mul-result c = search needs
 
--- src/lib.rt:63:30
 enum-told : tie.Need-enum-told
 enum-told c = search needs
 
--- src/lib.rt:58:1
 returns : tie.Need-returns
-returns c = ?
+returns c = let e : 3 * c .wide .result ≡ 3 * c .before .before .reply .given .0 .0 = omega (arith, c .wide .ensures) in e ∙ sym (ap planRest (c .before .before .reply .given .1))
 
--- src/lib.rt:58:1
 returns-2 : tie.Need-returns-2
 returns-2 c = search needs
 

@@ -89,7 +89,7 @@ returns c =
     let k = e .before .before in
     let s = k .before .before in
     λ n same.
-    decides-refused (s .args .p) n _ _ (touching (s .args .f)) _ _ _ same (e .enum-told .given .1)
+    decides-refused (s .args .p) n _ _ (touching (s .args .f)) _ (s .pre .2) _ _ same (e .enum-told .given .1)
     (subst (Says (s .args .p) (touching (s .args .f)) (Touchable (s .args .p) (s .args .f))) (sym (k .check-touch .ensures) ∙ e .enum-told .given .1) (touch-checks (s .args .p) (s .args .f)))
     (c .unchanged .ensures)
 
@@ -137,13 +137,14 @@ returns-2 c =
     let f = j .before in
     let m = j .if1 in
     λ k same.
-    decides-refused (p-of f) k _ _ (touching (s-of f .args .f)) _ Loop _ same refl
-    (⊎-elim
-    (λ w. touch-loop (p-of f) (s-of f .pre .0) _ (touchable f) _ (f .to-front .ensures) (w .0 .taken) (s-of f .pre .1) (w .5 .ensures) (m .path) k _ same
-    (resolves _ _ _ _ _ _ _ _ _ _ _ (w .6 .ensures) (w .10) (sym (w .11) ∙ e .enum-told3 .given .1) (w .9 .ensures)))
-    (λ w. absurd (free-not-looped (sym (w .2) ∙ e .enum-told3 .given .1))) (m .came)
+    ⊎-elim
+    (λ w.
+    let r = resolves _ _ _ _ _ _ _ _ _ _ _ (w .6 .ensures) (w .10) (sym (w .11) ∙ e .enum-told3 .given .1) (w .9 .ensures) in
+    decides-refused (p-of f) k _ _ (touching (s-of f .args .f)) _ (r .1 .1 .fields .full) Loop _ same refl
+    (touch-loop (p-of f) (s-of f .pre .0) _ (touchable f) _ (f .to-front .ensures) (w .0 .taken) (s-of f .pre .1) (w .5 .ensures) (m .path) k _ same r
     ∙ ap (λ (x : ℕ). performed (p-of f) (touching x)) (f .before .before .before .wide .ensures))
-    (c .unchanged2 .ensures)
+    (c .unchanged2 .ensures))
+    (λ w. absurd (free-not-looped (sym (w .2) ∙ e .enum-told3 .given .1))) (m .came)
 
 step-of-requires : tie.Need-step-of-requires
 step-of-requires c κs = let f = c .before .before .before in (ap length (f .to-front .ensures) ∙ length-tabulate _ 64, tt)
@@ -160,7 +161,7 @@ returns-3 c =
     (⊎-elim
     (λ w. touch-step (p-of f) (s-of f .pre .0) _ (touchable f) _ (f .to-front .ensures) (w .0 .taken) (s-of f .pre .1) (w .5 .ensures) (m .path) k _ same
     (m .turn) (no-loop (m .turn) (e .match2 .keys2)) (resolves _ _ _ _ _ _ _ _ _ _ _ (w .6 .ensures) (w .10) (sym (w .11)) (w .9 .ensures)))
-    (λ w. rw (w .2) (touch-idle (p-of f) (s-of f .pre .0) _ (touchable f) _ (f .to-front .ensures) (w .0 .left) (m .path) k _ same)) (m .came)))
+    (λ w. rw (w .2) (touch-idle (p-of f) (s-of f .pre .0) _ (touchable f) _ (f .to-front .ensures) (w .0 .left) (m .path) (ap length (w .1) ∙ s-of f .pre .2) k _ same)) (m .came)))
 
 pub touch-spec : {M : Type 1} → statement M
 touch-spec =
