@@ -1,6 +1,6 @@
 -- Laws of an add.
 use mathlib.Core.Path.{_≡_, refl, sym, ap, _∙_}
-use mathlib.Core.Bool.{Bool, true, false, not, _&&_, _||_, true≢false}
+use mathlib.Core.Bool.{Bool, true, false, not, _||_, true≢false}
 use mathlib.Core.Logic.{_≢_}
 use mathlib.Core.List.{List}
 use Prim.Native.Nat.{ℕ, _%_, _<_}
@@ -65,7 +65,7 @@ module _ (p : Panel) (id level₁ covered outputs : ℕ) (a : Enterable p id lev
   new-force = ap isInForce new-at ∙ waiting-force _ refl refl
 
   pub new-waits : waits (p .size) (set (p .links) id (waitingLink level₁ covered outputs)) (p .setter) (link id) ≡ true
-  new-waits = rw (new-force) (ap (λ (x : Link). isWaiting (x .standing)) new-at)
+  new-waits = rw new-force (ap (λ (x : Link). isWaiting (x .standing)) new-at)
 
   pub new-level : level (withLink p id (waitingLink level₁ covered outputs)) (link id) ≡ level₁
   new-level = ap (λ (x : Link). x .level) new-at
@@ -88,7 +88,7 @@ module _ (p : Panel) (id level₁ covered outputs : ℕ) (a : Enterable p id lev
     legal = a .legal;
     size = refl;
     field = λ v e. absurd (holding-not-waiting e refl);
-    gone = λ v r e. absurd (holding-not-waiting e refl);
+    gone = λ v e. absurd (holding-not-waiting e refl);
     keeps = λ f l e. absurd (clash (a .legal .setter-in-force f l (omega (arith, a .number))) (ap (λ (i : ℕ). isInForce (linkAt (p .links) i)) e ∙ a .free));
   }
 
