@@ -11,10 +11,10 @@ use Rattle.fieldset.specs.Tables.{at, tabulate}
 use Rattle.fieldset.specs.Fields.{member, setOf, with, without, only, within}
 use Rattle.strength.specs.Strength.{greatest, strength, lowestAt, strongest, path}
 use Rattle.ordering.specs.Order.{next, following, order, hasLoop}
-use Rattle.panel.specs.Items.{setterOf}
+use Rattle.panel.specs.Items.{setterOf, isInForce}
 use Rattle.panel.specs.Panels.{opened, toFront, moved}
 use Rattle.panel.specs.Solution.{strengthOf, isBlocked, pathFor, reversed, planOf, isLooped, rowsOf}
-use Rattle.panel.specs.Steps.{turned, addStep, touchStep, planStep}
+use Rattle.panel.specs.Steps.{turned, enterStep, touchStep, planStep}
 use Rattle.panel.specs.Commands.{anyOf, fieldsIn, isRising, areFieldBytes, checked}
 use Rattle.hex.specs.Hex.{isDigit, digitOf, charOf, areDigits, isHex, bytesOf, hexOf, lineOf}
 use Rattle.frames.specs.Texts.{linesOf, replies, written, output, outputOf}
@@ -30,8 +30,8 @@ differ-at place a b h e = eqb-false (at a place) (at b place) h (ap (λ (o : Lis
 pub sham-panels-differ : ShamPanelsDiffer
 unfolding characters shamPanels refusesAll repliesZeros keepsSetters solvesFirstLinkOnly inventsMoved outputOf output written
     replies linesOf lineAnswer commandOf frameOf checkedFrame isFrame fitsKind lineOf hexOf bytesOf isHex areDigits charOf digitOf isDigit checked areFieldBytes
-    isRising fieldsIn anyOf planStep touchStep addStep turned rowsOf isLooped planOf reversed pathFor isBlocked strengthOf moved toFront opened
-    setterOf tabulate hasLoop order following next path strongest lowestAt strength greatest within only without with setOf member lowest any
+    isRising fieldsIn anyOf planStep touchStep enterStep turned rowsOf isLooped planOf reversed pathFor isBlocked strengthOf moved toFront opened
+    setterOf isInForce tabulate hasLoop order following next path strongest lowestAt strength greatest within only without with setOf member lowest any
     count
 sham-panels-differ =
     (differ-at 0 _ _ refl, (differ-at 8 _ _ refl, (differ-at 16 _ _ refl, (differ-at 22 _ _ refl, (differ-at 8 _ _ refl, tt)))))

@@ -1,6 +1,6 @@
 -- Laws of an add.
 use mathlib.Core.Path.{_≡_, refl, sym, ap, _∙_}
-use mathlib.Core.Bool.{Bool, true, false, not, _&&_, _||_, true≢false}
+use mathlib.Core.Bool.{Bool, true, false, not, _||_, true≢false}
 use mathlib.Core.Logic.{_≢_}
 use mathlib.Core.List.{List}
 use Prim.Native.Nat.{ℕ, _%_, _<_}
@@ -18,7 +18,7 @@ use Rattle.panel.specs.declared.Standing.the-variants.{Waiting}
 use Rattle.panel.specs.declared.Link.{Link}
 use Rattle.panel.specs.declared.Panel.{Panel}
 use Rattle.panel.specs.declared.Refusal.the-variants.{NotOpen, BadLink, NoSuchField, LinkTaken, Conflict, Loop}
-use Rattle.panel.specs.Items.{link, linkAt, outputsOf, inForce, isWaiting, waits}
+use Rattle.panel.specs.Items.{link, linkAt, outputsOf, isInForce, inForce, isWaiting, waits}
 use Rattle.panel.specs.Answers.{Answer, refused}
 use Rattle.panel.specs.Panels.{waitingLink, withLink}
 use Rattle.panel.specs.Solution.{level, isBlocked}
@@ -28,6 +28,7 @@ use Rattle.panel.specs.Legal.{Legal, Formed}
 use Rattle.panel.specs.Outcomes.{Decides}
 use Rattle.panel.proofs.Turn.{setter-stay, link-here, link-there}
 use Rattle.panel.proofs.Legal.{LegalBut, holding-not-waiting}
+use Rattle.panel.proofs.InForce.{unused-off, waiting-force}
 use Rattle.panel.proofs.Changes.{legal-add}
 use Rattle.panel.proofs.Checks
 use Rattle.panel.proofs.Checks.{Says, says, applies, passes, none-left}
@@ -42,25 +43,29 @@ use Rattle.reversal.proofs.Decision.{unresolved}
 use Rattle.reversal.proofs.Steps.{Change, resolved-free, resolved-loop, resolved-step}
 use Rattle.adding.specs.Checks.{isBadLink, checkAdd}
 
--- a well-formed link can be entered under a number that is free
+-- a well-formed link can be entered under a number of which no link is in force
 pub record Enterable (p : Panel) (id level covered outputs : ℕ) : Type 0 where
   pub legal : Legal p
   pub number : id < 128
-  pub free : linkAt (p .links) id .used ≡ false
+  pub free : isInForce (linkAt (p .links) id) ≡ false
   pub formed : Formed (p .size) (waitingLink level covered outputs)
 
 -- ---- the step, for the panel with the new link waiting
 
 module _ (p : Panel) (id level₁ covered outputs : ℕ) (a : Enterable p id level₁ covered outputs) where
   pub new-legal : LegalBut (link id) (withLink p id (waitingLink level₁ covered outputs))
-  new-legal = legal-add p id (waitingLink level₁ covered outputs) (a .legal) (a .number) (a .free) (a .formed) refl refl
+  new-legal = legal-add p id (waitingLink level₁ covered outputs) (a .legal)
+      (record { number = a .number; free = a .free; formed = a .formed; used = refl; rests = refl })
 
   -- the link of the number
   pub new-at : linkAt (set (p .links) id (waitingLink level₁ covered outputs)) id ≡ waitingLink level₁ covered outputs
   new-at = link-here (p .links) id (waitingLink level₁ covered outputs) (omega (arith, a .number, a .legal .links-length))
 
+  new-force : inForce (p .size) (set (p .links) id (waitingLink level₁ covered outputs)) (link id) ≡ true
+  new-force = ap isInForce new-at ∙ waiting-force _ refl refl
+
   pub new-waits : waits (p .size) (set (p .links) id (waitingLink level₁ covered outputs)) (p .setter) (link id) ≡ true
-  new-waits = ap (λ (x : Link). x .used && isWaiting (x .standing)) new-at
+  new-waits = rw new-force (ap (λ (x : Link). isWaiting (x .standing)) new-at)
 
   pub new-level : level (withLink p id (waitingLink level₁ covered outputs)) (link id) ≡ level₁
   new-level = ap (λ (x : Link). x .level) new-at
@@ -83,8 +88,8 @@ module _ (p : Panel) (id level₁ covered outputs : ℕ) (a : Enterable p id lev
     legal = a .legal;
     size = refl;
     field = λ v e. absurd (holding-not-waiting e refl);
-    gone = λ v r e. absurd (holding-not-waiting e refl);
-    keeps = λ f l e. absurd (clash (a .legal .setter-used f l (omega (arith, a .number))) (ap (λ (i : ℕ). linkAt (p .links) i .used) e ∙ a .free));
+    gone = λ v e. absurd (holding-not-waiting e refl);
+    keeps = λ f l e. absurd (clash (a .legal .setter-in-force f l (omega (arith, a .number))) (ap (λ (i : ℕ). isInForce (linkAt (p .links) i)) e ∙ a .free));
   }
 
   -- the tables: a link that sets nothing is in none
@@ -93,15 +98,12 @@ module _ (p : Panel) (id level₁ covered outputs : ℕ) (a : Enterable p id lev
       tabled-same p (withLink p id (waitingLink level₁ covered outputs))
       (λ f x y z l s.
       placed-setting p (withLink p id (waitingLink level₁ covered outputs)) f refl
-      (λ k. link-there (p .links) id (at (p .setter) f) _ (λ e. clash (a .legal .setter-used f l k) (ap (λ (i : ℕ). linkAt (p .links) i .used) e ∙ a .free)))
+      (λ k. link-there (p .links) id (at (p .setter) f) _ (λ e. clash (a .legal .setter-in-force f l k) (ap (λ (i : ℕ). isInForce (linkAt (p .links) i)) e ∙ a .free)))
       (level-kept f x s (ltb (at (p .setter) f) 128) refl) s) t
     where
       level-kept : (f x : ℕ) {y z : ℕ} → Setting p f x y z → (b : Bool) → ltb (at (p .setter) f) 128 ≡ b → x ≡ levelWith (at (p .setter) f) (at (p .place) f) x
       level-kept f x s true e = rw e refl
       level-kept f x s false e = rw e (s .level-is ∙ rw (setter-stay (p .setter) f (ltb-false (at (p .setter) f) 128 e)) refl)
-
-  new-force : inForce (p .size) (set (p .links) id (waitingLink level₁ covered outputs)) (link id) ≡ true
-  new-force = ap (λ (x : Link). x .used) new-at
 
   module _ {levels others reads : List ℕ} (t : Tabled p levels others reads) where
     pub new-unresolved : (path : List ℕ) → length path ≡ 64 → Unresolved others (p .size) outputs covered reads path
@@ -207,7 +209,7 @@ module _ (p : Panel) (id level₁ : ℕ) (bytes : List ℕ) where
             unfolding bad out
             can-add h =
                 let a = Checks.addable p id level₁ bytes (is-open, (fine-is, (none-out, (free, tt)))) in
-                record { legal = h; number = a .number; free = free; formed = rw (f .covered, f .outputs) (a .formed) }
+                record { legal = h; number = a .number; free = unused-off _ free; formed = rw (f .covered, f .outputs) (a .formed) }
 
             add-done : (a : Answer) → a ≡ addStep p id level₁ c o → a ≡ performed p (adding id level₁ bytes)
             unfolding bad out
@@ -236,9 +238,11 @@ add-checks p h id level₁ bytes c o r f k ek =
     says p cmd _ (isBadLink id level₁ c o r) BadLink _ (λ e. add-bad p id level₁ bytes l c o r f e) (λ e.
     let n : k ≡ id = ek ∙ mod-eq-of-lt (number-small id level₁ c o r e) in
     says p cmd _ (not (within c (below (p .size)))) NoSuchField _ (λ w. add-outside p id level₁ bytes l c o r f e (not-true _ w)) (λ w.
-    says p cmd _ (linkAt (p .links) k .used) LinkTaken _ (λ u. add-taken p id level₁ bytes l c o r f e (not-false _ w) (rw n at u)) (λ u.
-    (refl, record {
-      number = n;
-      enterable = rw n (can-add p id level₁ bytes l c o r f e (not-false _ w) (rw n at u) h);
-      step = sym (rw n (add-done p id level₁ bytes l c o r f e (not-false _ w) (rw n at u) (addStep p id level₁ c o) refl));
-    })))))
+    says p cmd _ (linkAt (p .links) k .used) LinkTaken _ (λ u. add-taken p id level₁ bytes l c o r f e (not-false _ w) (rw n at u)) (λ u. (
+      refl,
+      record {
+        number = n;
+        enterable = rw n (can-add p id level₁ bytes l c o r f e (not-false _ w) (rw n at u) h);
+        step = sym (rw n (add-done p id level₁ bytes l c o r f e (not-false _ w) (rw n at u) (addStep p id level₁ c o) refl));
+      },
+    )))))

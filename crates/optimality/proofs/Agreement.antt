@@ -16,29 +16,29 @@ use Rattle.fieldset.specs.Tables.{at, tabulate}
 use Rattle.fieldset.proofs.Tables.{getD-tabulate, length-tabulate}
 use Rattle.panel.specs.declared.Link.{Link}
 use Rattle.panel.specs.declared.Panel.{Panel}
-use Rattle.panel.specs.Items.{noLink, linkAt}
+use Rattle.panel.specs.Items.{Item, link, noLink, linkAt, isInForce, inForce}
 use Rattle.panel.specs.Panels.{opened, withLink, toFront, placeAfter}
 use Rattle.panel.specs.Commands.{opening, touching}
+use Rattle.panel.proofs.InForce.{unused-off}
 use Rattle.panel.proofs.Turn.{AllAlike, link-here, link-there}
 use Rattle.optimality.specs.Condition3.{Entry, strike, Store, entry, entered}
-use Rattle.optimality.specs.Agreement.{entryOf, Agrees}
+use Rattle.optimality.specs.Agreement.{entryFor, entryOf, Agrees}
 
 -- ---- links in the store
 
--- what does not hold of no entry, and holds of a link's, holds of a link in use
-pub entry-used : (P : Option Entry → Type 0) → (P none → ⊥) → (l : Link) → P (entryOf l)
-    → (l .used ≡ true) × P (some (record { level = l .level; covered = l .covered; outputs = l .outputs }))
-entry-used P never l = go (l .used) refl
+-- what does not hold of no entry, and holds of a link's, holds of a link in force
+pub entry-force : (P : Option Entry → Type 0) → (P none → ⊥) → (l : Link) → P (entryOf l) → (isInForce l ≡ true) × P (some (entryFor l))
+entry-force P never l = go (isInForce l) refl
   where
-    go : (u : Bool) → l .used ≡ u → P (cond u (some (record { level = l .level; covered = l .covered; outputs = l .outputs })) none)
-        → (l .used ≡ true) × P (some (record { level = l .level; covered = l .covered; outputs = l .outputs }))
+    go : (u : Bool) → isInForce l ≡ u → P (cond u (some (entryFor l)) none) → (isInForce l ≡ true) × P (some (entryFor l))
     go true e h = (e, h)
     go false e h = absurd (never h)
 
 -- ---- only standings and setters change
 
-pub agrees-alike : (b : Store) (p q : Panel) → q .size ≡ p .size → q .place ≡ p .place → AllAlike (q .links) (p .links) → Agrees b p → Agrees b q
-agrees-alike b p q size places alike a =
+pub agrees-alike : (b : Store) (p q : Panel) → q .size ≡ p .size → q .place ≡ p .place → AllAlike (q .links) (p .links)
+    → ((d : Item) → inForce (q .size) (q .links) d ≡ inForce (p .size) (p .links) d) → Agrees b p → Agrees b q
+agrees-alike b p q size places alike force a =
     record {
       links = λ i. a .links i ∙ sym (entry-alike i);
       stays = λ f l. a .stays f (rw size at l);
@@ -47,17 +47,17 @@ agrees-alike b p q size places alike a =
     }
   where
     entry-alike : (i : ℕ) → entryOf (linkAt (q .links) i) ≡ entryOf (linkAt (p .links) i)
-    entry-alike i = rw (alike i .used, alike i .level, alike i .covered, alike i .outputs)
+    entry-alike i = rw (force (link i), alike i .level, alike i .covered, alike i .outputs)
 
 -- ---- a link
 
 -- another link of a number
-pub agrees-link : (b : Store) (p : Panel) (id : ℕ) (l : Link) → id < length (p .links) → Agrees b p
-    → Agrees (entry b id (entryOf l)) (withLink p id l)
-agrees-link b p id l lt a = record { links = λ i. go i (ℕ-discrete i id); stays = a .stays; below = a .below; places = a .places }
+pub agrees-link : (b : Store) (p : Panel) (id : ℕ) (l : Link) (e : Option Entry) → entryOf l ≡ e → id < length (p .links) → Agrees b p
+    → Agrees (entry b id e) (withLink p id l)
+agrees-link b p id l e is lt a = record { links = λ i. go i (ℕ-discrete i id); stays = a .stays; below = a .below; places = a .places }
   where
-    go : (i : ℕ) → Dec (i ≡ id) → cond (eqb i id) (entryOf l) (b .links i) ≡ entryOf (linkAt (set (p .links) id l) i)
-    go i (yes d) = rw (d, eq-eqb id id refl, link-here (p .links) id l lt)
+    go : (i : ℕ) → Dec (i ≡ id) → cond (eqb i id) e (b .links i) ≡ entryOf (linkAt (set (p .links) id l) i)
+    go i (yes d) = rw (d, eq-eqb id id refl, link-here (p .links) id l lt) (sym is)
     go i (no d) = rw (ne-eqb i id d, link-there (p .links) id i l d) (a .links i)
 
 -- ---- the stays
@@ -140,12 +140,15 @@ default-link i = go (decLt i 128)
         let long : length (replicate 128 noLink) ≤ i = omega (arith, length-replicate 128 noLink) in
         List·getD-eq-default (replicate 128 noLink) noLink long
 
+pub default-entry : (i : ℕ) → entryOf (linkAt (replicate 128 noLink) i) ≡ none
+default-entry i = rw (default-link i, unused-off noLink refl)
+
 -- a store without links, and the panel at opening
 pub agrees-opened : (b : Store) (n : ℕ) → n ≤ 64 → ((i : ℕ) → b .links i ≡ none) → Agrees (entered b (opening n)) (opened n)
 unfolding opened
 agrees-opened b n few empty =
     record {
-      links = λ i. empty i ∙ sym (ap entryOf (default-link i));
+      links = λ i. empty i ∙ sym (default-entry i);
       stays = λ f l. in-tabulate n f l;
       below = tabulate-below n;
       places = λ f l. place-tabulate n f l ∙ sym (getD-tabulate (λ (k : ℕ). k) 64 f 0 (omega arith));

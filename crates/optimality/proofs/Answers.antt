@@ -13,16 +13,18 @@ use Rattle.fieldset.specs.Lists.{All}
 use Rattle.fieldset.proofs.Numbers.{clash}
 use Rattle.panel.specs.declared.Standing.{Standing}
 use Rattle.panel.specs.declared.Standing.the-variants.{Waiting, Holding}
+use Rattle.panel.specs.declared.Link.{Link}
 use Rattle.panel.specs.declared.Panel.{Panel}
 use Rattle.panel.specs.declared.Refusal.{Refusal}
 use Rattle.panel.specs.declared.Refusal.the-variants.{AlreadyOpen, NotOpen, BadSize, BadLink, NoSuchField, LinkTaken, NoSuchLink, Conflict, Loop}
 use Rattle.panel.specs.Items.{Item, link, stay, linkAt}
 use Rattle.panel.specs.Answers.{Answer, isRefusal, refused, refusalBytes}
+use Rattle.panel.specs.Panels.{dropped}
 use Rattle.panel.specs.Solution.{isBlocked, isLooped, pathFor, reversed, leastBlocked}
-use Rattle.panel.specs.Steps.{accepted, turned, openStep, addStep, settled, removed, removeStep, touchStep, planStep}
+use Rattle.panel.specs.Steps.{accepted, turned, openStep, enterStep, addStep, settled, dropStep, removeStep, touchStep, planStep}
 use Rattle.panel.specs.Commands.{Command, opening, adding, removing, touching, planning, performed, Check, checked, openChecks, addChecks, removeChecks, touchChecks, planChecks, coveredIn, outputsIn}
 use Rattle.panel.proofs.Answers.{refusals-apart}
-use Rattle.panel.proofs.Checks.{NoneApply}
+use Rattle.panel.proofs.Checks.{NoneApply, newLink}
 use Rattle.optimality.specs.Refusals.{WeakerNeverConflict, TouchNeverConflict, RemoveNeverConflict, RefusedUnchanged}
 
 -- ---- checks
@@ -64,26 +66,22 @@ module _ (R : Refusal → Type 0) (p : Panel) where
       go true = no Loop l
       go false = yes _ _
 
-  add-outcome : (id level covered outputs : ℕ) → R Loop → (level ≡ 0 → R Conflict) → Outcome R p (addStep p id level covered outputs)
-  unfolding addStep
-  add-outcome id level covered outputs l k = go _ (isBlocked _ (link id)) (eqb level 0) refl
+  enter-outcome : (q : Panel) (id : ℕ) (x : Link) → R Loop → (x .level ≡ 0 → R Conflict) → Outcome R p (enterStep p q id x)
+  unfolding enterStep
+  enter-outcome q id x l k = go _ (isBlocked _ (link id)) (eqb (x .level) 0) refl
     where
-      go : (q : Panel) (t z : Bool) → eqb level 0 ≡ z → Outcome R p (pick t (turned p q (link id)) (pick z (refused p Conflict) (accepted p q)))
-      go q true z e = turned-outcome q (link id) l
-      go q false true e = no Conflict (k (eqb-true level 0 e))
-      go q false false e = yes _ _
+      go : (r : Panel) (t z : Bool) → eqb (x .level) 0 ≡ z → Outcome R p (pick t (turned p r (link id)) (pick z (refused p Conflict) (accepted p r)))
+      go r true z e = turned-outcome r (link id) l
+      go r false true e = no Conflict (k (eqb-true (x .level) 0 e))
+      go r false false e = yes _ _
 
   settled-outcome : (q : Panel) (o : Option Item) → R Loop → Outcome R p (settled p q o)
   settled-outcome q none l = yes _ _
   settled-outcome q (some c) l = turned-outcome q c l
 
-  remove-outcome : (id : ℕ) → R Loop → Outcome R p (removeStep p id)
-  unfolding removeStep
-  remove-outcome id l = go (linkAt (p .links) id .standing)
-    where
-      go : (s : Standing) → Outcome R p (removed p id s)
-      go Waiting = yes _ _
-      go (Holding v) = settled-outcome _ (leastBlocked _) l
+  drop-outcome : (q : Panel) (s : Standing) → R Loop → Outcome R p (dropStep p q s)
+  drop-outcome q Waiting l = yes _ _
+  drop-outcome q (Holding v) l = settled-outcome q (leastBlocked q) l
 
   touch-outcome : (f : ℕ) → R Loop → Outcome R p (touchStep p f)
   unfolding touchStep
@@ -102,12 +100,13 @@ module _ (R : Refusal → Type 0) (p : Panel) where
     adding-outcome id level bytes k =
         checked-answer (Outcome R p) p (addChecks p id level bytes) (addStep p id level (coveredIn bytes) (outputsIn bytes))
         (given NotOpen (omega arith), (given BadLink (omega arith), (given NoSuchField (omega arith), (given LinkTaken (omega arith), tt))))
-        (λ n. add-outcome id level (coveredIn bytes) (outputsIn bytes) l k)
+        (λ n. enter-outcome p id (newLink level bytes) l k)
 
     pub removing-outcome : (id : ℕ) → Outcome R p (performed p (removing id))
+    unfolding removeStep
     removing-outcome id =
         checked-answer (Outcome R p) p (removeChecks p id) (removeStep p id)
-        (given NotOpen (omega arith), (given BadLink (omega arith), (given NoSuchLink (omega arith), tt))) (λ n. remove-outcome id l)
+        (given NotOpen (omega arith), (given BadLink (omega arith), (given NoSuchLink (omega arith), tt))) (λ n. drop-outcome (dropped p id) (linkAt (p .links) id .standing) l)
 
     pub touching-outcome : (f : ℕ) → Outcome R p (performed p (touching f))
     touching-outcome f =

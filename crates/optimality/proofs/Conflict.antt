@@ -3,23 +3,28 @@ use Prim.Native.Nat.{ℕ}
 use mathlib.Core.Path.{_≡_, refl, ap, _∙_}
 use mathlib.Core.Bool.{Bool, true, false}
 use mathlib.Core.List.{List}
+use mathlib.Core.Option.{some}
 use mathlib.Core.Logic.{_↔_}
 use native.Mathlib.Omega.{arith}
+use borrow.Author.Tests.{eq-eqb}
+use lib.Dec.{eqb}
+use Rattle.fieldset.proofs.Numbers.{clash}
 use Rattle.fieldset.proofs.Lists.{Whole}
 use Rattle.panel.specs.declared.Link.{Link}
 use Rattle.panel.specs.declared.Panel.{Panel}
 use Rattle.panel.specs.declared.Refusal.the-variants.{Conflict}
-use Rattle.panel.specs.Items.{link, stay, linkAt}
+use Rattle.panel.specs.Items.{link, stay, linkAt, isInForce}
 use Rattle.panel.specs.Answers.{refused}
 use Rattle.panel.specs.Panels.{withLink}
 use Rattle.panel.specs.Solution.{strengthOf, isBlocked, pathFor, planOf}
-use Rattle.panel.specs.Steps.{turned, addStep}
-use Rattle.panel.specs.Commands.{adding, addChecks, coveredIn, outputsIn}
-use Rattle.panel.proofs.Turn.{turn, link-here}
+use Rattle.panel.specs.Steps.{accepted, turned, enterStep, addStep}
+use Rattle.panel.specs.Commands.{addChecks, coveredIn, outputsIn}
+use Rattle.panel.proofs.Turn.{turn}
 use Rattle.panel.proofs.Legal.{LegalBut}
-use Rattle.panel.proofs.Checks.{newLink, Addable, addable}
-use Rattle.optimality.specs.Condition3.{Store, entered, Pair, AfterEveryList, panels, start}
-use Rattle.optimality.specs.Agreement.{Agrees, Sound}
+use Rattle.panel.proofs.Changes.{Enters, add-enters}
+use Rattle.panel.proofs.Checks.{addable}
+use Rattle.optimality.specs.Condition3.{Store, entry, Pair, AfterEveryList, panels, start}
+use Rattle.optimality.specs.Agreement.{entryFor, Agrees, Sound}
 use Rattle.optimality.specs.States.{HoldsRequired}
 use Rattle.optimality.specs.Refusals.{Possible, ConflictExactly}
 use Rattle.optimality.proofs.Matchings.{pairs}
@@ -30,73 +35,72 @@ use Rattle.optimality.proofs.Held.{plan-whole}
 use Rattle.optimality.proofs.Optimum.{matching-matches, matches-matching}
 use Rattle.optimality.proofs.Paths.{path-reversible, after-assigned}
 use Rattle.optimality.proofs.Answers.{pick, checked-step, turned-no-conflict}
-use Rattle.optimality.proofs.Steps.{add-idle, add-legal, add-agrees, add-none}
+use Rattle.optimality.proofs.Steps.{enter-here, enter-idle, enter-legal, enter-force, enter-agrees, enter-none}
 use Rattle.optimality.proofs.Runs.{after-sound}
-use Rattle.optimality.proofs.States.{required-used}
+use Rattle.optimality.proofs.States.{required-force}
 
 -- ---- required links of the store and of the panel
 
 module _ {b : Store} {p : Panel} (a : Agrees b p) (xs : List Pair) where
   required-all : HoldsRequired b xs → HoldsAll (graphOf p) xs
-  required-all h (link i) u z =
-      let l = linkAt (p .links) i in
-      h i (record { level = l .level; covered = l .covered; outputs = l .outputs }) (a .links i ∙ rw u) z
+  required-all h (link i) u z = h i (entryFor (linkAt (p .links) i)) (a .links i ∙ rw u) z
   required-all h (stay f) u z = absurd (omega arith)
 
   all-required : HoldsAll (graphOf p) xs → HoldsRequired b xs
-  all-required h i e q z = let (u, l) = required-used a i e q z in h (link i) u l
+  all-required h i e q z = let (u, l) = required-force a i e q z in h (link i) u l
 
--- ---- a new link of level 0
+-- ---- a link of level 0 is entered
 
-module _ (b : Store) (p : Panel) (x : Sound b p) (id : ℕ) (bytes : List ℕ) (a : Addable p id 0 bytes) where
-  abbrev q : Panel
-  q = withLink p id (newLink 0 bytes)
+module _ {b : Store} {q : Panel} (x : Sound b q) {id : ℕ} {l : Link} (a : Enters q id l) (needed : l .level ≡ 0) where
+  abbrev r : Panel
+  r = withLink q id l
 
-  here : linkAt (q .links) id ≡ newLink 0 bytes
-  here = link-here (p .links) id (newLink 0 bytes) (omega (arith, x .legal .links-length, a .number))
+  abbrev b′ : Store
+  b′ = entry b id (some (entryFor l))
 
-  k : LegalBut (link id) q
-  k = add-legal b p x id 0 bytes a
+  k : LegalBut (link id) r
+  k = enter-legal x a
 
-  agrees : Agrees (entered b (adding id 0 bytes)) q
-  agrees = add-agrees b p x id 0 bytes a
+  agrees : Agrees b′ r
+  agrees = enter-agrees x a
 
-  new-waits : Waits (graphOf q) (settersOf q) (link id)
-  new-waits = record { force = ap (λ (l : Link). l .used) here; idle = add-idle b p x id 0 bytes a }
+  new-waits : Waits (graphOf r) (settersOf r) (link id)
+  new-waits = record { force = ap isInForce (enter-here x a) ∙ enter-force x a; idle = enter-idle x a }
 
-  whole : Whole (q .size) (planOf q)
-  whole = plan-whole q (k .carrying .few) (k .loopless)
+  whole : Whole (r .size) (planOf r)
+  whole = plan-whole r (k .carrying .few) (k .loopless)
 
-  impossible : isBlocked q (link id) ≡ false → Possible (entered b (adding id 0 bytes)) → ⊥
+  impossible : isBlocked r (link id) ≡ false → Possible b′ → ⊥
   impossible e h =
-      required-impossible (graphOf q) (settersOf q) (planOf q) whole (strengthOf q) (assigned (k .carrying))
-      (none-unblocked k (add-none b p x id 0 bytes a e)) (link id) new-waits (ap (λ (l : Link). l .level) here) (h .choice)
+      required-impossible (graphOf r) (settersOf r) (planOf r) whole (strengthOf r) (assigned (k .carrying))
+      (none-unblocked k (enter-none x a e)) (link id) new-waits (ap (λ (l : Link). l .level) (enter-here x a) ∙ needed) (h .choice)
       (matching-matches (k .carrying) agrees (h .choice) (h .matching)) (required-all agrees (h .choice) (h .required))
 
-  possible : isBlocked q (link id) ≡ true → Possible (entered b (adding id 0 bytes))
+  possible : isBlocked r (link id) ≡ true → Possible b′
   possible e =
       record {
         choice = xs;
-        matching = matches-matching (k .carrying) agrees xs (pairs-match (graphOf q) _ (planOf q) whole (after-assigned k e));
-        required = all-required agrees xs (reversal-holds (path-reversible k e) (planOf q) whole (required-holds k));
+        matching = matches-matching (k .carrying) agrees xs (pairs-match (graphOf r) _ (planOf r) whole (after-assigned k e));
+        required = all-required agrees xs (reversal-holds (path-reversible k e) (planOf r) whole (required-holds k));
       }
     where
       xs : List Pair
-      xs = pairs (turn (settersOf q) (link id) (pathFor q (link id))) (planOf q)
+      xs = pairs (turn (settersOf r) (link id) (pathFor r (link id))) (planOf r)
 
-  step-exactly : (addStep p id 0 (coveredIn bytes) (outputsIn bytes) .reply ≡ refused p Conflict .reply) ↔ (Possible (entered b (adding id 0 bytes)) → ⊥)
-  unfolding addStep
-  step-exactly = go (isBlocked q (link id)) refl
+  enter-conflict : (p : Panel) → (enterStep p q id l .reply ≡ refused p Conflict .reply) ↔ (Possible b′ → ⊥)
+  unfolding enterStep
+  enter-conflict p = go (isBlocked r (link id)) refl (eqb (l .level) 0) (eq-eqb (l .level) 0 needed)
     where
-      go : (t : Bool) → isBlocked q (link id) ≡ t
-          → (pick t (turned p q (link id)) (refused p Conflict) .reply ≡ refused p Conflict .reply) ↔ (Possible (entered b (adding id 0 bytes)) → ⊥)
-      go true e = (λ r. absurd (turned-no-conflict p q (link id) r), λ no-choice. absurd (no-choice (possible e)))
-      go false e = (λ r. impossible e, λ no-choice. refl)
+      go : (t : Bool) → isBlocked r (link id) ≡ t → (z : Bool) → z ≡ true
+          → (pick t (turned p r (link id)) (pick z (refused p Conflict) (accepted p r)) .reply ≡ refused p Conflict .reply) ↔ (Possible b′ → ⊥)
+      go true e z d = (λ h. absurd (turned-no-conflict p r (link id) h), λ no-choice. absurd (no-choice (possible e)))
+      go false e true d = (λ h. impossible e, λ no-choice. refl)
+      go false e false d = absurd (clash d refl)
 
 pub sound-conflict-exactly : {b : Store} {p : Panel} → Sound b p → ConflictExactly b p
 sound-conflict-exactly {b} {p} x id bytes n =
     rw (checked-step p (addChecks p id 0 bytes) (addStep p id 0 (coveredIn bytes) (outputsIn bytes)) n)
-    (step-exactly b p x id bytes (addable p id 0 bytes n))
+    (enter-conflict x (add-enters (addable p id 0 bytes n)) refl p)
 
 pub conflict-exactly : AfterEveryList panels start (λ r. ConflictExactly (r .store) (r .state))
 conflict-exactly commands = sound-conflict-exactly (after-sound commands)

@@ -17,11 +17,11 @@ use Rattle.strength.proofs.Depth.{strength-level, strength-bound-in, strength-o
 use Rattle.fieldset.proofs.Tests.{and-left, and-right}
 use Rattle.ordering.proofs.Plan.{rankOf}
 use Rattle.panel.specs.declared.Panel.{Panel}
-use Rattle.panel.specs.Items.{Item, link, stay, linkAt, setterOf, outputsOf, inForce, waits}
+use Rattle.panel.specs.Items.{Item, link, stay, linkAt, setterOf, outputsOf, isInForce, inForce, waits}
 use Rattle.panel.specs.Solution.{level, setterLevel, setterOthers, setterReads, strengthOf, isBlocked}
 use Rattle.panel.specs.Legal.{Legal}
 use Rattle.panel.proofs.Turn.{same-item, setter-stay}
-use Rattle.panel.proofs.Legal.{Rests, Carrying, LegalBut, used-small}
+use Rattle.panel.proofs.Legal.{Rests, Carrying, LegalBut, force-small}
 use Rattle.panel.proofs.Setters.{whole, outputs-inside, setter-force, setter-output, setter-single, others-out, others-inside, setter-ranked, setter-falls, waits-idle, waits-or-sets, waits-force, rests-waiting}
 use Rattle.optimality.proofs.Setters.{Graph, Waits, Assigned, Potential, Free, Unblocked}
 
@@ -105,8 +105,8 @@ module _ {p : Panel} {c : Item} (h : LegalBut c p) where
   -- a required link does not wait, if it is not left open
   pub required-holds : (d : Item) → Waits (graphOf p) (settersOf p) d → d ≢ c → level p d ≢ 0
   required-holds (link i) w ne z =
-      h .carrying .held .required i (used-small (p .links) i (h .carrying .filled .full) (w .force)) ne (w .force) z
-      (rests-waiting (linkAt (p .links) i .standing) (and-right (linkAt (p .links) i .used) _ (true-waits (link i) w)))
+      h .carrying .held .required i (force-small (p .links) i (h .carrying .filled .full) (w .force)) ne (w .force) z
+      (rests-waiting (linkAt (p .links) i .standing) (and-right (isInForce (linkAt (p .links) i)) _ (true-waits (link i) w)))
   required-holds (stay f) w ne z = omega arith
 
   -- ---- blocked items

@@ -16,7 +16,7 @@ use Rattle.panel.specs.declared.Panel.{Panel}
 use Rattle.panel.specs.Items.{Item, link, stay, inForce, itemsOf}
 use Rattle.panel.specs.Solution.{level, isBlocked, lesser, least, leastBlocked}
 use Rattle.panel.specs.Legal.{Legal}
-use Rattle.panel.proofs.Legal.{used-small}
+use Rattle.panel.proofs.Legal.{force-small}
 
 -- ---- all items
 
@@ -25,7 +25,7 @@ pub item-listed : (p : Panel) → Legal p → (c : Item) → inForce (p .size) (
 unfolding itemsOf
 item-listed p h (link i) u =
     in-left (link i) (map link (tabulate (λ i. i) 128)) (map stay (tabulate (λ f. f) (p .size)))
-    (in-map link i (tabulate (λ i. i) 128) (in-tabulate 128 i (used-small (p .links) i (h .links-length) u)))
+    (in-map link i (tabulate (λ i. i) 128) (in-tabulate 128 i (force-small (p .links) i (h .links-length) u)))
 item-listed p h (stay f) u =
     in-right (stay f) (map link (tabulate (λ i. i) 128)) (map stay (tabulate (λ f. f) (p .size)))
     (in-map stay f (tabulate (λ f. f) (p .size)) (in-tabulate (p .size) f (ltb-true f (p .size) u)))

@@ -2,7 +2,6 @@
 use Prim.Native.Nat.{ℕ, _<_}
 use mathlib.Core.Path.{_≡_, refl, sym, subst}
 use mathlib.Core.Bool.{Bool, true, false}
-use mathlib.Core.List.{List}
 use mathlib.Core.Option.{Option, none, some}
 use mathlib.Core.Logic.{_↔_}
 use native.Mathlib.Omega.{arith}
@@ -12,23 +11,24 @@ use Rattle.ordering.specs.Walks.{ClosedWalk}
 use Rattle.ordering.proofs.Loops.{loop-walk, walk-loop}
 use Rattle.panel.specs.declared.Standing.{Standing}
 use Rattle.panel.specs.declared.Standing.the-variants.{Waiting, Holding}
+use Rattle.panel.specs.declared.Link.{Link}
 use Rattle.panel.specs.declared.Panel.{Panel}
 use Rattle.panel.specs.declared.Refusal.the-variants.{Conflict, Loop}
-use Rattle.panel.specs.Items.{Item, link, stay, noLink, linkAt, itemsOf}
+use Rattle.panel.specs.Items.{Item, link, stay, linkAt, itemsOf}
 use Rattle.panel.specs.Answers.{Answer, refused}
-use Rattle.panel.specs.Panels.{withLink, withSetter, toFront}
+use Rattle.panel.specs.Panels.{withLink, dropped, toFront}
 use Rattle.panel.specs.Solution.{level, setterReads, isBlocked, isLooped, pathFor, reversed, leastBlocked}
-use Rattle.panel.specs.Steps.{accepted, turned, openStep, addStep, settled, removed, removeStep, touchStep, planStep}
+use Rattle.panel.specs.Steps.{accepted, turned, openStep, enterStep, addStep, settled, dropStep, removeStep, touchStep, planStep}
 use Rattle.panel.specs.Commands.{Command, opening, adding, removing, touching, planning, performed, coveredIn, outputsIn}
 use Rattle.panel.specs.Legal.{Legal}
 use Rattle.panel.proofs.Turn.{left}
 use Rattle.panel.proofs.Legal.{Carrying, LegalBut}
 use Rattle.panel.proofs.Setters.{setter-reads-inside}
 use Rattle.panel.proofs.Reversal.{blocking, route-for, turned-carrying, legal-waits}
-use Rattle.panel.proofs.Changes.{legal-add, legal-free, legal-front}
+use Rattle.panel.proofs.Changes.{add-enters, legal-add, legal-dropped, legal-front}
 use Rattle.panel.proofs.Checks.{NoneApply, newLink, addable, removable, touchable}
 use Rattle.optimality.specs.Condition3.{AfterEveryList, panels, start}
-use Rattle.optimality.specs.Refusals.{checksOf, Reversal, reversing, settling, dropping, reversal, reversedPanel, Loops, LoopExactly}
+use Rattle.optimality.specs.Refusals.{checksOf, Reversal, reversing, entering, settling, dropping, reversal, reversedPanel, Loops, LoopExactly}
 use Rattle.optimality.proofs.Graphs.{settersOf}
 use Rattle.optimality.proofs.Least.{Least, least-blocked}
 use Rattle.optimality.proofs.Answers.{pick, Outcome, no, yes, Not, not-given, checked-step}
@@ -77,19 +77,18 @@ turned-exactly p q c k b = go (isLooped r) refl
 -- ---- the commands
 
 module _ (p : Panel) (h : Legal p) where
-  add-exactly : (id level : ℕ) (bytes : List ℕ) → LegalBut (link id) (withLink p id (newLink level bytes))
-      → Exactly p (addStep p id level (coveredIn bytes) (outputsIn bytes)) (reversal p (adding id level bytes))
-  unfolding addStep reversal
-  add-exactly id level bytes k = go (isBlocked q (link id)) refl (eqb level 0)
+  enter-exactly : (q : Panel) (id : ℕ) (l : Link) → LegalBut (link id) (withLink q id l) → Exactly p (enterStep p q id l) (entering q id l)
+  unfolding enterStep
+  enter-exactly q id l k = go (isBlocked r (link id)) refl (eqb (l .level) 0)
     where
-      q : Panel
-      q = withLink p id (newLink level bytes)
+      r : Panel
+      r = withLink q id l
 
-      go : (t : Bool) → isBlocked q (link id) ≡ t → (z : Bool)
-          → Exactly p (pick t (turned p q (link id)) (pick z (refused p Conflict) (accepted p q))) (reversing t q (link id))
-      go true e z = turned-exactly p q (link id) k e
+      go : (t : Bool) → isBlocked r (link id) ≡ t → (z : Bool)
+          → Exactly p (pick t (turned p r (link id)) (pick z (refused p Conflict) (accepted p r))) (reversing t r (link id))
+      go true e z = turned-exactly p r (link id) k e
       go false e true = still p (refused p Conflict) (no Conflict (omega arith))
-      go false e false = still p (accepted p q) (yes _ _)
+      go false e false = still p (accepted p r) (yes _ _)
 
   touch-exactly : (f : ℕ) → f < p .size → Exactly p (touchStep p f) (reversal p (touching f))
   unfolding touchStep reversal
@@ -107,24 +106,19 @@ module _ (p : Panel) (h : Legal p) where
   settled-exactly q k none a = still p (accepted p q) (yes _ _)
   settled-exactly q k (some c) a = turned-exactly p q c (legal-waits q c k (blocking q c (a .0) .waits-now)) (a .0)
 
-  remove-exactly : (id : ℕ) → id < 128 → Exactly p (removeStep p id) (reversal p (removing id))
-  unfolding removeStep reversal
-  remove-exactly id l = go (linkAt (p .links) id .standing) refl
-    where
-      go : (s : Standing) → linkAt (p .links) id .standing ≡ s → Exactly p (removed p id s) (dropping p id s)
-      go Waiting e = still p (accepted p (withLink p id noLink)) (yes _ _)
-      go (Holding v) e =
-          let q = withSetter (withLink p id noLink) v 128 in
-          settled-exactly q (legal-free p id v h l e) (leastBlocked q) (least-blocked q)
+  drop-exactly : (q : Panel) → Legal q → (s : Standing) → Exactly p (dropStep p q s) (dropping q s)
+  drop-exactly q k Waiting = still p (accepted p q) (yes _ _)
+  drop-exactly q k (Holding v) = settled-exactly q k (leastBlocked q) (least-blocked q)
 
   command-exactly : (c : Command) → NoneApply (checksOf p c) → Exactly p (performed p c) (reversal p c)
-  unfolding planStep reversal
+  unfolding removeStep planStep reversal
   command-exactly (opening m) n = rw (checked-step p (checksOf p (opening m)) (openStep m) n) (still p (openStep m) (yes _ _))
   command-exactly (adding id level bytes) n =
-      let a = addable p id level bytes n in
       rw (checked-step p (checksOf p (adding id level bytes)) (addStep p id level (coveredIn bytes) (outputsIn bytes)) n)
-      (add-exactly id level bytes (legal-add p id (newLink level bytes) h (a .number) (a .free) (a .formed) refl refl))
-  command-exactly (removing id) n = rw (checked-step p (checksOf p (removing id)) (removeStep p id) n) (remove-exactly id (removable p id n .number))
+      (enter-exactly p id (newLink level bytes) (legal-add p id (newLink level bytes) h (add-enters (addable p id level bytes n))))
+  command-exactly (removing id) n =
+      rw (checked-step p (checksOf p (removing id)) (removeStep p id) n)
+      (drop-exactly (dropped p id) (legal-dropped p id h (removable p id n .number)) (linkAt (p .links) id .standing))
   command-exactly (touching f) n = rw (checked-step p (checksOf p (touching f)) (touchStep p f) n) (touch-exactly f (touchable p f n))
   command-exactly planning n = rw (checked-step p (checksOf p planning) (planStep p) n) (still p (planStep p) (yes _ _))
 

@@ -13,11 +13,11 @@ use Rattle.fieldset.proofs.Fields.{member-lt, member-only, member-without-other
 use Rattle.ordering.specs.Walks.{Read as FieldRead, Walk as FieldWalk, one as fieldOne, more as fieldMore}
 use Rattle.ordering.proofs.Loops.{walk-loop}
 use Rattle.panel.specs.declared.Panel.{Panel}
-use Rattle.panel.specs.Items.{Item, link, stay, linkAt, inForce}
+use Rattle.panel.specs.Items.{Item, link, stay, linkAt, isInForce, inForce}
 use Rattle.panel.specs.Solution.{level, setterReads, planOf, isLooped, strengthOf}
 use Rattle.panel.specs.Commands.{planning, performed}
 use Rattle.panel.specs.Legal.{Formed}
-use Rattle.panel.proofs.Legal.{Carrying, LegalBut, used-small}
+use Rattle.panel.proofs.Legal.{Carrying, LegalBut, force-formed}
 use Rattle.panel.proofs.Setters.{outputs-inside, setter-reads-inside}
 use Rattle.optimality.specs.Condition3.{Store, levelIn, Pair, IsOutput, MaySet, Matching, countUpTo, held, IsCovered, Reads, Read, Walk, one, more, Loop, Optimal}
 use Rattle.optimality.specs.Agreement.{Agrees, Sound}
@@ -26,17 +26,17 @@ use Rattle.optimality.proofs.Matchings.{Fits, Matches, count-cong, pair
 use Rattle.optimality.proofs.Required.{pairs-match, pairs-most}
 use Rattle.optimality.proofs.Graphs.{graphOf, settersOf, legal-whole, assigned, none-unblocked}
 use Rattle.optimality.proofs.Held.{plan-whole, held-pairs}
-use Rattle.optimality.proofs.Agreement.{entry-used}
+use Rattle.optimality.proofs.Agreement.{entry-force}
 
 -- ---- matchings over the store
 
 module _ {b : Store} {p : Panel} {o : Item} (h : Carrying o p) (a : Agrees b p) where
-  formed : (i : ℕ) → linkAt (p .links) i .used ≡ true → Formed (p .size) (linkAt (p .links) i)
-  formed i u = h .filled .good i (used-small (p .links) i (h .filled .full) u) .formed u
+  formed : (i : ℕ) → isInForce (linkAt (p .links) i) ≡ true → Formed (p .size) (linkAt (p .links) i)
+  formed = force-formed (p .size) (p .links) (h .filled)
 
   may-fits : (c : Item) (f : ℕ) → MaySet b c f → Fits (graphOf p) (record { item = c; field = f })
   may-fits (link i) f m =
-      let (u, k) = entry-used (λ e. IsOutput e f) (λ n. n) (linkAt (p .links) i) (rw (a .links i) at m) in
+      let (u, k) = entry-force (λ e. IsOutput e f) (λ n. n) (linkAt (p .links) i) (rw (a .links i) at m) in
       let l : f < 64 = member-lt (linkAt (p .links) i .outputs) (formed i u .outputs-small) f k in
       record { force = u; below = outputs-inside (p .size) (p .links) (h .filled) (link i) f u l k; may = k }
   may-fits (stay g) f m =
@@ -81,7 +81,7 @@ module _ {b : Store} {p : Panel} {o : Item} (h : Carrying o p) (a : Agrees b p) 
 
   read-field : (f g : ℕ) (c : Item) → g < p .size → settersOf p g ≡ c → Reads b c g f → FieldRead (setterReads p) (p .size) f g
   read-field f g (link i) l e r =
-      let (u, k) = entry-used (λ e. IsCovered e f) (λ n. n) (linkAt (p .links) i) (rw (a .links i) at (r .0)) in
+      let (u, k) = entry-force (λ e. IsCovered e f) (λ n. n) (linkAt (p .links) i) (rw (a .links i) at (r .0)) in
       let lf : f < 64 = member-lt (linkAt (p .links) i .covered) (formed i u .small) f k in
       let m : member (setterReads p g) f ≡ true = rw e (member-without-other (linkAt (p .links) i .covered) g f lf (r .1) ∙ k) in
       record { from = setter-reads-inside p o h .inside g f l lf m; to = l; reads-it = m }

@@ -12,10 +12,10 @@ use Rattle.panel.specs.declared.Panel.{Panel}
 use Rattle.panel.specs.Items.{Item, inForce, outputsOf, levelOf}
 use Rattle.panel.specs.Solution.{level, setterLevel, setterOthers, strengthOf, isBlocked, pathFor, reversed}
 use Rattle.panel.specs.Legal.{Legal}
-use Rattle.panel.proofs.Turn.{turn, reversed-size, reversed-place, reversed-level, reversed-outputs, reversed-force}
+use Rattle.panel.proofs.Turn.{turn, reversed-size, reversed-place, reversed-level, reversed-outputs}
 use Rattle.panel.proofs.Legal.{LegalBut}
 use Rattle.panel.proofs.Setters.{others-out}
-use Rattle.panel.proofs.Reversal.{blocking, startOf, Start, start-of, path-for, Route, route-for, turned-carrying, turned-setters}
+use Rattle.panel.proofs.Reversal.{blocking, startOf, Start, start-of, path-for, Route, route-for, turned-carrying, turned-force, turned-setters}
 use Rattle.optimality.proofs.Setters.{Graph, Assigned, Unblocked, Chain, Reversible}
 use Rattle.optimality.proofs.Graphs.{graphOf, settersOf, legal-whole, assigned, strength-potential, unblocked-none}
 
@@ -68,12 +68,16 @@ module _ {p : Panel} {c : Item} (h : LegalBut c p) (b : isBlocked p c ≡ true) 
   abbrev pub after : Panel
   after = reversed p c (pathFor p c)
 
+  pub after-force : (d : Item) → inForce (after .size) (after .links) d ≡ inForce (p .size) (p .links) d
+  after-force d =
+      ap (λ (n : ℕ). inForce n (after .links) d) (reversed-size p c (pathFor p c)) ∙ turned-force p c (pathFor p c) (h .carrying) route (p .size) d
+
   pub after-graph : graphOf after ≡ graphOf p
   after-graph = λ i. record {
     n = reversed-size p c (pathFor p c) i;
     lev = fun-ext levels i;
     out = fun-ext outs i;
-    force = fun-ext force i;
+    force = fun-ext after-force i;
   }
     where
       levels : (d : Item) → level after d ≡ level p d
@@ -82,9 +86,6 @@ module _ {p : Panel} {c : Item} (h : LegalBut c p) (b : isBlocked p c ≡ true) 
 
       outs : (d : Item) → _≡_ {A = ℕ → Bool} (λ u. member (outputsOf (after .links) d) u) (λ u. member (outputsOf (p .links) d) u)
       outs d = fun-ext (λ u. ap (λ (m : ℕ). member m u) (reversed-outputs p c (pathFor p c) d))
-
-      force : (d : Item) → inForce (after .size) (after .links) d ≡ inForce (p .size) (p .links) d
-      force d = ap (λ (n : ℕ). inForce n (after .links) d) (reversed-size p c (pathFor p c)) ∙ reversed-force p c (pathFor p c) (p .size) d
 
   pub after-setters : settersOf after ≡ turn (settersOf p) c (pathFor p c)
   after-setters = turned-setters p c (pathFor p c) (h .carrying) route

@@ -1,4 +1,4 @@
--- A sound state stays sound through Remove.
+-- A sound state stays sound where a link goes out of force, as through Remove.
 use Prim.Native.Nat.{ℕ, _≤_, _<_, min, max}
 use mathlib.Core.Path.{_≡_, refl, sym, ap, _∙_}
 use mathlib.Core.Bool.{Bool, true, false}
@@ -17,18 +17,18 @@ use Rattle.panel.specs.declared.Standing.{Standing}
 use Rattle.panel.specs.declared.Standing.the-variants.{Waiting, Holding}
 use Rattle.panel.specs.declared.Link.{Link}
 use Rattle.panel.specs.declared.Panel.{Panel}
-use Rattle.panel.specs.Items.{Item, link, stay, noLink, linkAt, outputsOf, inForce, itemsOf}
-use Rattle.panel.specs.Panels.{withLink, withSetter}
+use Rattle.panel.specs.Items.{Item, link, stay, noLink, linkAt, outputsOf, isInForce, inForce, itemsOf}
+use Rattle.panel.specs.Panels.{withLink, withSetter, freed, dropped}
 use Rattle.panel.specs.Solution.{level, strengthOf, isBlocked, pathFor, leastBlocked}
-use Rattle.panel.specs.Steps.{settled, removed, removeStep}
-use Rattle.panel.specs.Commands.{removing}
+use Rattle.panel.specs.Steps.{settled, dropStep, removeStep}
 use Rattle.panel.specs.Legal.{Legal}
+use Rattle.panel.proofs.InForce.{unused-off, waiting-force}
 use Rattle.panel.proofs.Turn.{put, same-item, link-here, set-setter, number-setter}
 use Rattle.panel.proofs.Legal.{LegalBut}
 use Rattle.panel.proofs.Setters.{waits-idle}
 use Rattle.panel.proofs.Reversal.{blocking, startOf, legal-waits}
-use Rattle.panel.proofs.Changes.{legal-drop, legal-free}
-use Rattle.optimality.specs.Condition3.{Store, entered}
+use Rattle.panel.proofs.Changes.{legal-dropped}
+use Rattle.optimality.specs.Condition3.{Store, entry}
 use Rattle.optimality.specs.Agreement.{Agrees, Sound}
 use Rattle.optimality.proofs.Setters.{Graph, Waits, Free, Unblocked}
 use Rattle.optimality.proofs.Changes.{Change, changed-potential, changed-free}
@@ -39,42 +39,45 @@ use Rattle.optimality.proofs.Agreement.{agrees-link}
 use Rattle.optimality.proofs.Least.{Least, least-blocked, item-listed}
 use Rattle.optimality.proofs.Steps.{SoundAfter, turned-sound, there, link-none}
 
-module _ (b : Store) (p : Panel) (x : Sound b p) (id : ℕ) (lt : id < 128) (used : linkAt (p .links) id .used ≡ true) where
-  gone : linkAt (set (p .links) id noLink) id ≡ noLink
-  gone = link-here (p .links) id noLink (omega (arith, x .legal .links-length))
+-- a link is replaced by one that is not in force, of no higher level and no other outputs
+module _ (b : Store) (p : Panel) (x : Sound b p) (id : ℕ) (lt : id < 128) (used : linkAt (p .links) id .used ≡ true)
+    (l : Link) (off : isInForce l ≡ false) (low : l .level ≤ linkAt (p .links) id .level)
+    (fewer : (u : ℕ) → member (l .outputs) u ≡ true → member (linkAt (p .links) id .outputs) u ≡ true) where
+  abbrev b′ : Store
+  b′ = entry b id none
 
-  drop-agrees : Agrees (entered b (removing id)) (withLink p id noLink)
-  drop-agrees = agrees-link b p id noLink (omega (arith, x .legal .links-length)) (x .agrees)
+  gone : linkAt (set (p .links) id l) id ≡ l
+  gone = link-here (p .links) id l (omega (arith, x .legal .links-length))
+
+  never : inForce (p .size) (set (p .links) id l) (link id) ≡ true → ⊥
+  never u = clash u (ap isInForce gone ∙ off)
+
+  left-agrees : Agrees b′ (withLink p id l)
+  left-agrees = agrees-link b p id l none (rw off) (omega (arith, x .legal .links-length)) (x .agrees)
 
   -- the link waits
-  drop-sound : linkAt (p .links) id .standing ≡ Waiting → Sound (entered b (removing id)) (withLink p id noLink)
-  drop-sound e =
+  drop-waiting : linkAt (p .links) id .standing ≡ Waiting → Legal (withLink p id l) → Sound b′ (withLink p id l)
+  drop-waiting e k =
       record {
         legal = k;
-        agrees = drop-agrees;
+        agrees = left-agrees;
         unblocked =
-            link-none p (x .legal) (x .unblocked) id noLink
-            (waits-idle (stay (p .size)) (p .size) (p .links) (p .setter) (legal-whole p (x .legal) .carrying .held) (link id) (rw (used, e)))
-            (legal-whole (withLink p id noLink) k)
-            (free-unblocked (legal-whole (withLink p id noLink) k) (link id) (λ w. absurd (clash (w .force) (ap (λ (l : Link). l .used) gone))));
+            link-none p (x .legal) (x .unblocked) id l
+            (waits-idle (stay (p .size)) (p .size) (p .links) (p .setter) (legal-whole p (x .legal) .carrying .held) (link id) (rw (waiting-force (linkAt (p .links) id) used e, e)))
+            (legal-whole (withLink p id l) k)
+            (free-unblocked (legal-whole (withLink p id l) k) (link id) (λ w. absurd (never (w .force))));
       }
-    where
-      k : Legal (withLink p id noLink)
-      k = legal-drop p id (x .legal) lt e
 
   -- the link holds v
-  module _ (v : ℕ) (holds : linkAt (p .links) id .standing ≡ Holding v) where
+  module _ (v : ℕ) (holds : linkAt (p .links) id .standing ≡ Holding v) (q-legal : Legal (withSetter (withLink p id l) v 128)) where
     abbrev q : Panel
-    q = withSetter (withLink p id noLink) v 128
-
-    q-legal : Legal q
-    q-legal = legal-free p id v (x .legal) lt holds
+    q = withSetter (withLink p id l) v 128
 
     k : LegalBut (stay (q .size)) q
     k = legal-whole q q-legal
 
-    q-agrees : Agrees (entered b (removing id)) q
-    q-agrees = record { links = drop-agrees .links; stays = drop-agrees .stays; below = drop-agrees .below; places = drop-agrees .places }
+    q-agrees : Agrees b′ q
+    q-agrees = record { links = left-agrees .links; stays = left-agrees .stays; below = left-agrees .below; places = left-agrees .places }
 
     v-below : v < p .size
     v-below = x .legal .holding-field id v lt holds
@@ -88,7 +91,7 @@ module _ (b : Store) (p : Panel) (x : Sound b p) (id : ℕ) (lt : id < 128) (use
     now : settersOf q ≡ put (settersOf p) v (stay v)
     now = set-setter (p .setter) v (stay v) (x .legal .setter-length) (omega (arith, v-below, few)) refl
 
-    -- ---- the graph with the link still in force, but without outputs
+    -- ---- the graph with the link still in force, as it now is
 
     abbrev before : Graph
     before = record { n = p .size; lev = level q; out = graphOf q .out; force = inForce (p .size) (p .links) }
@@ -98,18 +101,18 @@ module _ (b : Store) (p : Panel) (x : Sound b p) (id : ℕ) (lt : id < 128) (use
         record {
           size = refl;
           mono = λ a b le. le;
-          level = λ f l. lev-st (settersOf p f) (same-item (settersOf p f) (link id));
-          outs = λ f u l o. out-st (settersOf p f) u o (same-item (settersOf p f) (link id));
-          others = λ w u ne. (u, there p id noLink w ne .1, λ v o. rw (there p id noLink w ne .2) at o);
+          level = λ f lf. lev-st (settersOf p f) (same-item (settersOf p f) (link id));
+          outs = λ f u lf o. out-st (settersOf p f) u o (same-item (settersOf p f) (link id));
+          others = λ w u ne. (u, there p id l w ne .1, λ v o. rw (there p id l w ne .2) at o);
         }
       where
         lev-st : (w : Item) → Dec (w ≡ link id) → level q w ≤ level p w
-        lev-st w (yes e) = rw e (omega (arith, ap (λ (l : Link). l .level) gone))
-        lev-st w (no e) = le-of-eq (there p id noLink w e .1)
+        lev-st w (yes e) = rw e (omega (arith, ap (λ (l : Link). l .level) gone, low))
+        lev-st w (no e) = le-of-eq (there p id l w e .1)
 
         out-st : (w : Item) (u : ℕ) → member (outputsOf (q .links) w) u ≡ true → Dec (w ≡ link id) → member (outputsOf (p .links) w) u ≡ true
-        out-st w u o (yes e) = absurd (clash (rw e at o) (ap (λ (l : Link). member (l .outputs) u) gone ∙ member-empty u))
-        out-st w u o (no e) = rw (there p id noLink w e .2) at o
+        out-st w u o (yes e) = rw e (fewer u (sym (ap (λ (l : Link). member (l .outputs) u) gone) ∙ (rw e at o)))
+        out-st w u o (no e) = rw (there p id l w e .2) at o
 
     un : Unblocked before (settersOf p) (strengthOf p)
     un = record { potential = changed-potential un₀ change; free = λ w h. changed-free un₀ change w h (λ e. h .idle v v-below (v-setter ∙ sym e)) }
@@ -124,8 +127,8 @@ module _ (b : Store) (p : Panel) (x : Sound b p) (id : ℕ) (lt : id < 128) (use
     kept w u = go (same-item w (link id))
       where
         go : Dec (w ≡ link id) → (inForce (p .size) (p .links) w ≡ true) × (w ≢ settersOf p v)
-        go (yes e) = absurd (clash (rw e at u) (ap (λ (l : Link). l .used) gone))
-        go (no e) = (sym (there p id noLink w e .0) ∙ u, λ d. e (d ∙ v-setter))
+        go (yes e) = absurd (never (rw e at u))
+        go (no e) = (sym (there p id l w e .0) ∙ u, λ d. e (d ∙ v-setter))
 
     -- ---- the least blocked item goes in
 
@@ -140,9 +143,9 @@ module _ (b : Store) (p : Panel) (x : Sound b p) (id : ℕ) (lt : id < 128) (use
           go true e = inr (all-in (λ c. isBlocked q c ≡ true → level q d ≤ level q c) (itemsOf (q .size)) w least (item-listed q q-legal w (h .force)) e)
           go false e = inl (unblocked-free k w e h)
 
-      some-sound : SoundAfter b (removing id) (settled p q (some d))
+      some-sound : SoundAfter b b′ (settled p q (some d))
       some-sound =
-          turned-sound b (removing id) p q d x kd blocked q-agrees (λ f. min (strengthOf q f) (max (level q d) (strengthOf p f)))
+          turned-sound b b′ p q d x kd blocked q-agrees (λ f. min (strengthOf q f) (max (level q d) (strengthOf p f)))
           (rw now
           (removal-unblocked before (inForce (p .size) (q .links)) (settersOf p) (strengthOf p) un v (stay v) stay-only kept
           (strengthOf q)
@@ -151,7 +154,7 @@ module _ (b : Store) (p : Panel) (x : Sound b p) (id : ℕ) (lt : id < 128) (use
           d (rw now at (blocked-waits k d blocked)) (rw now at d-least)
           (startOf q d) (path-start kd blocked .small) (path-start kd blocked .output) (pathFor q d) (rw now at (path-reversible kd blocked))))
 
-    none-sound : All (λ c. isBlocked q c ≡ false) (itemsOf (q .size)) → SoundAfter b (removing id) (settled p q none)
+    none-sound : All (λ c. isBlocked q c ≡ false) (itemsOf (q .size)) → SoundAfter b b′ (settled p q none)
     none-sound a =
         record {
           legal = q-legal;
@@ -160,17 +163,21 @@ module _ (b : Store) (p : Panel) (x : Sound b p) (id : ℕ) (lt : id < 128) (use
               free-unblocked k w (λ h. unblocked-free k w (all-in (λ c. isBlocked q c ≡ false) (itemsOf (q .size)) w a (item-listed q q-legal w (h .force))) h);
         }
 
-    settled-sound : SoundAfter b (removing id) (settled p q (leastBlocked q))
+    settled-sound : SoundAfter b b′ (settled p q (leastBlocked q))
     settled-sound = go (leastBlocked q) (least-blocked q)
       where
-        go : (o : Option Item) → Least (isBlocked q) (level q) (itemsOf (q .size)) o → SoundAfter b (removing id) (settled p q o)
+        go : (o : Option Item) → Least (isBlocked q) (level q) (itemsOf (q .size)) o → SoundAfter b b′ (settled p q o)
         go none a = none-sound a
         go (some d) a = some-sound d (a .0) (a .1)
 
-  pub remove-sound : SoundAfter b (removing id) (removeStep p id)
-  unfolding removeStep
-  remove-sound = go (linkAt (p .links) id .standing) refl
-    where
-      go : (s : Standing) → linkAt (p .links) id .standing ≡ s → SoundAfter b (removing id) (removed p id s)
-      go Waiting e = drop-sound e
-      go (Holding v) e = settled-sound v e
+  pub drop-sound : (s : Standing) → linkAt (p .links) id .standing ≡ s → Legal (freed (withLink p id l) s)
+      → SoundAfter b b′ (dropStep p (freed (withLink p id l) s) s)
+  drop-sound Waiting e k = drop-waiting e k
+  drop-sound (Holding v) e k = settled-sound v e k
+
+pub remove-sound : (b : Store) (p : Panel) → Sound b p → (id : ℕ) → id < 128 → linkAt (p .links) id .used ≡ true
+    → SoundAfter b (entry b id none) (removeStep p id)
+unfolding removeStep dropped
+remove-sound b p x id lt used =
+    drop-sound b p x id lt used noLink (unused-off noLink refl) (omega arith) (λ u o. absurd (clash o (member-empty u))) (linkAt (p .links) id .standing) refl
+    (legal-dropped p id (x .legal) lt)

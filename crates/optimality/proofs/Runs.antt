@@ -8,23 +8,23 @@ use borrow.Author.Tests.{ltb-true}
 use lib.ListN.{replicate, getD-replicate}
 use Rattle.fieldset.specs.Tables.{tabulate}
 use Rattle.fieldset.proofs.Numbers.{clash}
-use Rattle.panel.specs.declared.Link.{Link}
 use Rattle.panel.specs.declared.Panel.{Panel}
-use Rattle.panel.specs.Items.{Item, link, stay}
+use Rattle.panel.specs.Items.{Item, link, stay, noLink, isInForce}
 use Rattle.panel.specs.Panels.{opened}
 use Rattle.panel.specs.Steps.{openStep, addStep, removeStep, touchStep, planStep}
 use Rattle.panel.specs.Commands.{Command, opening, adding, removing, touching, planning, performed, openChecks, addChecks, removeChecks, touchChecks, planChecks, coveredIn, outputsIn}
+use Rattle.panel.proofs.InForce.{unused-off}
 use Rattle.panel.proofs.Turn.{setter-stay}
-use Rattle.panel.proofs.Changes.{legal-opened, unopened-links}
+use Rattle.panel.proofs.Changes.{legal-opened, unopened-links, add-enters}
 use Rattle.panel.proofs.Checks.{openable, addable, removable, touchable}
 use Rattle.optimality.specs.Condition3.{Store, empty, entered, System, Run, stepped, after, AfterEveryList, panels, start, Condition3}
-use Rattle.optimality.specs.Agreement.{entryOf, EverySystem, Sound, EveryStart}
+use Rattle.optimality.specs.Agreement.{EverySystem, Sound, EveryStart}
 use Rattle.optimality.proofs.Setters.{Waits}
 use Rattle.optimality.proofs.Graphs.{graphOf, settersOf, legal-whole, free-unblocked}
 use Rattle.optimality.proofs.Answers.{checked-answer}
 use Rattle.optimality.proofs.Optimum.{sound-optimal}
-use Rattle.optimality.proofs.Agreement.{agrees-opened, default-link}
-use Rattle.optimality.proofs.Steps.{SoundAfter, add-sound, touch-sound}
+use Rattle.optimality.proofs.Agreement.{agrees-opened, default-link, default-entry}
+use Rattle.optimality.proofs.Steps.{SoundAfter, enter-sound, touch-sound}
 use Rattle.optimality.proofs.Removing.{remove-sound}
 
 -- ---- opening
@@ -32,7 +32,7 @@ use Rattle.optimality.proofs.Removing.{remove-sound}
 -- nothing waits in a panel at opening
 opened-idle : (n : ℕ) → n ≤ 64 → (d : Item) → Waits (graphOf (opened n)) (settersOf (opened n)) d → ⊥
 unfolding opened
-opened-idle n few (link i) w = clash (w .force) (ap (λ (l : Link). l .used) (default-link i))
+opened-idle n few (link i) w = clash (w .force) (ap isInForce (default-link i) ∙ unused-off noLink refl)
 opened-idle n few (stay f) w =
     let l : f < n = ltb-true f n (w .force) in
     w .idle f l (setter-stay (replicate 64 128) f (omega (arith, getD-replicate {A = ℕ} 64 f 128 0 (omega arith))))
@@ -47,24 +47,24 @@ opened-sound b n few no-links =
 
 -- an unopened panel has no links
 no-links : (b : Store) (p : Panel) → Sound b p → p .size ≡ 0 → (i : ℕ) → b .links i ≡ none
-no-links b p x e i = x .agrees .links i ∙ rw (unopened-links p (x .legal) e) (ap entryOf (default-link i))
+no-links b p x e i = x .agrees .links i ∙ rw (unopened-links p (x .legal) e) (default-entry i)
 
 -- ---- the commands
 
-pub performed-sound : (b : Store) (p : Panel) (c : Command) → Sound b p → SoundAfter b c (performed p c)
+pub performed-sound : (b : Store) (p : Panel) (c : Command) → Sound b p → SoundAfter b (entered b c) (performed p c)
 unfolding planStep
 performed-sound b p (opening n) x =
-    checked-answer (SoundAfter b (opening n)) p (openChecks p n) (openStep n) (x, (x, tt))
+    checked-answer (SoundAfter b (entered b (opening n))) p (openChecks p n) (openStep n) (x, (x, tt))
     (λ k. let (e, l, few) = openable p n k in opened-sound b n few (no-links b p x e))
 performed-sound b p (adding id level bytes) x =
-    checked-answer (SoundAfter b (adding id level bytes)) p (addChecks p id level bytes) (addStep p id level (coveredIn bytes) (outputsIn bytes))
-    (x, (x, (x, (x, tt)))) (λ k. add-sound b p x id level bytes (addable p id level bytes k))
+    checked-answer (SoundAfter b (entered b (adding id level bytes))) p (addChecks p id level bytes) (addStep p id level (coveredIn bytes) (outputsIn bytes))
+    (x, (x, (x, (x, tt)))) (λ k. enter-sound x (add-enters (addable p id level bytes k)) x)
 performed-sound b p (removing id) x =
-    checked-answer (SoundAfter b (removing id)) p (removeChecks p id) (removeStep p id) (x, (x, (x, tt)))
+    checked-answer (SoundAfter b (entered b (removing id))) p (removeChecks p id) (removeStep p id) (x, (x, (x, tt)))
     (λ k. remove-sound b p x id (removable p id k .number) (removable p id k .used))
 performed-sound b p (touching f) x =
-    checked-answer (SoundAfter b (touching f)) p (touchChecks p f) (touchStep p f) (x, (x, tt)) (λ k. touch-sound b p x f (touchable p f k))
-performed-sound b p planning x = checked-answer (SoundAfter b planning) p (planChecks p) (planStep p) (x, tt) (λ k. x)
+    checked-answer (SoundAfter b (entered b (touching f))) p (touchChecks p f) (touchStep p f) (x, (x, tt)) (λ k. touch-sound b p x f (touchable p f k))
+performed-sound b p planning x = checked-answer (SoundAfter b b) p (planChecks p) (planStep p) (x, tt) (λ k. x)
 
 -- ---- lists of commands
 

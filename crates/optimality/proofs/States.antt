@@ -9,7 +9,7 @@ use native.Mathlib.Omega.{arith}
 use Rattle.fieldset.specs.Lists.{In}
 use Rattle.fieldset.proofs.Lists.{all-in, in-map, Whole, whole-in}
 use Rattle.panel.specs.declared.Panel.{Panel}
-use Rattle.panel.specs.Items.{Item, link, linkAt}
+use Rattle.panel.specs.Items.{Item, link, linkAt, isInForce}
 use Rattle.panel.specs.Solution.{planOf}
 use Rattle.panel.specs.Commands.{planning, performed}
 use Rattle.panel.proofs.Turn.{link-not-stay}
@@ -20,14 +20,14 @@ use Rattle.optimality.proofs.Matchings.{holds-more, pairOf, pair-setter
 use Rattle.optimality.proofs.Required.{pairs-hold}
 use Rattle.optimality.proofs.Graphs.{graphOf, settersOf, legal-whole, required-holds}
 use Rattle.optimality.proofs.Held.{plan-whole, held-pairs}
-use Rattle.optimality.proofs.Agreement.{entry-used}
+use Rattle.optimality.proofs.Agreement.{entry-force}
 use Rattle.optimality.proofs.Runs.{after-sound, condition-3}
 
--- an entry of the store is a link in use
-pub required-used : {b : Store} {p : Panel} → Agrees b p → (i : ℕ) (e : Entry) → b .links i ≡ some e → e .level ≡ 0
-    → (linkAt (p .links) i .used ≡ true) × (linkAt (p .links) i .level ≡ 0)
-required-used {b} {p} a i e q z =
-    let (u, d) = entry-used (λ o. o ≡ some e) (λ n. let z : _≡_ {A = ℕ} 0 1 = cc in omega arith) (linkAt (p .links) i) (sym (a .links i) ∙ q) in
+-- an entry of the store is a link in force
+pub required-force : {b : Store} {p : Panel} → Agrees b p → (i : ℕ) (e : Entry) → b .links i ≡ some e → e .level ≡ 0
+    → (isInForce (linkAt (p .links) i) ≡ true) × (linkAt (p .links) i .level ≡ 0)
+required-force {b} {p} a i e q z =
+    let (u, d) = entry-force (λ o. o ≡ some e) (λ n. let z : _≡_ {A = ℕ} 0 1 = cc in omega arith) (linkAt (p .links) i) (sym (a .links i) ∙ q) in
     (u, ap levelOf d ∙ z)
 
 pub sound-settled : {b : Store} {p : Panel} → Sound b p → Settled b (performed p planning .reply)
@@ -47,7 +47,7 @@ sound-settled {b} {p} x =
 
     required : HoldsRequired b (held (performed p planning .reply))
     required i e q z =
-        let (u, l) = required-used (x .agrees) i e q z in
+        let (u, l) = required-force (x .agrees) i e q z in
         rw (held-pairs p (x .legal))
         (pairs-hold (graphOf p) (settersOf p) (planOf p) whole (link i) u (λ w. required-holds (legal-whole p (x .legal)) (link i) w link-not-stay l))
 

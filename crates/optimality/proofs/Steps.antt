@@ -1,67 +1,66 @@
--- A sound state stays sound through Add and Touch: their changes, and a reversal after one.
+-- A sound state stays sound where a link is entered and through Touch: their changes, and a reversal after one.
 use Prim.Native.Nat.{ℕ, _+_, _≤_, _<_}
 use mathlib.Core.Path.{_≡_, refl, sym, ap, _∙_}
 use mathlib.Core.Bool.{Bool, true, false, cond}
-use mathlib.Core.List.{List}
+use mathlib.Core.Option.{some}
 use mathlib.Core.Logic.{_≢_}
 use native.Mathlib.Nat.{le-of-eq}
 use native.Mathlib.Omega.{arith}
 use borrow.Author.Tests.{eq-eqb, ne-eqb, eqb-false, ltb-true}
 use lib.Dec.{eqb}
-use lib.ListN.{set}
+use lib.ListN.{length, set}
 use Rattle.fieldset.specs.Tables.{at, tabulate}
 use Rattle.fieldset.proofs.Numbers.{clash}
 use Rattle.fieldset.proofs.Tables.{getD-tabulate}
 use Rattle.panel.specs.declared.Link.{Link}
 use Rattle.panel.specs.declared.Panel.{Panel}
 use Rattle.panel.specs.declared.Refusal.the-variants.{Conflict, Loop}
-use Rattle.panel.specs.Items.{Item, link, stay, linkAt, levelOf, outputsOf, inForce}
+use Rattle.panel.specs.Items.{Item, link, stay, linkAt, levelOf, outputsOf, isInForce, inForce}
 use Rattle.panel.specs.Answers.{Answer, isRefusal, refused}
 use Rattle.panel.specs.Panels.{withLink, toFront, placeAfter}
 use Rattle.panel.specs.Solution.{level, strengthOf, isBlocked, isLooped, pathFor, reversed}
-use Rattle.panel.specs.Steps.{accepted, turned, addStep, touchStep}
-use Rattle.panel.specs.Commands.{Command, adding, touching, coveredIn, outputsIn}
+use Rattle.panel.specs.Steps.{accepted, turned, enterStep, touchStep}
+use Rattle.panel.specs.Commands.{touching}
 use Rattle.panel.specs.Legal.{Legal}
+use Rattle.panel.proofs.InForce.{waiting-force}
 use Rattle.panel.proofs.Turn.{turn, same-item, link-here, link-there, reversed-size, reversed-place, reversed-alike}
-use Rattle.panel.proofs.Legal.{LegalBut, used-small}
+use Rattle.panel.proofs.Legal.{LegalBut, filled, force-formed}
 use Rattle.panel.proofs.Setters.{setter-force}
 use Rattle.panel.proofs.Reversal.{blocking, legal-waits, legal-reversed}
-use Rattle.panel.proofs.Changes.{legal-add, legal-but, legal-front}
-use Rattle.panel.proofs.Checks.{newLink, Addable}
-use Rattle.optimality.specs.Condition3.{Store, entered}
-use Rattle.optimality.specs.Agreement.{Agrees, Sound}
+use Rattle.panel.proofs.Changes.{Enters, legal-add, legal-but, legal-front}
+use Rattle.optimality.specs.Condition3.{Store, entry, entered}
+use Rattle.optimality.specs.Agreement.{entryFor, Agrees, Sound}
 use Rattle.optimality.proofs.Setters.{Waits, Free, Unblocked}
 use Rattle.optimality.proofs.Answers.{pick}
 use Rattle.optimality.proofs.Changes.{free-le, Change, changed-potential, changed-free, pushed, pushed-mono, pushed-ge, pushed-link, pushed-stay}
 use Rattle.optimality.proofs.Reversal.{reversal-unblocked}
 use Rattle.optimality.proofs.Graphs.{graphOf, settersOf, legal-whole, strength-least, none-unblocked, free-unblocked}
-use Rattle.optimality.proofs.Paths.{path-reversible, after-none}
+use Rattle.optimality.proofs.Paths.{path-reversible, after-force, after-none}
 use Rattle.optimality.proofs.Agreement.{agrees-alike, agrees-link, agrees-front}
 
--- panel and store are sound after an answer to a command
-abbrev pub SoundAfter : Store → Command → Answer → Type 0
-SoundAfter b c a = Sound (cond (isRefusal (a .reply)) b (entered b c)) (a .panel)
+-- the panel of an answer is sound, with the store b′ or, where the answer is a refusal, with b
+abbrev pub SoundAfter : Store → Store → Answer → Type 0
+SoundAfter b b′ a = Sound (cond (isRefusal (a .reply)) b b′) (a .panel)
 
 -- ---- a reversal
 
 -- the panel p becomes q, where c is blocked and goes in
-pub turned-sound : (b : Store) (cmd : Command) (p q : Panel) (c : Item) → Sound b p → LegalBut c q → isBlocked q c ≡ true
-    → Agrees (entered b cmd) q
-    → (s : ℕ → ℕ) → Unblocked (graphOf q) (turn (settersOf q) c (pathFor q c)) s → SoundAfter b cmd (turned p q c)
+pub turned-sound : (b b′ : Store) (p q : Panel) (c : Item) → Sound b p → LegalBut c q → isBlocked q c ≡ true → Agrees b′ q
+    → (s : ℕ → ℕ) → Unblocked (graphOf q) (turn (settersOf q) c (pathFor q c)) s → SoundAfter b b′ (turned p q c)
 unfolding turned
-turned-sound b cmd p q c x k bl a s un = go (isLooped r) refl
+turned-sound b b′ p q c x k bl a s un = go (isLooped r) refl
   where
     r : Panel
     r = reversed q c (pathFor q c)
 
-    go : (t : Bool) → isLooped r ≡ t → SoundAfter b cmd (pick t (refused p Loop) (accepted p r))
+    go : (t : Bool) → isLooped r ≡ t → SoundAfter b b′ (pick t (refused p Loop) (accepted p r))
     go true e = x
     go false e =
         let l : Legal r = legal-reversed q c k bl e in
         record {
           legal = l;
           agrees =
-              agrees-alike (entered b cmd) q r (reversed-size q c (pathFor q c)) (reversed-place q c (pathFor q c)) (reversed-alike q c (pathFor q c)) a;
+              agrees-alike b′ q r (reversed-size q c (pathFor q c)) (reversed-place q c (pathFor q c)) (reversed-alike q c (pathFor q c)) (after-force k bl) a;
           unblocked = after-none k bl s un l;
         }
 
@@ -87,7 +86,7 @@ module _ (p : Panel) (id : ℕ) (l : Link) where
       × (outputsOf (set (p .links) id l) w ≡ outputsOf (p .links) w)
   there (link i) ne =
       let e = link-there (p .links) id i l (λ d. ne (ap link d)) in
-      (ap (λ (x : Link). x .used) e, ap (λ (x : Link). x .level) e, ap (λ (x : Link). x .outputs) e)
+      (ap isInForce e, ap (λ (x : Link). x .level) e, ap (λ (x : Link). x .outputs) e)
   there (stay f) ne = (refl, refl, refl)
 
 -- a link that sets nothing
@@ -116,43 +115,51 @@ module _ (p : Panel) (h : Legal p) (none : (d : Item) → isBlocked p d ≡ fals
       go (yes q) = rw q e
       go (no q) = free-unblocked k w (λ hw. link-free k w hw q)
 
--- ---- Add
+-- ---- a link is entered
 
-module _ (b : Store) (p : Panel) (x : Sound b p) (id level : ℕ) (bytes : List ℕ) (a : Addable p id level bytes) where
-  abbrev added : Panel
-  added = withLink p id (newLink level bytes)
+module _ {b : Store} {q : Panel} (x : Sound b q) {id : ℕ} {l : Link} (a : Enters q id l) where
+  abbrev r : Panel
+  r = withLink q id l
+
+  inside : id < length (q .links)
+  inside = omega (arith, x .legal .links-length, a .number)
+
+  pub enter-here : linkAt (r .links) id ≡ l
+  enter-here = link-here (q .links) id l inside
 
   -- the number sets nothing
-  pub add-idle : (f : ℕ) → f < p .size → settersOf p f ≢ link id
-  add-idle f l e = clash (rw e at (setter-force p (stay (p .size)) (legal-whole p (x .legal) .carrying) f l)) (a .free)
+  pub enter-idle : (f : ℕ) → f < q .size → settersOf q f ≢ link id
+  enter-idle f k e = clash (rw e at (setter-force q (stay (q .size)) (legal-whole q (x .legal) .carrying) f k)) (a .free)
 
-  pub add-legal : LegalBut (link id) added
-  add-legal = legal-add p id (newLink level bytes) (x .legal) (a .number) (a .free) (a .formed) refl refl
+  pub enter-legal : LegalBut (link id) r
+  enter-legal = legal-add q id l (x .legal) a
 
-  pub add-agrees : Agrees (entered b (adding id level bytes)) added
-  add-agrees = agrees-link b p id (newLink level bytes) (omega (arith, x .legal .links-length, a .number)) (x .agrees)
+  pub enter-force : isInForce l ≡ true
+  enter-force = waiting-force l (a .used) (a .rests)
 
-  pub add-free : (w : Item) → Waits (graphOf added) (settersOf added) w → w ≢ link id → Free (graphOf added) (strengthOf added) w
-  add-free = link-free p (x .legal) (x .unblocked) id (newLink level bytes) add-idle add-legal
+  pub enter-agrees : Agrees (entry b id (some (entryFor l))) r
+  enter-agrees = agrees-link b q id l (some (entryFor l)) (rw enter-force) inside (x .agrees)
 
-  pub add-none : isBlocked added (link id) ≡ false → (w : Item) → isBlocked added w ≡ false
-  add-none = link-none p (x .legal) (x .unblocked) id (newLink level bytes) add-idle add-legal
+  -- nothing is blocked where the new link is not
+  pub enter-none : isBlocked r (link id) ≡ false → (w : Item) → isBlocked r w ≡ false
+  enter-none = link-none q (x .legal) (x .unblocked) id l enter-idle enter-legal
 
-  pub add-sound : SoundAfter b (adding id level bytes) (addStep p id level (coveredIn bytes) (outputsIn bytes))
-  unfolding addStep
-  add-sound = go (isBlocked added (link id)) refl (eqb level 0) refl
+  pub enter-sound : {b₀ : Store} {p : Panel} → Sound b₀ p → SoundAfter b₀ (entry b id (some (entryFor l))) (enterStep p q id l)
+  unfolding enterStep
+  enter-sound {b₀} {p} y = go (isBlocked r (link id)) refl (eqb (l .level) 0) refl
     where
-      here : linkAt (added .links) id ≡ newLink level bytes
-      here = link-here (p .links) id (newLink level bytes) (omega (arith, x .legal .links-length, a .number))
-
-      go : (t : Bool) → isBlocked added (link id) ≡ t → (z : Bool) → eqb level 0 ≡ z
-          → SoundAfter b (adding id level bytes) (pick t (turned p added (link id)) (pick z (refused p Conflict) (accepted p added)))
+      go : (t : Bool) → isBlocked r (link id) ≡ t → (z : Bool) → eqb (l .level) 0 ≡ z
+          → SoundAfter b₀ (entry b id (some (entryFor l))) (pick t (turned p r (link id)) (pick z (refused p Conflict) (accepted p r)))
       go true e z d =
-          turned-sound b (adding id level bytes) p added (link id) x add-legal e add-agrees (strengthOf added)
-          (reversal-unblocked (path-reversible add-legal e) add-free)
-      go false e true d = x
+          turned-sound b₀ _ p r (link id) y enter-legal e enter-agrees (strengthOf r)
+          (reversal-unblocked (path-reversible enter-legal e) (link-free q (x .legal) (x .unblocked) id l enter-idle enter-legal))
+      go false e true d = y
       go false e false d =
-          record { legal = legal-but added (link id) add-legal (λ u z. eqb-false level 0 d (rw here at z)); agrees = add-agrees; unblocked = add-none e }
+          record {
+            legal = legal-but r (link id) enter-legal (λ u z. eqb-false (l .level) 0 d (rw enter-here at z));
+            agrees = enter-agrees;
+            unblocked = enter-none e;
+          }
 
 -- ---- Touch
 
@@ -169,8 +176,8 @@ module _ (b : Store) (p : Panel) (x : Sound b p) (f : ℕ) (lf : f < p .size) wh
   abbrev q₀ : ℕ
   q₀ = at (p .place) f
 
-  level-small : (i : ℕ) → linkAt (p .links) i .used ≡ true → linkAt (p .links) i .level < 16
-  level-small i u = omega (arith, x .legal .formed i (used-small (p .links) i (x .legal .links-length) u) u .level)
+  level-small : (i : ℕ) → isInForce (linkAt (p .links) i) ≡ true → linkAt (p .links) i .level < 16
+  level-small i u = omega (arith, force-formed (p .size) (p .links) (filled p (x .legal)) i u .level)
 
   place-of : (g : ℕ) → g < p .size → at (tabulate (placeAfter (p .place) f) 64) g ≡ placeAfter (p .place) f g
   place-of g l = getD-tabulate (placeAfter (p .place) f) 64 g 0 (omega (arith, few))
@@ -203,7 +210,7 @@ module _ (b : Store) (p : Panel) (x : Sound b p) (f : ℕ) (lf : f < p .size) wh
             others = λ w u ne. (u, front-level w u ne, λ v o. o);
           }
 
-  pub touch-sound : SoundAfter b (touching f) (touchStep p f)
+  pub touch-sound : SoundAfter b (entered b (touching f)) (touchStep p f)
   unfolding touchStep
   touch-sound = go (isBlocked front (stay f)) refl
     where
@@ -214,8 +221,8 @@ module _ (b : Store) (p : Panel) (x : Sound b p) (f : ℕ) (lf : f < p .size) wh
       none e w (yes d) = rw d e
       none e w (no d) = free-unblocked (legal-whole front front-legal) w (λ hw. front-free (legal-whole front front-legal) w hw d)
 
-      go : (t : Bool) → isBlocked front (stay f) ≡ t → SoundAfter b (touching f) (pick t (turned p front (stay f)) (accepted p front))
+      go : (t : Bool) → isBlocked front (stay f) ≡ t → SoundAfter b (entered b (touching f)) (pick t (turned p front (stay f)) (accepted p front))
       go true e =
           let k : LegalBut (stay f) front = legal-waits front (stay f) front-legal (blocking front (stay f) e .waits-now) in
-          turned-sound b (touching f) p front (stay f) x k e front-agrees (strengthOf front) (reversal-unblocked (path-reversible k e) (front-free k))
+          turned-sound b _ p front (stay f) x k e front-agrees (strengthOf front) (reversal-unblocked (path-reversible k e) (front-free k))
       go false e = record { legal = front-legal; agrees = front-agrees; unblocked = λ w. none e w (same-item w (stay f)) }

@@ -7,7 +7,7 @@ use Rattle.fieldset.specs.Tables.{at}
 use Rattle.fieldset.specs.Lists.{In, All, place}
 use Rattle.panel.specs.declared.Link.{Link}
 use Rattle.panel.specs.declared.Panel.{Panel}
-use Rattle.panel.specs.Items.{Item, linkAt}
+use Rattle.panel.specs.Items.{Item, linkAt, isInForce}
 use Rattle.panel.specs.Solution.{isBlocked}
 use Rattle.panel.specs.Legal.{Legal}
 use Rattle.optimality.specs.Condition3.{Entry, Store, Optimal, System, Run, stepped, AfterEveryList, panels}
@@ -23,12 +23,16 @@ EverySystem =
 
 -- ---- the panel
 
--- what stands in the store of a panel's link: nothing where the number is not in use
+-- what stands in the store of a link
+abbrev pub entryFor : Link → Entry
+entryFor l = record { level = l .level; covered = l .covered; outputs = l .outputs }
+
+-- and of a panel's link: nothing where it is not in force
 abbrev pub entryOf : Link → Option Entry
-entryOf l = cond (l .used) (some (record { level = l .level; covered = l .covered; outputs = l .outputs })) none
+entryOf l = cond (isInForce l) (some (entryFor l)) none
 
 pub record Agrees (b : Store) (p : Panel) : Type 0 where
-  -- the links of the store are those in use
+  -- the links of the store are those in force
   pub links : (i : ℕ) → b .links i ≡ entryOf (linkAt (p .links) i)
   -- its stays are those of the panel's fields, in their order
   pub stays : (f : ℕ) → f < p .size → In f (b .stays)

@@ -9,11 +9,12 @@ use Rattle.fieldset.specs.Lists.{All}
 use Rattle.ordering.specs.Walks.{ClosedWalk}
 use Rattle.panel.specs.declared.Standing.{Standing}
 use Rattle.panel.specs.declared.Standing.the-variants.{Waiting, Holding}
+use Rattle.panel.specs.declared.Link.{Link}
 use Rattle.panel.specs.declared.Panel.{Panel}
 use Rattle.panel.specs.declared.Refusal.the-variants.{Conflict, Loop as LoopRefusal}
-use Rattle.panel.specs.Items.{Item, link, stay, noLink, linkAt}
+use Rattle.panel.specs.Items.{Item, link, stay, linkAt}
 use Rattle.panel.specs.Answers.{isRefusal, refused}
-use Rattle.panel.specs.Panels.{withLink, withSetter, toFront}
+use Rattle.panel.specs.Panels.{waitingLink, withLink, dropped, toFront}
 use Rattle.panel.specs.Solution.{setterReads, isBlocked, pathFor, reversed, leastBlocked}
 use Rattle.panel.specs.Commands.{Command, opening, adding, removing, touching, planning, performed, coveredIn, outputsIn, Check, openChecks, addChecks, removeChecks, touchChecks, planChecks}
 use Rattle.optimality.specs.Condition3.{Store, entered, Pair, Matching}
@@ -77,20 +78,21 @@ abbrev pub settling : Panel → Option Item → Option Reversal
 settling q none = none
 settling q (some c) = reversing true q c
 
-abbrev pub dropping : Panel → ℕ → Standing → Option Reversal
-dropping p id Waiting = none
-dropping p id (Holding v) =
-    let q = withSetter (withLink p id noLink) v 128 in
-    settling q (leastBlocked q)
+-- a link is entered in q
+abbrev pub entering : Panel → ℕ → Link → Option Reversal
+entering q id l = let r = withLink q id l in reversing (isBlocked r (link id)) r (link id)
+
+-- a link of this standing was dropped
+abbrev pub dropping : Panel → Standing → Option Reversal
+dropping q Waiting = none
+dropping q (Holding v) = settling q (leastBlocked q)
 
 -- the reversal that a command makes which passes its checks: Add's and Touch's where the link or stay is blocked, Remove's for the blocked item
 -- of least level
 unfoldable pub reversal : Panel → Command → Option Reversal
 reversal p (opening n) = none
-reversal p (adding id level bytes) =
-    let q = withLink p id (record { covered = coveredIn bytes; outputs = outputsIn bytes; level = level; used = true; standing = Waiting }) in
-    reversing (isBlocked q (link id)) q (link id)
-reversal p (removing id) = dropping p id (linkAt (p .links) id .standing)
+reversal p (adding id level bytes) = entering p id (waitingLink level (coveredIn bytes) (outputsIn bytes))
+reversal p (removing id) = dropping (dropped p id) (linkAt (p .links) id .standing)
 reversal p (touching f) = let q = toFront p f in reversing (isBlocked q (stay f)) q (stay f)
 reversal p planning = none
 

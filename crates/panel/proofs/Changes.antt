@@ -19,12 +19,14 @@ use Rattle.panel.specs.declared.Standing.{Standing}
 use Rattle.panel.specs.declared.Standing.the-variants.{Waiting, Holding}
 use Rattle.panel.specs.declared.Link.{Link}
 use Rattle.panel.specs.declared.Panel.{Panel}
-use Rattle.panel.specs.Items.{Item, link, stay, noLink, linkAt, setterOf, readsOf}
+use Rattle.panel.specs.Items.{Item, link, stay, noLink, linkAt, setterOf, readsOf, isInForce}
 use Rattle.panel.specs.Panels.{opened, withLink, withSetter, freed, dropped, placeAfter, toFront}
 use Rattle.panel.specs.Solution.{setterReads, isLooped}
 use Rattle.panel.specs.Legal.{Formed, Legal}
+use Rattle.panel.proofs.InForce.{unused-off}
 use Rattle.panel.proofs.Turn.{setter-own, number-setter, link-not-stay, setter-stay, put, put-here, put-there, link-here, holding-sets}
 use Rattle.panel.proofs.Legal.{Placed, Good, Carrying, Weak, LegalBut, placed, legal, carrying, carrying-step, carrying-link}
+use Rattle.panel.proofs.Checks.{newLink, Addable}
 use Rattle.panel.proofs.Setters.{whole, setter-reads-inside, no-loop-within, reads-there}
 
 -- ---- the panel at opening
@@ -78,7 +80,7 @@ legal-opened n few = legal (opened n) (stay n) parts tt tt (no-reads-no-loop (se
         idle = λ f l e. let z : stay f ≡ stay n = sym (staying f (omega arith)) ∙ e in let d : f ≡ n = cc in omega arith;
         sets = λ f i l e. absurd (link-not-stay (sym e ∙ staying f (omega arith)));
         held = λ i f l ne e. let z : Waiting ≡ Holding f = rw (default i l) at e in let y : _≡_ {A = ℕ} 0 1 = cc in absurd (omega arith);
-        required = λ i l ne u. absurd (clash (rw (default i l) at u) refl);
+        required = λ i l ne u. absurd (clash (rw (default i l) at u) (unused-off noLink refl));
       };
     }
 
@@ -123,18 +125,28 @@ loopless-link p i l h e =
     no-loop-within (setterReads p) (setterReads (withLink p i l)) (p .size) (setter-reads-inside p (link i) h)
     (λ g f k m x. rw (reads-there (p .links) i g l (setterOf (p .setter) g) (h .held .idle g k)) at x) e
 
--- the new link waits; whether it is required is left open
-pub legal-add : (p : Panel) (i : ℕ) (l : Link) → Legal p → i < 128 → linkAt (p .links) i .used ≡ false
-    → Formed (p .size) l → l .used ≡ true → l .standing ≡ Waiting → LegalBut (link i) (withLink p i l)
-legal-add p i l h small unused formed used rests =
+-- a well-formed link that waits may be entered under a number of which no link is in force
+pub record Enters (p : Panel) (i : ℕ) (l : Link) : Type 0 where
+  pub number : i < 128
+  pub free : isInForce (linkAt (p .links) i) ≡ false
+  pub formed : Formed (p .size) l
+  pub used : l .used ≡ true
+  pub rests : l .standing ≡ Waiting
+
+pub add-enters : {p : Panel} {id level : ℕ} {bytes : List ℕ} → Addable p id level bytes → Enters p id (newLink level bytes)
+add-enters a = record { number = a .number; free = unused-off _ (a .free); formed = a .formed; used = refl; rests = refl }
+
+-- whether the new link is required is left open
+pub legal-add : (p : Panel) (i : ℕ) (l : Link) → Legal p → Enters p i l → LegalBut (link i) (withLink p i l)
+legal-add p i l h a =
     record {
-      carrying = carrying-link p i l start (record { formed = λ e. formed; unused = λ e. absurd (clash used e) });
-      rests = ap (λ (x : Link). x .standing) (link-here (p .links) i l (omega (arith, h .links-length))) ∙ rests;
+      carrying = carrying-link p i l start (record { formed = λ e. a .formed; unused = λ e. absurd (clash (a .used) e) });
+      rests = ap (λ (x : Link). x .standing) (link-here (p .links) i l (omega (arith, h .links-length, a .number))) ∙ a .rests;
       loopless = loopless-link p i l start (h .loopless);
     }
   where
     start : Carrying (link i) p
-    start = carrying p (link i) h (λ f k e. clash (whole p h .held .sets f i k e .used) unused)
+    start = carrying p (link i) h (λ f k e. clash (whole p h .held .sets f i k e .force) (a .free))
 
 -- an item that is no required link may wait
 pub legal-but : (p : Panel) (c : Item) → LegalBut c p → Weak (p .links) c → Legal p
@@ -145,7 +157,7 @@ drop-link : (p : Panel) (i : ℕ) → i < 128 → Carrying (link i) p → isLoop
 drop-link p i small h e =
     let gone : linkAt (set (p .links) i noLink) i ≡ noLink = link-here (p .links) i noLink (omega (arith, h .filled .full)) in
     legal (withLink p i noLink) (link i) (carrying-link p i noLink h (good-none (p .size))) (rw gone refl)
-    (λ u z. clash (rw gone at u) refl) (loopless-link p i noLink h e)
+    (λ u z. clash (rw gone at u) (unused-off noLink refl)) (loopless-link p i noLink h e)
 
 -- a link that waits is dropped
 legal-drop : (p : Panel) (i : ℕ) → Legal p → i < 128 → linkAt (p .links) i .standing ≡ Waiting → Legal (withLink p i noLink)

@@ -1,7 +1,7 @@
 -- A legal panel by its parts (places, links, setters), the same with one item that sets nothing left open, and what follows from it.
 use Prim.Native.Nat.{ℕ, _≤_, _<_}
 use mathlib.Core.Path.{_≡_, refl, sym, ap, _∙_, subst}
-use mathlib.Core.Bool.{true, false, false≢true}
+use mathlib.Core.Bool.{true, false}
 use mathlib.Core.List.{List}
 use mathlib.Core.Logic.{_≢_}
 use native.Mathlib.Decide.{ℕ-discrete, decLt}
@@ -17,11 +17,12 @@ use Rattle.panel.specs.declared.Standing.{Standing}
 use Rattle.panel.specs.declared.Standing.the-variants.{Waiting, Holding}
 use Rattle.panel.specs.declared.Link.{Link}
 use Rattle.panel.specs.declared.Panel.{Panel}
-use Rattle.panel.specs.Items.{Item, link, stay, noLink, linkAt, setterOf, outputsOf, inForce}
+use Rattle.panel.specs.Items.{Item, link, stay, noLink, linkAt, setterOf, outputsOf, isInForce, inForce}
 use Rattle.panel.specs.Panels.{standing, withLink, holding, waiting}
 use Rattle.panel.specs.Solution.{isLooped}
 use Rattle.panel.specs.Legal.{Formed, Legal}
-use Rattle.panel.proofs.Turn.{setter-number, number-setter, setter-own, link-injective, link-not-stay, same-item, numberOf, setter-link, setter-stay, put, put-here, put-there, AllAlike, all-alike-refl, set-alike, link-here, link-there, Fit, set-setter}
+use Rattle.panel.proofs.InForce.{force-used, unused-off, holding-force}
+use Rattle.panel.proofs.Turn.{setter-number, number-setter, setter-own, link-injective, link-not-stay, same-item, numberOf, setter-link, setter-stay, put, put-here, put-there, link-here, link-there, Fit, set-setter}
 
 -- ---- the parts
 
@@ -44,7 +45,7 @@ pub record Filled (n : ℕ) (links : List Link) : Type 0 where
 -- link i holds f, which it may
 pub record Holds (links : List Link) (i f : ℕ) : Type 0 where
   pub small : i < 128
-  pub used : linkAt links i .used ≡ true
+  pub force : isInForce (linkAt links i) ≡ true
   pub output : member (linkAt links i .outputs) f ≡ true
   pub holds : linkAt links i .standing ≡ Holding f
 
@@ -56,7 +57,7 @@ pub record Held (c : Item) (n : ℕ) (links : List Link) (setter : List ℕ) : T
   pub idle : (f : ℕ) → f < n → setterOf setter f ≢ c
   pub sets : (f i : ℕ) → f < n → setterOf setter f ≡ link i → Holds links i f
   pub held : (i f : ℕ) → i < 128 → link i ≢ c → linkAt links i .standing ≡ Holding f → (f < n) × (setterOf setter f ≡ link i)
-  pub required : (i : ℕ) → i < 128 → link i ≢ c → linkAt links i .used ≡ true → linkAt links i .level ≡ 0 → linkAt links i .standing ≢ Waiting
+  pub required : (i : ℕ) → i < 128 → link i ≢ c → isInForce (linkAt links i) ≡ true → linkAt links i .level ≡ 0 → linkAt links i .standing ≢ Waiting
 
 -- a legal panel but for loops, in which c sets nothing; what c's standing says, and whether c is required, is left open
 pub record Carrying (c : Item) (p : Panel) : Type 0 where
@@ -72,7 +73,7 @@ Rests links (stay f) = Unit {0}
 
 -- c is no required link
 abbrev pub Weak : List Link → Item → Type 0
-Weak links (link i) = linkAt links i .used ≡ true → linkAt links i .level ≢ 0
+Weak links (link i) = isInForce (linkAt links i) ≡ true → linkAt links i .level ≢ 0
 Weak links (stay f) = Unit {0}
 
 -- a legal panel but that c, which waits, may be a required link
@@ -108,7 +109,7 @@ held-of p c h idle = record {
         subst (λ (j : ℕ). linkAt (p .links) j .standing ≡ Holding f) d (h .setter-holds f (omega arith) (omega arith)) in
         record {
           small = k;
-          used = subst (λ (j : ℕ). linkAt (p .links) j .used ≡ true) d (h .setter-used f (omega arith) (omega arith));
+          force = subst (λ (j : ℕ). isInForce (linkAt (p .links) j) ≡ true) d (h .setter-in-force f (omega arith) (omega arith));
           output = h .holding-output i f k s;
           holds = s;
         }
@@ -132,7 +133,7 @@ legal p c h rests weak loopless = record {
   place-past = h .placed .past;
   setter-past = h .held .past;
   setter-small = h .held .small;
-  setter-used = λ f l k. at-setter f l k .used;
+  setter-in-force = λ f l k. at-setter f l k .force;
   setter-holds = λ f l k. at-setter f l k .holds;
   holding-field = λ i f l e. at-holding i f l e .0;
   holding-output = λ i f l e. let (m, s) = at-holding i f l e in h .held .sets f i m s .output;
@@ -156,7 +157,7 @@ legal p c h rests weak loopless = record {
     at-holding : (i f : ℕ) → i < 128 → linkAt (p .links) i .standing ≡ Holding f → (f < p .size) × (setterOf (p .setter) f ≡ link i)
     at-holding i f l e = h .held .held i f l (not-c i f e) e
 
-    needed : (i : ℕ) → i < 128 → linkAt (p .links) i .used ≡ true → linkAt (p .links) i .level ≡ 0 → Dec (link i ≡ c)
+    needed : (i : ℕ) → i < 128 → isInForce (linkAt (p .links) i) ≡ true → linkAt (p .links) i .level ≡ 0 → Dec (link i ≡ c)
         → linkAt (p .links) i .standing ≢ Waiting
     needed i l u z (yes q) = absurd (subst (Weak (p .links)) (sym q) weak u z)
     needed i l u z (no q) = h .held .required i l q u z
@@ -176,6 +177,9 @@ single c n links setter h f g lf lg e = go (setterOf setter f) refl
         cc
     go (stay a) q = setter-own setter f a q .0 ∙ sym (setter-own setter g a (sym e ∙ q) .0)
 
+holds-same : {links links′ : List Link} {i f : ℕ} → linkAt links′ i ≡ linkAt links i → Holds links i f → Holds links′ i f
+holds-same e k = record { small = k .small; force = rw e (k .force); output = rw e (k .output); holds = rw e (k .holds) }
+
 -- the links off c are as they were: what c's own link says is free
 pub held-but : (c : Item) (n : ℕ) (links links′ : List Link) (setter : List ℕ) → ((i : ℕ) → link i ≢ c → linkAt links′ i ≡ linkAt links i)
     → Held c n links setter → Held c n links′ setter
@@ -184,20 +188,17 @@ held-but c n links links′ setter same h = record {
   past = h .past;
   small = h .small;
   idle = h .idle;
-  sets = λ f i l e. kept f i (same i (λ q. h .idle f l (e ∙ q))) (h .sets f i l e);
+  sets = λ f i l e. holds-same (same i (λ q. h .idle f l (e ∙ q))) (h .sets f i l e);
   held = λ i f l ne e. h .held i f l ne (rw (same i ne) at e);
   required = λ i l ne u z. rw (same i ne) (h .required i l ne (rw (same i ne) at u) (rw (same i ne) at z));
 }
-  where
-    kept : (f i : ℕ) → linkAt links′ i ≡ linkAt links i → Holds links i f → Holds links′ i f
-    kept f i e k = record { small = k .small; used = rw e (k .used); output = rw e (k .output); holds = rw e (k .holds) }
 
 -- c takes v: the setter that stood there is carried on
-pub held-step : (c : Item) (n v : ℕ) (links links′ : List Link) (setter : List ℕ) → n ≤ 64 → v < n → Fit c v → AllAlike links′ links
-    → ((i : ℕ) → link i ≢ c → linkAt links′ i .standing ≡ linkAt links i .standing)
+pub held-step : (c : Item) (n v : ℕ) (links links′ : List Link) (setter : List ℕ) → n ≤ 64 → v < n → Fit c v
+    → ((i : ℕ) → link i ≢ c → linkAt links′ i ≡ linkAt links i)
     → ((i : ℕ) → link i ≡ c → Holds links′ i v)
     → Held c n links setter → Held (setterOf setter v) n links′ (set setter v (numberOf c))
-held-step c n v links links′ setter few lv fit alike same here h = record {
+held-step c n v links links′ setter few lv fit same here h = record {
   full = length-set setter v (numberOf c) ∙ h .full;
   past = λ f l k. getD-set-other setter v f (numberOf c) 0 (λ (d : f ≡ v). omega arith) ∙ h .past f l k;
   small = λ f l. at-small f l (ℕ-discrete f v);
@@ -222,19 +223,11 @@ held-step c n v links links′ setter few lv fit alike same here h = record {
     at-idle f l e (yes d) = h .idle v lv (sym e ∙ ap (put (setterOf setter) v c) d ∙ put-here (setterOf setter) v c)
     at-idle f l e (no d) = d (single c n links setter h f v l lv (sym (put-there (setterOf setter) v c f d) ∙ e))
 
-    kept : (f i : ℕ) → link i ≢ c → Holds links i f → Holds links′ i f
-    kept f i ne k = record {
-      small = k .small;
-      used = alike i .used ∙ k .used;
-      output = rw (alike i .outputs) (k .output);
-      holds = same i ne ∙ k .holds;
-    }
-
     at-sets : (f i : ℕ) → f < n → put (setterOf setter) v c f ≡ link i → Dec (f ≡ v) → Holds links′ i f
     at-sets f i l e (yes d) = rw d (here i (sym e ∙ ap (put (setterOf setter) v c) d ∙ put-here (setterOf setter) v c))
     at-sets f i l e (no d) =
         let q : setterOf setter f ≡ link i = sym (put-there (setterOf setter) v c f d) ∙ e in
-        kept f i (λ r. h .idle f l (q ∙ r)) (h .sets f i l q)
+        holds-same (same i (λ r. h .idle f l (q ∙ r))) (h .sets f i l q)
 
     at-held : (i f : ℕ) → i < 128 → link i ≢ setterOf setter v → linkAt links′ i .standing ≡ Holding f → Dec (link i ≡ c)
         → (f < n) × (put (setterOf setter) v c f ≡ link i)
@@ -243,23 +236,26 @@ held-step c n v links links′ setter few lv fit alike same here h = record {
         let d : v ≡ f = cc in
         subst (λ (g : ℕ). (g < n) × (put (setterOf setter) v c g ≡ link i)) d (lv, put-here (setterOf setter) v c ∙ sym q)
     at-held i f l ne e (no q) =
-        let (m, s) = h .held i f l q (sym (same i q) ∙ e) in
+        let (m, s) = h .held i f l q (rw (same i q) at e) in
         (m, put-there (setterOf setter) v c f (λ d. ne (sym s ∙ ap (setterOf setter) d)) ∙ s)
 
-    at-required : (i : ℕ) → i < 128 → link i ≢ setterOf setter v → linkAt links′ i .used ≡ true → linkAt links′ i .level ≡ 0 → Dec (link i ≡ c)
+    at-required : (i : ℕ) → i < 128 → link i ≢ setterOf setter v → isInForce (linkAt links′ i) ≡ true → linkAt links′ i .level ≡ 0 → Dec (link i ≡ c)
         → linkAt links′ i .standing ≢ Waiting
     at-required i l ne u z (yes q) = holding-not-waiting (here i q .holds)
-    at-required i l ne u z (no q) =
-        rw (same i q) (h .required i l q (sym (alike i .used) ∙ u) (sym (alike i .level) ∙ z))
+    at-required i l ne u z (no q) = rw (same i q) (h .required i l q (rw (same i q) at u) (rw (same i q) at z))
 
 -- ---- links
 
-pub used-small : (links : List Link) (i : ℕ) → length links ≡ 128 → linkAt links i .used ≡ true → i < 128
-used-small links i full u = go (decLt i 128)
+-- a link in force has a number below 128, and is well formed
+pub force-small : (links : List Link) (i : ℕ) → length links ≡ 128 → isInForce (linkAt links i) ≡ true → i < 128
+force-small links i full u = go (decLt i 128)
   where
     go : Dec (i < 128) → i < 128
     go (yes l) = l
-    go (no l) = absurd (false≢true (sym (ap (λ (x : Link). x .used) (List·getD-eq-default links noLink (omega arith))) ∙ u))
+    go (no l) = absurd (clash u (ap isInForce (List·getD-eq-default links noLink (omega arith)) ∙ unused-off noLink refl))
+
+pub force-formed : (n : ℕ) (links : List Link) → Filled n links → (i : ℕ) → isInForce (linkAt links i) ≡ true → Formed n (linkAt links i)
+force-formed n links h i u = h .good i (force-small links i (h .full) u) .formed (force-used _ u)
 
 pub filled-set : (n i : ℕ) (links : List Link) (l : Link) → Filled n links → Good n l → Filled n (set links i l)
 filled-set n i links l h good = record { full = length-set links i l ∙ h .full; good = λ j k. go j k (ℕ-discrete j i) }
@@ -279,12 +275,12 @@ formed-standing n l s h = record {
   few = h .few;
 }
 
--- a link in use at another standing
-pub good-standing : (n : ℕ) (links : List Link) (i : ℕ) (s : Standing) → Filled n links → linkAt links i .used ≡ true
+-- a link in force at another standing
+pub good-standing : (n : ℕ) (links : List Link) (i : ℕ) (s : Standing) → Filled n links → isInForce (linkAt links i) ≡ true
     → Good n (standing (linkAt links i) s)
 good-standing n links i s h u = record {
-  formed = λ e. formed-standing n (linkAt links i) s (h .good i (used-small links i (h .full) u) .formed u);
-  unused = λ e. absurd (clash u e);
+  formed = λ e. formed-standing n (linkAt links i) s (force-formed n links h i u);
+  unused = λ e. absurd (clash (force-used _ u) e);
 }
 
 -- ---- items in force
@@ -292,7 +288,7 @@ good-standing n links i s h u = record {
 -- an item in force may stand at each of its outputs
 pub force-fit : (n : ℕ) (links : List Link) (c : Item) (v : ℕ) → length links ≡ 128 → inForce n links c ≡ true → v < 64
     → member (outputsOf links c) v ≡ true → Fit c v
-force-fit n links (link i) v full u l o = used-small links i full u
+force-fit n links (link i) v full u l o = force-small links i full u
 force-fit n links (stay g) v full u l o = sym (eqb-true v g (sym (member-only g v l) ∙ o))
 
 -- the setter of a field is in force
@@ -301,7 +297,7 @@ pub held-force : (c : Item) (n : ℕ) (links : List Link) (setter : List ℕ) �
 held-force c n links setter h f l = go (decLt (at setter f) 128)
   where
     go : Dec (at setter f < 128) → inForce n links (setterOf setter f) ≡ true
-    go (yes k) = rw (setter-link setter f k) (h .sets f (at setter f) l (setter-link setter f k) .used)
+    go (yes k) = rw (setter-link setter f k) (h .sets f (at setter f) l (setter-link setter f k) .force)
     go (no k) = rw (setter-stay setter f (omega arith)) (lt-ltb f n l)
 
 -- and may set it
@@ -324,8 +320,7 @@ carrying-step p (link i) v h u l o = record {
   filled = filled-set (p .size) i (p .links) _ (h .filled) (good-standing (p .size) (p .links) i (Holding v) (h .filled) u);
   held =
       held-step (link i) (p .size) v (p .links) links′ (p .setter) (h .few) l small
-      (set-alike (p .links) i (Holding v))
-      (λ j ne. ap (λ (x : Link). x .standing) (link-there (p .links) i j _ (λ d. ne (ap link d))))
+      (λ j ne. link-there (p .links) i j _ (λ d. ne (ap link d)))
       (λ j e. subst (λ (k : ℕ). Holds links′ k v) (sym (link-injective e)) here)
       (h .held);
 }
@@ -334,13 +329,13 @@ carrying-step p (link i) v h u l o = record {
     links′ = set (p .links) i (standing (linkAt (p .links) i) (Holding v))
 
     small : i < 128
-    small = used-small (p .links) i (h .filled .full) u
+    small = force-small (p .links) i (h .filled .full) u
 
     now : linkAt links′ i ≡ standing (linkAt (p .links) i) (Holding v)
     now = link-here (p .links) i (standing (linkAt (p .links) i) (Holding v)) (omega (arith, small, h .filled .full))
 
     here : Holds links′ i v
-    here = record { small = small; used = rw now u; output = rw now o; holds = rw now refl }
+    here = record { small = small; force = rw now (holding-force _ v (force-used _ u) refl); output = rw now o; holds = rw now refl }
 carrying-step p (stay g) v h u l o = record {
   few = h .few;
   placed = h .placed;
@@ -348,7 +343,7 @@ carrying-step p (stay g) v h u l o = record {
   held =
       held-step (stay g) (p .size) v (p .links) (p .links) (p .setter) (h .few) l
       (force-fit (p .size) (p .links) (stay g) v (h .filled .full) u (omega (arith, h .few)) o)
-      (all-alike-refl (p .links)) (λ j ne. refl) (λ j e. absurd (link-not-stay e)) (h .held);
+      (λ j ne. refl) (λ j e. absurd (link-not-stay e)) (h .held);
 }
 
 -- another link for c, or c's link dropped
@@ -368,5 +363,5 @@ carrying-waiting p (stay f) h u = h
 
 pub waiting-rests : (p : Panel) (c : Item) → length (p .links) ≡ 128 → inForce (p .size) (p .links) c ≡ true → Rests (waiting p c .links) c
 waiting-rests p (link i) full u =
-    ap (λ (x : Link). x .standing) (link-here (p .links) i _ (omega (arith, used-small (p .links) i full u)))
+    ap (λ (x : Link). x .standing) (link-here (p .links) i _ (omega (arith, force-small (p .links) i full u)))
 waiting-rests p (stay f) full u = tt

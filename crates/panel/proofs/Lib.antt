@@ -1,5 +1,6 @@
 -- The laws that the functions' proofs and other crates cite.
 pub mod Answers
+pub mod InForce
 pub mod Turn
 pub mod Legal
 pub mod Setters

@@ -19,11 +19,11 @@ use Rattle.panel.specs.Panels.{withLink, dropped, toFront}
 use Rattle.panel.specs.Solution.{level, isBlocked, pathFor, reversed, lesser, least, leastBlocked, isLooped}
 use Rattle.panel.specs.Steps.{accepted, turned, openStep, enterStep, addStep, settled, dropStep, removeStep, touchStep, planStep}
 use Rattle.panel.specs.Commands.{coveredIn, outputsIn, openChecks, addChecks, removeChecks, touchChecks, planChecks, Command, opening, adding, removing, touching, planning, performed}
-use Rattle.panel.specs.Legal.{Formed, Legal}
+use Rattle.panel.specs.Legal.{Legal}
 use Rattle.panel.proofs.Turn.{link-here}
 use Rattle.panel.proofs.Legal.{LegalBut}
 use Rattle.panel.proofs.Reversal.{blocking, legal-waits, legal-reversed}
-use Rattle.panel.proofs.Changes.{legal-opened, legal-add, legal-but, legal-dropped, legal-front}
+use Rattle.panel.proofs.Changes.{legal-opened, Enters, add-enters, legal-add, legal-but, legal-dropped, legal-front}
 use Rattle.panel.proofs.Checks.{checked-panel, newLink, addable, removable, touchable, openable}
 
 -- one of two answers
@@ -41,20 +41,19 @@ legal-turned p q c h k b = go (isLooped r) refl
     go true e = h
     go false e = legal-reversed q c k b e
 
--- a well-formed link is entered in q under a number that is free
-pub legal-enter-step : (p q : Panel) (id : ℕ) (l : Link) → Legal p → Legal q → id < 128 → linkAt (q .links) id .used ≡ false
-    → Formed (q .size) l → l .used ≡ true → l .standing ≡ Waiting → Legal (enterStep p q id l .panel)
+-- a link is entered in q
+pub legal-enter-step : (p q : Panel) (id : ℕ) (l : Link) → Legal p → Legal q → Enters q id l → Legal (enterStep p q id l .panel)
 unfolding enterStep
-legal-enter-step p q id l h k small free formed used rests = go (isBlocked r (link id)) refl (eqb (l .level) 0) refl
+legal-enter-step p q id l h k a = go (isBlocked r (link id)) refl (eqb (l .level) 0) refl
   where
     r : Panel
     r = withLink q id l
 
     new : LegalBut (link id) r
-    new = legal-add q id l k small free formed used rests
+    new = legal-add q id l k a
 
     here : linkAt (r .links) id ≡ l
-    here = link-here (q .links) id l (omega (arith, k .links-length))
+    here = link-here (q .links) id l (omega (arith, k .links-length, a .number))
 
     go : (b : Bool) → isBlocked r (link id) ≡ b → (z : Bool) → eqb (l .level) 0 ≡ z
         → Legal (pick b (turned p r (link id)) (pick z (refused p Conflict) (accepted p r)) .panel)
@@ -126,7 +125,7 @@ legal-performed p (opening n) h =
     checked-panel Legal p (openChecks p n) (openStep n) h (λ k. legal-opened n (openable p n k .2))
 legal-performed p (adding id level bytes) h =
     checked-panel Legal p (addChecks p id level bytes) (addStep p id level (coveredIn bytes) (outputsIn bytes)) h
-    (λ k. let a = addable p id level bytes k in legal-enter-step p p id (newLink level bytes) h h (a .number) (a .free) (a .formed) refl refl)
+    (λ k. legal-enter-step p p id (newLink level bytes) h h (add-enters (addable p id level bytes k)))
 legal-performed p (removing id) h =
     checked-panel Legal p (removeChecks p id) (removeStep p id) h (λ k. legal-remove-step p id h (removable p id k .number))
 legal-performed p (touching f) h =

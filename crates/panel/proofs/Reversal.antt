@@ -17,11 +17,11 @@ use Rattle.strength.proofs.Paths.{Chain, last, next, strongest-found, Reversibl
 use Rattle.fieldset.proofs.Tests.{and-left, and-right}
 use Rattle.ordering.proofs.Plan.{rankOf}
 use Rattle.panel.specs.declared.Panel.{Panel}
-use Rattle.panel.specs.Items.{Item, link, stay, linkAt, setterOf, outputsOf, inForce, waits}
+use Rattle.panel.specs.Items.{Item, link, stay, linkAt, setterOf, outputsOf, isInForce, inForce, waits}
 use Rattle.panel.specs.Panels.{holding}
 use Rattle.panel.specs.Solution.{level, setterLevel, setterOthers, strengthOf, isBlocked, pathFor, reversed, isLooped}
 use Rattle.panel.specs.Legal.{Legal}
-use Rattle.panel.proofs.Turn.{put, put-here, put-there, turn, left, left-last, Off, alike-outputs, alike-force, holding-size, holding-alike, holding-sets, reversed-alike, reversed-setters, Fit, Fits}
+use Rattle.panel.proofs.Turn.{put, put-here, put-there, turn, left, left-last, Off, alike-outputs, holding-size, holding-alike, holding-same, waiting-same, holding-sets, reversed-alike, reversed-setters, Fit, Fits}
 use Rattle.panel.proofs.Legal.{Carrying, Rests, Weak, LegalBut, legal, carrying, held-force, force-fit, carrying-step, carrying-waiting, waiting-rests}
 use Rattle.panel.proofs.Setters.{whole, outputs-inside, others-out, others-inside, setter-ranked, setter-falls, rests-waiting, waits-idle, waits-force}
 
@@ -64,9 +64,11 @@ leads-fit Ok n out few fit st c (v ∷ vs) all ok (off, dis) (l, o, h) = (
 
 turned-parts : (p : Panel) (c : Item) (vs : List ℕ) → Carrying c p → inForce (p .size) (p .links) c ≡ true
     → Leads (p .size) (outputsOf (p .links)) (setterOf (p .setter)) c vs → Distinct vs
-    → Carrying (left (setterOf (p .setter)) c vs) (reversed p c vs) × Rests (reversed p c vs .links) (left (setterOf (p .setter)) c vs)
+    → Carrying (left (setterOf (p .setter)) c vs) (reversed p c vs)
+    × Rests (reversed p c vs .links) (left (setterOf (p .setter)) c vs)
+    × ((n : ℕ) (d : Item) → inForce n (reversed p c vs .links) d ≡ inForce n (p .links) d)
 unfolding reversed left
-turned-parts p c [] h u leads dis = (carrying-waiting p c h u, waiting-rests p c (h .filled .full) u)
+turned-parts p c [] h u leads dis = (carrying-waiting p c h u, waiting-rests p c (h .filled .full) u, waiting-same p c u)
 turned-parts p c (v ∷ vs) h u (l, o, leads) (off, dis) =
     let few : p .size ≤ 64 = h .few in
     let now : setterOf (holding p c v .setter) ≡ put (setterOf (p .setter)) v c =
@@ -74,12 +76,12 @@ turned-parts p c (v ∷ vs) h u (l, o, leads) (off, dis) =
     let outs : outputsOf (holding p c v .links) ≡ outputsOf (p .links) = fun-ext (alike-outputs (holding p c v .links) (p .links) (holding-alike p v c)) in
     let force : inForce (holding p c v .size) (holding p c v .links) (setterOf (p .setter) v) ≡ true =
     rw (holding-size p v c)
-    (alike-force (holding p c v .links) (p .links) (holding-alike p v c) (p .size) (setterOf (p .setter) v)
-    ∙ held-force c (p .size) (p .links) (p .setter) (h .held) v l) in
+    (holding-same p v c u (p .size) (setterOf (p .setter) v) ∙ held-force c (p .size) (p .links) (p .setter) (h .held) v l) in
     let leads′ : Leads (holding p c v .size) (outputsOf (holding p c v .links)) (setterOf (holding p c v .setter)) (setterOf (p .setter) v) vs =
     rw (holding-size p v c, outs, now)
     (leads-put (p .size) (outputsOf (p .links)) (setterOf (p .setter)) v c (setterOf (p .setter) v) vs off leads) in
-    rw now at (turned-parts (holding p c v) (setterOf (p .setter) v) vs (carrying-step p c v h u l o) force leads′ dis)
+    let (k, r, same) = turned-parts (holding p c v) (setterOf (p .setter) v) vs (carrying-step p c v h u l o) force leads′ dis in
+    (rw now at k, rw now at r, λ n d. same n d ∙ holding-same p v c u n d)
 
 module _ (p : Panel) (c : Item) (vs : List ℕ) (h : Carrying c p) (route : Route p c vs) where
   -- the last setter is carried
@@ -89,6 +91,10 @@ module _ (p : Panel) (c : Item) (vs : List ℕ) (h : Carrying c p) (route : Rout
   -- and waits
   pub turned-rests : Rests (reversed p c vs .links) (left (setterOf (p .setter)) c vs)
   turned-rests = turned-parts p c vs h (route .force) (route .leads) (route .distinct) .1
+
+  -- the same items are in force
+  pub turned-force : (n : ℕ) (d : Item) → inForce n (reversed p c vs .links) d ≡ inForce n (p .links) d
+  turned-force = turned-parts p c vs h (route .force) (route .leads) (route .distinct) .2
 
   pub turned-fits : Fits (setterOf (p .setter)) c vs
   turned-fits =
@@ -209,7 +215,7 @@ legal-waits p c h w = record {
 }
   where
     rests : (c : Item) → waits (p .size) (p .links) (p .setter) c ≡ true → Rests (p .links) c
-    rests (link i) w = rests-waiting (linkAt (p .links) i .standing) (and-right (linkAt (p .links) i .used) _ w)
+    rests (link i) w = rests-waiting (linkAt (p .links) i .standing) (and-right (isInForce (linkAt (p .links) i)) _ w)
     rests (stay f) w = tt
 
 pub legal-reversed : (p : Panel) (c : Item) → LegalBut c p → isBlocked p c ≡ true → isLooped (reversed p c (pathFor p c)) ≡ false

@@ -24,11 +24,11 @@ use Rattle.panel.specs.declared.Standing.{Standing}
 use Rattle.panel.specs.declared.Standing.the-variants.{Waiting, Holding}
 use Rattle.panel.specs.declared.Link.{Link}
 use Rattle.panel.specs.declared.Panel.{Panel}
-use Rattle.panel.specs.Items.{Item, link, stay, linkAt, setterOf, outputsOf, readsOf, inForce, isWaiting, waits}
+use Rattle.panel.specs.Items.{Item, link, stay, linkAt, setterOf, outputsOf, readsOf, isInForce, inForce, isWaiting, waits}
 use Rattle.panel.specs.Solution.{setterOthers, setterReads, isLooped}
 use Rattle.panel.specs.Legal.{Formed, Legal}
 use Rattle.panel.proofs.Turn.{setter-own, setter-stay, link-there}
-use Rattle.panel.proofs.Legal.{Filled, Held, Carrying, carrying, single, used-small, held-force, held-output}
+use Rattle.panel.proofs.Legal.{Filled, Held, Carrying, carrying, single, force-small, force-formed, held-force, held-output}
 
 -- a legal panel, with no item left open: field n has no stay
 pub whole : (p : Panel) → Legal p → Carrying (stay (p .size)) p
@@ -46,8 +46,8 @@ but-in m f u l e = go (ℕ-discrete u f)
 
 -- the other outputs of an item in force are read by it, wherever it stands; what it reads is below n
 module _ (n : ℕ) (links : List Link) (h : Filled n links) where
-  formed : (i : ℕ) → linkAt links i .used ≡ true → Formed n (linkAt links i)
-  formed i u = h .good i (used-small links i (h .full) u) .formed u
+  formed : (i : ℕ) → isInForce (linkAt links i) ≡ true → Formed n (linkAt links i)
+  formed = force-formed n links h
 
   pub others-read : (c : Item) (f u : ℕ) → inForce n links c ≡ true → u < 64 → member (without (outputsOf links c) f) u ≡ true
       → member (outputsOf links c) f ≡ true → f < 64 → member (readsOf links c f) u ≡ true
@@ -145,7 +145,7 @@ module _ (c : Item) (n : ℕ) (links : List Link) (setter : List ℕ) (h : Held 
   -- an item that waits sets nothing
   pub waits-idle : (d : Item) → waits n links setter d ≡ true → (f : ℕ) → f < n → setterOf setter f ≢ d
   waits-idle (link i) w f l e =
-      let s : linkAt links i .standing ≡ Waiting = rests-waiting (linkAt links i .standing) (and-right (linkAt links i .used) _ w) in
+      let s : linkAt links i .standing ≡ Waiting = rests-waiting (linkAt links i .standing) (and-right (isInForce (linkAt links i)) _ w) in
       let k : linkAt links i .standing ≡ Holding f = h .sets f i l e .holds in
       let z : _≡_ {A = ℕ} 0 1 = cc in
       omega arith
@@ -160,7 +160,7 @@ module _ (c : Item) (n : ℕ) (links : List Link) (setter : List ℕ) (h : Held 
     where
       go : (s : Standing) → linkAt links i .standing ≡ s → (waits n links setter (link i) ≡ true) ⊎ ((f : ℕ) × (f < n) × (setterOf setter f ≡ link i))
       go Waiting e = inl (rw (u, e))
-      go (Holding f) e = let (l, s) = h .held i f (used-small links i full u) ne e in inr (f, l, s)
+      go (Holding f) e = let (l, s) = h .held i f (force-small links i full u) ne e in inr (f, l, s)
   waits-or-sets (stay g) ne full u = go (decLt (at setter g) 128)
     where
       go : Dec (at setter g < 128) → (waits n links setter (stay g) ≡ true) ⊎ ((f : ℕ) × (f < n) × (setterOf setter f ≡ stay g))
@@ -168,5 +168,5 @@ module _ (c : Item) (n : ℕ) (links : List Link) (setter : List ℕ) (h : Held 
       go (no k) = inr (g, ltb-true g n u, setter-stay setter g (omega arith))
 
 pub waits-force : (n : ℕ) (links : List Link) (setter : List ℕ) (c : Item) → waits n links setter c ≡ true → inForce n links c ≡ true
-waits-force n links setter (link i) w = and-left (linkAt links i .used) _ w
+waits-force n links setter (link i) w = and-left (isInForce (linkAt links i)) _ w
 waits-force n links setter (stay g) w = and-left (ltb g n) _ w

@@ -1,7 +1,7 @@
 -- What the reversal of a path does: the setters along it move one field on, and of the links only the standings change.
 use Prim.Native.Nat.{ℕ, _≤_, _<_}
 use mathlib.Core.Path.{_≡_, refl, sym, ap, _∙_, fun-ext}
-use mathlib.Core.Bool.{cond}
+use mathlib.Core.Bool.{true, cond}
 use mathlib.Core.List.{List, [], _∷_}
 use mathlib.Core.Logic.{_≢_}
 use native.Mathlib.Decide.{ℕ-discrete, decLt}
@@ -17,9 +17,10 @@ use Rattle.panel.specs.declared.Standing.{Standing}
 use Rattle.panel.specs.declared.Standing.the-variants.{Waiting, Holding}
 use Rattle.panel.specs.declared.Link.{Link}
 use Rattle.panel.specs.declared.Panel.{Panel}
-use Rattle.panel.specs.Items.{Item, link, stay, noLink, linkAt, setterOf, levelOf, outputsOf, readsOf, inForce}
+use Rattle.panel.specs.Items.{Item, link, stay, noLink, linkAt, setterOf, levelOf, outputsOf, readsOf, isInForce, inForce}
 use Rattle.panel.specs.Panels.{standing, holding, waiting}
 use Rattle.panel.specs.Solution.{reversed}
+use Rattle.panel.proofs.InForce.{force-used, waiting-force, holding-force}
 
 -- ---- items
 
@@ -119,26 +120,23 @@ left-last st c v (w ∷ vs) (a, b) =
 
 -- ---- the links
 
--- all but the standing agree
+-- level and fields agree
 pub record Alike (l m : Link) : Type 0 where
   pub covered : l .covered ≡ m .covered
   pub outputs : l .outputs ≡ m .outputs
   pub level : l .level ≡ m .level
-  pub used : l .used ≡ m .used
 
--- only standings differ
 abbrev pub AllAlike : List Link → List Link → Type 0
 AllAlike a b = (i : ℕ) → Alike (linkAt a i) (linkAt b i)
 
 pub all-alike-refl : (a : List Link) → AllAlike a a
-all-alike-refl a i = record { covered = refl; outputs = refl; level = refl; used = refl }
+all-alike-refl a i = record { covered = refl; outputs = refl; level = refl }
 
 alike-trans : {l m k : Link} → Alike l m → Alike m k → Alike l k
 alike-trans a b = record {
   covered = a .covered ∙ b .covered;
   outputs = a .outputs ∙ b .outputs;
   level = a .level ∙ b .level;
-  used = a .used ∙ b .used;
 }
 
 -- another link of a number, read where it was put, and elsewhere
@@ -148,17 +146,30 @@ link-here a i l h = getD-set-same a i l noLink h
 pub link-there : (a : List Link) (i j : ℕ) (l : Link) → j ≢ i → linkAt (set a i l) j ≡ linkAt a j
 link-there a i j l h = getD-set-other a i j l noLink h
 
-alike-standing : (l : Link) (s : Standing) → Alike (standing l s) l
-alike-standing l s = record { covered = refl; outputs = refl; level = refl; used = refl }
+-- what another link of a number shares with the one before, all links share
+set-shares : {A : Type 0} (of : Link → A) (a : List Link) (i : ℕ) (l : Link) → of l ≡ of (linkAt a i) → (j : ℕ)
+    → of (linkAt (set a i l) j) ≡ of (linkAt a j)
+set-shares of a i l e j = go (ℕ-discrete j i) (decLt i (length a))
+  where
+    go : Dec (j ≡ i) → Dec (i < length a) → of (linkAt (set a i l) j) ≡ of (linkAt a j)
+    go (no d) k = ap of (link-there a i j l d)
+    go (yes d) (yes k) = rw (d, link-here a i l k) e
+    go (yes d) (no k) = ap (λ (b : List Link). of (linkAt b j)) (set-out a i l (omega arith))
 
 -- a link at another standing
-pub set-alike : (a : List Link) (i : ℕ) (s : Standing) → AllAlike (set a i (standing (linkAt a i) s)) a
-set-alike a i s j = go (ℕ-discrete j i) (decLt i (length a))
-  where
-    go : Dec (j ≡ i) → Dec (i < length a) → Alike (linkAt (set a i (standing (linkAt a i) s)) j) (linkAt a j)
-    go (no d) l = rw (link-there a i j (standing (linkAt a i) s) d) (all-alike-refl a j)
-    go (yes d) (yes l) = rw (d, link-here a i (standing (linkAt a i) s) l) (alike-standing (linkAt a i) s)
-    go (yes d) (no l) = rw (set-out a i (standing (linkAt a i) s) (omega arith)) (all-alike-refl a j)
+set-alike : (a : List Link) (i : ℕ) (s : Standing) → AllAlike (set a i (standing (linkAt a i) s)) a
+set-alike a i s j =
+    let l = standing (linkAt a i) s in
+    record {
+      covered = set-shares (λ l. l .covered) a i l refl j;
+      outputs = set-shares (λ l. l .outputs) a i l refl j;
+      level = set-shares (λ l. l .level) a i l refl j;
+    }
+
+set-force : (a : List Link) (i : ℕ) (l : Link) → isInForce l ≡ true → isInForce (linkAt a i) ≡ true → (n : ℕ) (d : Item)
+    → inForce n (set a i l) d ≡ inForce n a d
+set-force a i l e u n (link j) = set-shares isInForce a i l (e ∙ sym u) j
+set-force a i l e u n (stay f) = refl
 
 module _ (a b : List Link) (h : AllAlike a b) where
   pub alike-level : (place : List ℕ) (d : Item) → levelOf a place d ≡ levelOf b place d
@@ -172,10 +183,6 @@ module _ (a b : List Link) (h : AllAlike a b) where
   pub alike-reads : (d : Item) (f : ℕ) → readsOf a d f ≡ readsOf b d f
   alike-reads (link i) f = rw (h i .covered)
   alike-reads (stay g) f = refl
-
-  pub alike-force : (n : ℕ) (d : Item) → inForce n a d ≡ inForce n b d
-  alike-force n (link i) = h i .used
-  alike-force n (stay f) = refl
 
 -- ---- one item holds a field
 
@@ -196,6 +203,11 @@ module _ (p : Panel) (v : ℕ) where
   holding-alike (link i) = set-alike (p .links) i (Holding v)
   holding-alike (stay g) = all-alike-refl (p .links)
 
+  -- the same items are in force
+  pub holding-same : (c : Item) → inForce (p .size) (p .links) c ≡ true → (n : ℕ) (d : Item) → inForce n (holding p c v .links) d ≡ inForce n (p .links) d
+  holding-same (link i) u = set-force (p .links) i _ (holding-force _ v (force-used _ u) refl) u
+  holding-same (stay g) u = λ n d. refl
+
 module _ (p : Panel) where
   pub waiting-size : (c : Item) → waiting p c .size ≡ p .size
   waiting-size (link i) = refl
@@ -212,6 +224,10 @@ module _ (p : Panel) where
   pub waiting-alike : (c : Item) → AllAlike (waiting p c .links) (p .links)
   waiting-alike (link i) = set-alike (p .links) i Waiting
   waiting-alike (stay g) = all-alike-refl (p .links)
+
+  pub waiting-same : (c : Item) → inForce (p .size) (p .links) c ≡ true → (n : ℕ) (d : Item) → inForce n (waiting p c .links) d ≡ inForce n (p .links) d
+  waiting-same (link i) u = set-force (p .links) i _ (waiting-force _ (force-used _ u) refl) u
+  waiting-same (stay g) u = λ n d. refl
 
 -- ---- what a reversal leaves as it was
 
@@ -239,9 +255,6 @@ module _ (p : Panel) (c : Item) (vs : List ℕ) where
 
   pub reversed-reads : (d : Item) (f : ℕ) → readsOf (reversed p c vs .links) d f ≡ readsOf (p .links) d f
   reversed-reads = alike-reads (reversed p c vs .links) (p .links) (reversed-alike p c vs)
-
-  pub reversed-force : (n : ℕ) (d : Item) → inForce n (reversed p c vs .links) d ≡ inForce n (p .links) d
-  reversed-force = alike-force (reversed p c vs .links) (p .links) (reversed-alike p c vs)
 
 -- ---- the setters after a reversal
 

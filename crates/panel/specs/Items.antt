@@ -45,9 +45,13 @@ abbrev pub readsOf : List Link → Item → ℕ → ℕ
 readsOf links (link i) f = without (linkAt links i .covered) f
 readsOf links (stay g) f = 0
 
--- "In force are all links added and not since removed, and all n stays"
+-- "In force are all links added and not since removed"
+unfoldable pub isInForce : Link → Bool
+isInForce l = l .used
+
+-- ".., and all n stays"
 abbrev pub inForce : ℕ → List Link → Item → Bool
-inForce n links (link i) = linkAt links i .used
+inForce n links (link i) = isInForce (linkAt links i)
 inForce n links (stay f) = ltb f n
 
 abbrev pub isWaiting : Standing → Bool

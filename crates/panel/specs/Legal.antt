@@ -9,7 +9,7 @@ use Rattle.fieldset.specs.Fields.{member, size}
 use Rattle.panel.specs.declared.Standing.the-variants.{Waiting, Holding}
 use Rattle.panel.specs.declared.Link.{Link}
 use Rattle.panel.specs.declared.Panel.{Panel}
-use Rattle.panel.specs.Items.{noLink, linkAt}
+use Rattle.panel.specs.Items.{noLink, linkAt, isInForce}
 use Rattle.panel.specs.Solution.{isLooped}
 
 -- "a level 0 to 15 .., a set of 1 to 8 covered fields, and a non-empty subset of these that it is permitted to set", of n fields
@@ -36,7 +36,7 @@ pub record Legal (p : Panel) : Type 0 where
   pub setter-past : (f : ℕ) → p .size ≤ f → f < 64 → at (p .setter) f ≡ 128
   -- "each field has exactly one setter (a link holding it, or its stay)": setters and standings agree
   pub setter-small : (f : ℕ) → f < 64 → at (p .setter) f ≤ 128
-  pub setter-used : (f : ℕ) → f < 64 → at (p .setter) f < 128 → linkAt (p .links) (at (p .setter) f) .used ≡ true
+  pub setter-in-force : (f : ℕ) → f < 64 → at (p .setter) f < 128 → isInForce (linkAt (p .links) (at (p .setter) f)) ≡ true
   pub setter-holds : (f : ℕ) → f < 64 → at (p .setter) f < 128 → linkAt (p .links) (at (p .setter) f) .standing ≡ Holding f
   pub holding-field : (i f : ℕ) → i < 128 → linkAt (p .links) i .standing ≡ Holding f → f < p .size
   pub holding-output : (i f : ℕ) → i < 128 → linkAt (p .links) i .standing ≡ Holding f → member (linkAt (p .links) i .outputs) f ≡ true
@@ -45,6 +45,6 @@ pub record Legal (p : Panel) : Type 0 where
   pub place-small : (f : ℕ) → f < p .size → at (p .place) f < p .size
   pub place-once : (f g : ℕ) → f < p .size → g < p .size → at (p .place) f ≡ at (p .place) g → f ≡ g
   -- "every required link in force holds"
-  pub required : (i : ℕ) → i < 128 → linkAt (p .links) i .used ≡ true → linkAt (p .links) i .level ≡ 0 → linkAt (p .links) i .standing ≢ Waiting
+  pub required : (i : ℕ) → i < 128 → isInForce (linkAt (p .links) i) ≡ true → linkAt (p .links) i .level ≡ 0 → linkAt (p .links) i .standing ≢ Waiting
   -- "there is no loop from setter to field to a setter that reads it"
   pub loopless : isLooped p ≡ false

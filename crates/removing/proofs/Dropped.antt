@@ -18,12 +18,13 @@ use Rattle.fieldset.proofs.Numbers.{clash, any-cong}
 use Rattle.panel.specs.declared.Standing.the-variants.{Holding}
 use Rattle.panel.specs.declared.Link.{Link}
 use Rattle.panel.specs.declared.Panel.{Panel}
-use Rattle.panel.specs.Items.{Item, link, stay, noLink, linkAt, itemOf, setterOf, outputsOf, isWaiting, itemsOf}
+use Rattle.panel.specs.Items.{Item, link, stay, noLink, linkAt, itemOf, setterOf, outputsOf, isInForce, isWaiting, itemsOf}
 use Rattle.panel.specs.Panels.{withLink, freed, dropped}
 use Rattle.panel.specs.Solution.{level, setterLevel, setterOthers, strengthOf, isBlocked, lesser, least, leastBlocked}
 use Rattle.panel.specs.Steps.{removeStep}
 use Rattle.panel.specs.Commands.{removing, performed}
 use Rattle.panel.specs.Legal.{Legal}
+use Rattle.panel.proofs.InForce.{unused-off}
 use Rattle.panel.proofs.Turn.{numberOf, setter-stay, setter-number, link-here, link-there}
 use Rattle.panel.proofs.Setters.{reads-there, waits-force}
 use Rattle.panel.proofs.Reversal.{blocking}
@@ -143,20 +144,20 @@ module _ {p : Panel} {id v : ℕ} {levels others reads : List ℕ} (x : Held p i
       (λ u k. ap (λ (s : ℕ). member m u && ltb l s) (strength-kept u k))
 
   abbrev blocked-link : Link → Bool
-  blocked-link l = (l .used && isWaiting (l .standing)) && any (λ u. member (l .outputs) u && ltb (l .level) (strengthOf rest u)) 64
+  blocked-link l = (isInForce l && isWaiting (l .standing)) && any (λ u. member (l .outputs) u && ltb (l .level) (strengthOf rest u)) 64
 
   not-blocked : isBlocked rest (link id) ≡ false
   unfolding isBlocked
-  not-blocked = ap blocked-link (link-here (p .links) id noLink (omega (arith, h .links-length)))
+  not-blocked = ap blocked-link (link-here (p .links) id noLink (omega (arith, h .links-length))) ∙ rw (unused-off noLink refl)
 
   blocked-kept : (d : Item) → isBlocked stepped d ≡ isBlocked rest d
   unfolding isBlocked
   blocked-kept (link i) = go (ℕ-discrete i id)
     where
       go : Dec (i ≡ id) → isBlocked stepped (link i) ≡ isBlocked rest (link i)
-      go (yes e) = rw e (rw (x .holds, and-false (linkAt (p .links) id .used)) (sym not-blocked))
+      go (yes e) = rw e (rw (x .holds, and-false (isInForce (linkAt (p .links) id))) (sym not-blocked))
       go (no e) =
-          ap (λ (b : Bool). (linkAt (p .links) i .used && isWaiting (linkAt (p .links) i .standing)) && b) (over-kept _ _)
+          ap (λ (b : Bool). (isInForce (linkAt (p .links) i) && isWaiting (linkAt (p .links) i .standing)) && b) (over-kept _ _)
           ∙ sym (ap blocked-link (link-there (p .links) id i noLink e))
   blocked-kept (stay f) = ap (λ (b : Bool). (ltb f (p .size) && ltb (at (rest .setter) f) 128) && b) (over-kept _ _)
 

@@ -33,8 +33,9 @@ use Rattle.panel.specs.Steps.{settled, dropStep, removeStep}
 use Rattle.panel.specs.Commands.{checked, isOpen, removing, performed}
 use Rattle.panel.specs.Legal.{Legal}
 use Rattle.panel.specs.Outcomes.{unchanged, Decides}
-use Rattle.panel.proofs.Turn.{link-here, reversed-alike}
-use Rattle.panel.proofs.Legal.{Filled, LegalBut, used-small}
+use Rattle.panel.proofs.InForce.{unused-off}
+use Rattle.panel.proofs.Turn.{link-here}
+use Rattle.panel.proofs.Legal.{Filled, LegalBut, force-formed}
 use Rattle.panel.proofs.Setters.{outputs-inside, waits-force}
 use Rattle.panel.proofs.Reversal.{Blocking, blocking, legal-waits}
 use Rattle.panel.proofs.Checks.{Says}
@@ -98,12 +99,9 @@ module _ (p : Panel) (h : Legal p) (id : ℕ) (small : id < 128) where
     legal = h;
     size = freed-parts (withLink p id noLink) s .0;
     field = λ v e. field-small p h id v small (is ∙ e);
-    gone = λ v r e k vs c turned q.
-        let now : at (r .setter) v ≡ id = sym q ∙ h .holding-sets id v small (is ∙ e) in
-        clash (subst (λ (i : ℕ). linkAt (r .links) i .used ≡ true) now (k .setter-used v (field-small p h id v small (is ∙ e)) (omega arith)))
-        (ap (λ (x : Panel). linkAt (x .links) id .used) turned ∙ reversed-alike _ c vs id .used
-        ∙ ap (λ (x : List Link). linkAt x id .used) (freed-parts (withLink p id noLink) s .1)
-        ∙ ap (λ (l : Link). l .used) (link-here (p .links) id noLink (omega (arith, h .links-length))));
+    gone = λ v e.
+        let now : at (p .setter) v ≡ id = h .holding-sets id v small (is ∙ e) in
+        (omega arith, rw (now, freed-parts (withLink p id noLink) s .1, link-here (p .links) id noLink (omega (arith, h .links-length))) (unused-off noLink refl));
     keeps = λ f l e. inr (sym is ∙ sets-holds p h id f small l e);
   }
 
@@ -130,7 +128,7 @@ some-of (suc m) u e = omega arith
 -- what an item in force covers are fields of the panel
 cover-inside : (n : ℕ) (links : List Link) → Filled n links → (d : Item) → inForce n links d ≡ true → (u : ℕ) → u < 64
     → member (coverOf links d) u ≡ true → u < n
-cover-inside n links h (link i) f u l e = h .good i (used-small links i (h .full) f) .formed f .inside u l e
+cover-inside n links h (link i) f u l e = force-formed n links h i f .inside u l e
 cover-inside n links h (stay g) f u l e = rw (eqb-true u g (sym (member-only g u l) ∙ e)) (ltb-true g n f)
 
 module _ {p : Panel} {id v : ℕ} {levels others reads : List ℕ} (x : Held p id v levels others reads) where
@@ -238,10 +236,12 @@ module _ {p : Panel} {id v : ℕ} {levels others reads : List ℕ} (x : Held p i
                 (decides-free p id (p .size) (p .place) noLink (Holding v) held (removing id) path long number (step ∙ ap (settled p q) free))
             go (inr (d, found, en, eo, ec)) t (inr (z, _, _)) = absurd (omega (arith, some-output d found, eo, z))
             go (inr (d, found, en, eo, ec)) Free (inl (ne, s, top, never)) = absurd never
-            go (inr (d, found, en, eo, ec)) Looped (inl (ne, s, top, (count, f))) =
-                (step ∙ ap (settled p q) found
-                ∙ found-refused q d (but d found .carrying) (legal .loopless) (force d found) L O R tabled (blocked d found) s count path true
-                (is-greatest d found s (rw eo at top)) (rw (eo, ec) at f) p refl, f .fields .full)
+            go (inr (d, found, en, eo, ec)) Looped (inl (ne, s, top, (count, f))) = (
+              step ∙ ap (settled p q) found
+                  ∙ found-refused q d (but d found .carrying) (legal .loopless) (force d found) L O R tabled (blocked d found) s count path true
+                  (is-greatest d found s (rw eo at top)) (rw (eo, ec) at f) p refl,
+              f .fields .full,
+            )
             go (inr (d, found, en, eo, ec)) (Path count m) (inl (ne, s, top, (f, em))) =
                 rw en
                 (decides-path p id (p .size) (p .place) noLink (Holding v) held (removing id) path d (but d found .carrying) (legal .loopless) (force d found) L O R

@@ -23,7 +23,7 @@ use Rattle.panel.specs.Answers.{refused}
 use Rattle.panel.specs.Solution.{level, setterLevel, setterOthers, setterReads, strengthOf, isBlocked, pathFor, reversed, isLooped}
 use Rattle.panel.specs.Steps.{accepted, turned}
 use Rattle.panel.proofs.Turn.{numberOf, turn, alike-reads, reversed-size, reversed-alike}
-use Rattle.panel.proofs.Legal.{Carrying, used-small}
+use Rattle.panel.proofs.Legal.{Carrying, force-small, force-formed}
 use Rattle.panel.proofs.Setters.{setter-force, setter-output, outputs-inside}
 use Rattle.panel.proofs.Reversal.{turned-setters, Start, startOf, start-of, blocking, path-for, route-for}
 use Rattle.tables.specs.Tables.{Tabled}
@@ -108,7 +108,7 @@ module _ (q : Panel) (c : Item) (h : Carrying c q) (loopless : isLooped q ≡ fa
 
     covers : (d : Item) (v : ℕ) → inForce (q .size) (q .links) d ≡ true → v < q .size → member (outputsOf (q .links) d) v ≡ true → Covers (q .links) d v
     covers (link i) v f l o =
-        let formed = h .filled .good i (used-small (q .links) i (h .filled .full) f) .formed f in
+        let formed = force-formed (q .size) (q .links) (h .filled) i f in
         let k : v < 64 = omega (arith, h .few) in
         cover-link (q .links) i v (formed .small) k (formed .subset v k o)
     covers (stay g) v f l o = cover-stay (q .links) g v (omega (arith, h .few)) o
@@ -141,7 +141,7 @@ module _ (q : Panel) (c : Item) (h : Carrying c q) (loopless : isLooped q ≡ fa
             head count after (startOf q c) (r .rest) whole
 
         go : (e : Item) → c ≡ e → itemOf (numberOf e) (at after 0) ≡ e
-        go (link i) e = rw (lt-ltb i 128 (used-small (q .links) i (h .filled .full) (rw e at force))) refl
+        go (link i) e = rw (lt-ltb i 128 (force-small (q .links) i (h .filled .full) (rw e at force))) refl
         go (stay f) e =
             ap stay (first ∙ stay-output (q .links) c f (startOf q c) e (omega (arith, start .small, h .few)) (start .output))
 

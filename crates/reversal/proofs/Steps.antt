@@ -1,8 +1,8 @@
 -- The step of a turn: it gives what its command gives.
 use Prim.Native.Nat.{ℕ, _^_, _≤_, _<_}
-use mathlib.Core.Path.{_≡_, refl, sym, ap, ap₂, _∙_, subst}
+use mathlib.Core.Path.{_≡_, refl, sym, ap, _∙_, subst}
 use mathlib.Core.Bool.{Bool, true, false, not, _||_, or-false}
-use mathlib.Core.Logic.{_≢_, _⊎_, ⊎-elim}
+use mathlib.Core.Logic.{_≢_, _⊎_}
 use mathlib.Core.List.{List, [], _∷_}
 use native.Mathlib.Decide.{ℕ-discrete}
 use native.Mathlib.Omega.{arith}
@@ -20,17 +20,17 @@ use Rattle.panel.specs.declared.Standing.the-variants.{Waiting, Holding}
 use Rattle.panel.specs.declared.Link.{Link}
 use Rattle.panel.specs.declared.Panel.{Panel}
 use Rattle.panel.specs.declared.Refusal.the-variants.{Loop}
-use Rattle.panel.specs.Items.{Item, stay, itemOf, linkAt, outputsOf, inForce, waits}
+use Rattle.panel.specs.Items.{Item, link, itemOf, linkAt, outputsOf, isInForce, inForce, waits}
 use Rattle.panel.specs.Answers.{Answer, refused}
 use Rattle.panel.specs.Panels.{freed}
 use Rattle.panel.specs.Solution.{level, isBlocked, pathFor, reversed, isLooped}
 use Rattle.panel.specs.Steps.{accepted, turned}
 use Rattle.panel.specs.Commands.{anyOf, Command, performed}
 use Rattle.panel.specs.Legal.{Legal}
-use Rattle.panel.specs.Outcomes.{altered, taken, PathOf, Decides}
+use Rattle.panel.specs.Outcomes.{taken, PathOf, Decides}
 use Rattle.panel.proofs.Turn.{numberOf, reversed-size}
 use Rattle.panel.proofs.Legal.{Carrying, holding-not-waiting}
-use Rattle.panel.proofs.Reversal.{blocking, start-of, startOf, path-for, route-for}
+use Rattle.panel.proofs.Reversal.{blocking, start-of, startOf, path-for, Route, route-for, turned-force}
 use Rattle.panel.proofs.Performed.{legal-performed}
 use Rattle.panel.proofs.Moved.{reversed-changes, moved-size}
 use Rattle.tables.specs.Tables.{Tabled}
@@ -52,7 +52,7 @@ module _ (p : Panel) (k n : ℕ) (place : List ℕ) (l : Link) (held : Standing)
     pub size : after .size ≡ p .size
     -- what it gives free is a field that link k holds, and no link k is in force then
     pub field : (v : ℕ) → held ≡ Holding v → v < 64
-    pub gone : (v : ℕ) (r : Panel) → held ≡ Holding v → Legal r → ((vs : List ℕ) (c : Item) → r ≡ reversed after c vs → at (p .setter) v ≢ at (r .setter) v)
+    pub gone : (v : ℕ) → held ≡ Holding v → (at (p .setter) v < 128) × (isInForce (linkAt (after .links) (at (p .setter) v)) ≡ false)
     pub keeps : (f : ℕ) → f < 64 → at (p .setter) f ≡ k → (l ≡ linkAt (p .links) k) ⊎ (held ≡ Holding f)
 
   module _ (ch : Change) (cmd : Command) (path : List ℕ) where
@@ -65,12 +65,18 @@ module _ (p : Panel) (k n : ℕ) (place : List ℕ) (l : Link) (held : Standing)
     none-zero a b f z lf = sym (member-union a b f lf) ∙ ap (λ (m : ℕ). member m f) z ∙ member-empty f
 
     -- what a turn changes, where r is the panel after it, whose path has the fields vs
-    module _ (t : Turn) (c : ℕ) (vs : List ℕ) (d : Item) (r : Panel)
-        (taking : reversed after (itemOf (setterBy t c) (at path 0)) (take (countBy t) path) ≡ r) (is : r ≡ reversed after d vs) (fields : fieldsBy t ≡ fieldsOf vs)
+    module _ (t : Turn) (c : ℕ) (vs : List ℕ) (r : Panel)
+        (taking : reversed after (itemOf (setterBy t c) (at path 0)) (take (countBy t) path) ≡ r) (force : (i : ℕ) → isInForce (linkAt (r .links) i) ≡ isInForce (linkAt (after .links) i)) (fields : fieldsBy t ≡ fieldsOf vs)
         (on : (f : ℕ) → anyOf (eqb f) vs ≡ not (eqb (at (after .setter) f) (at (r .setter) f))) (accept : performed p cmd ≡ accepted p r)
         (path-of : PathOf path (countBy t)) (moves : fieldsBy t ≡ 0 → (setterBy t c ≡ 128) × (countBy t ≡ 0)) (size-same : r .size ≡ after .size) where
       legal-after : Legal r
       legal-after = subst (λ (a : Answer). Legal (a .panel)) accept (legal-performed p cmd (ch .legal))
+
+      -- what is given free has another setter then
+      set-anew : (v : ℕ) → held ≡ Holding v → at (p .setter) v ≢ at (r .setter) v
+      set-anew v e x =
+          let (small, off) = ch .gone v e in
+          clash (legal-after .setter-in-force v (ch .field v e) (omega arith)) (force (at (r .setter) v) ∙ rw (← x) off)
 
       changed : (f : ℕ) → f < 64 → member (union (fieldsBy t) (heldField held)) f ≡ not (eqb (at (p .setter) f) (at (r .setter) f))
       unfolding fieldsOf
@@ -90,7 +96,7 @@ module _ (p : Panel) (k n : ℕ) (place : List ℕ) (l : Link) (held : Standing)
               at-v : Dec (f ≡ v) → (not (eqb (at (after .setter) f) (at (r .setter) f)) || member (only v) f) ≡ not (eqb (at (p .setter) f) (at (r .setter) f))
               at-v (yes q) =
                   rw (member-only v f lf, eq-eqb f v q)
-                  (all-true (not (eqb (at (after .setter) f) (at (r .setter) f))) ∙ sym (ap not (ne-eqb (at (p .setter) f) (at (r .setter) f) (λ x. ch .gone v r e legal-after vs d is (sym (ap (at (p .setter)) q) ∙ x ∙ ap (at (r .setter)) q)))))
+                  (all-true (not (eqb (at (after .setter) f) (at (r .setter) f))) ∙ sym (ap not (ne-eqb (at (p .setter) f) (at (r .setter) f) (λ x. absurd (set-anew v e (sym (ap (at (p .setter)) q) ∙ x ∙ ap (at (r .setter)) q))))))
               at-v (no q) =
                   rw (member-only v f lf, ne-eqb f v q)
                   (or-false (not (eqb (at (after .setter) f) (at (r .setter) f))) ∙ ap (λ (x : ℕ). not (eqb x (at (r .setter) f))) (same (Holding v) e f (λ x. let z : v ≡ f = cc in q (sym z))))
@@ -142,7 +148,7 @@ module _ (p : Panel) (k n : ℕ) (place : List ℕ) (l : Link) (held : Standing)
     pub decides-free : length path ≡ 64 → (c : ℕ) → performed p cmd ≡ accepted p after → Decides p k cmd path (stepOf Free n place l held c)
     unfolding reversed anyOf
     decides-free long c accept =
-        decides-turn Free c [] (stay 0) after refl refl (sym (fields-none []))
+        decides-turn Free c [] after refl (λ i. refl) (sym (fields-none []))
         (λ f. sym (ap not (eq-eqb (at (after .setter) f) (at (after .setter) f) refl))) accept
         (record { full = long; few = omega arith; fields = λ i l. absurd (omega arith) }) (λ z. (refl, refl)) refl
 
@@ -154,14 +160,18 @@ module _ (p : Panel) (k n : ℕ) (place : List ℕ) (l : Link) (held : Standing)
           → Found levels others (after .size) s (outputsOf (after .links) d) (coverOf (after .links) d) reads path count false → m ≡ fieldsOf (take count path)
           → performed p cmd ≡ turned p after d → Decides p k cmd path (stepOf (Path count m) n place l held (numberOf d))
       decides-path b s count m top found em step =
-          decides-turn (Path count m) (numberOf d) vs d (reversed after d vs)
-          (found-panel after d h loopless force levels others reads tabled b s count path false top found) refl fields
-          (reversed-changes after d vs h (route-for after d h loopless (blocking after d b)))
+          decides-turn (Path count m) (numberOf d) vs (reversed after d vs)
+          (found-panel after d h loopless force levels others reads tabled b s count path false top found)
+          (λ i. turned-force after d vs h route (after .size) (link i)) fields
+          (reversed-changes after d vs h route)
           (step ∙ found-accepted after d h loopless force levels others reads tabled b s count path false top found p refl)
           (found .fields) (λ z. absurd (some z)) (reversed-size after d vs)
         where
           vs : List ℕ
           vs = pathFor after d
+
+          route : Route after d vs
+          route = route-for after d h loopless (blocking after d b)
 
           fields : m ≡ fieldsOf (pathFor after d)
           fields = em ∙ ap fieldsOf (decided-path after d h loopless force levels others reads tabled b s count path false top found)

@@ -17,9 +17,11 @@ use Rattle.panel.specs.declared.Standing.{Standing}
 use Rattle.panel.specs.declared.Standing.the-variants.{Waiting, Holding}
 use Rattle.panel.specs.declared.Link.{Link}
 use Rattle.panel.specs.declared.Panel.{Panel}
-use Rattle.panel.specs.Items.{link, stay, linkAt, isWaiting}
+use Rattle.panel.specs.Items.{link, stay, linkAt, isInForce, isWaiting}
 use Rattle.panel.specs.Solution.{level, strengthOf, isBlocked}
 use Rattle.panel.specs.Legal.{Legal, Formed}
+use Rattle.panel.proofs.InForce.{unused-off, waiting-force}
+use Rattle.panel.proofs.Legal.{filled, force-formed}
 use Rattle.tables.specs.Tables.{StrengthsOf}
 use Rattle.scanning.specs.Scan.{isOver, isBlockedLink, withSetters}
 
@@ -75,20 +77,20 @@ module _ (p : Panel) (setter table : List ℕ) (L : Legal p) (S : StrengthsOf (w
   -- the outputs of a link are fields of the panel, and their strengths stand in the table
   pub link-blocked : (i : ℕ) → i < 128 → isBlocked q (link i) ≡ isBlockedLink table (linkAt (p .links) i)
   unfolding isBlocked isOver
-  link-blocked i l = go (linkAt (p .links) i) (λ e. L .formed i l e)
+  link-blocked i l = go (linkAt (p .links) i) (force-formed (p .size) (p .links) (filled p L) i)
     where
-      go : (x : Link) → (x .used ≡ true → Formed (p .size) x)
-          → ((x .used && isWaiting (x .standing)) && any (λ u. member (x .outputs) u && ltb (x .level) (strengthOf q u)) 64)
-          ≡ ((x .used && isWaiting (x .standing)) && any (λ u. member (x .outputs) u && ltb (x .level) (at table u)) 64)
-      go x F = used (x .used) refl
+      go : (x : Link) → (isInForce x ≡ true → Formed (p .size) x)
+          → ((isInForce x && isWaiting (x .standing)) && any (λ u. member (x .outputs) u && ltb (x .level) (strengthOf q u)) 64)
+          ≡ ((isInForce x && isWaiting (x .standing)) && any (λ u. member (x .outputs) u && ltb (x .level) (at table u)) 64)
+      go x F = force (isInForce x) refl
         where
-          used : (b : Bool) → x .used ≡ b
+          force : (b : Bool) → isInForce x ≡ b
               → ((b && isWaiting (x .standing)) && any (λ u. member (x .outputs) u && ltb (x .level) (strengthOf q u)) 64)
               ≡ ((b && isWaiting (x .standing)) && any (λ u. member (x .outputs) u && ltb (x .level) (at table u)) 64)
-          used true e =
+          force true e =
               ap (λ (b : Bool). isWaiting (x .standing) && b)
               (any-agree (x .outputs) (x .level) (strengthOf q) (at table) (λ u k m. sym (S u (F e .inside u k (F e .subset u k m)))))
-          used false e = refl
+          force false e = refl
 
   stay-blocked : (f : ℕ) → f < p .size → isBlocked q (stay f) ≡ (ltb (at setter f) 128 && ltb (level q (stay f)) (at table f))
   unfolding isBlocked
@@ -108,17 +110,17 @@ module _ (p : Panel) (setter table : List ℕ) (L : Legal p) (S : StrengthsOf (w
 -- a link by its parts
 module _ (table : List ℕ) (x : Link) where
   pub link-unused : x .used ≡ false → false ≡ isBlockedLink table x
-  link-unused e = sym (ap (λ (u : Bool). (u && isWaiting (x .standing)) && isOver table (x .level) (x .outputs)) e)
+  link-unused e = sym (ap (λ (u : Bool). (u && isWaiting (x .standing)) && isOver table (x .level) (x .outputs)) (unused-off x e))
 
   pub link-holds : (f : ℕ) → x .standing ≡ Holding f → false ≡ isBlockedLink table x
   link-holds f e =
-      sym (ap (λ (s : Standing). (x .used && isWaiting s) && isOver table (x .level) (x .outputs)) e
-      ∙ ap (λ (u : Bool). u && isOver table (x .level) (x .outputs)) (and-false (x .used)))
+      sym (ap (λ (s : Standing). (isInForce x && isWaiting s) && isOver table (x .level) (x .outputs)) e
+      ∙ ap (λ (u : Bool). u && isOver table (x .level) (x .outputs)) (and-false (isInForce x)))
 
   pub link-waits : (r : Bool) → x .used ≡ true → x .standing ≡ Waiting → r ≡ isOver table (x .level) (x .outputs) → r ≡ isBlockedLink table x
   link-waits r u e o =
-      o ∙ sym (ap (λ (s : Standing). (x .used && isWaiting s) && isOver table (x .level) (x .outputs)) e
-      ∙ ap (λ (u : Bool). (u && true) && isOver table (x .level) (x .outputs)) u)
+      o ∙ sym (ap (λ (s : Standing). (isInForce x && isWaiting s) && isOver table (x .level) (x .outputs)) e
+      ∙ ap (λ (u : Bool). (u && true) && isOver table (x .level) (x .outputs)) (waiting-force x u e))
 
 pub link-level : (p : Panel) (i : ℕ) → Legal p → i < 128 → level p (link i) ≤ 15
 link-level p i L l = go (linkAt (p .links) i .used) refl

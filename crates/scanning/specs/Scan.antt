@@ -10,7 +10,7 @@ use mathlib.Core.Path.{_≡_}
 use mathlib.Core.Option.{none, some}
 use Rattle.panel.specs.declared.Link.{Link}
 use Rattle.panel.specs.declared.Panel.{Panel}
-use Rattle.panel.specs.Items.{link, stay, linkAt, isWaiting}
+use Rattle.panel.specs.Items.{link, stay, linkAt, isInForce, isWaiting}
 use Rattle.panel.specs.Solution.{leastBlocked}
 use Rattle.scanning.specs.declared.Blocked.{Blocked}
 use Rattle.scanning.specs.declared.Blocked.the-variants.{Nothing, Link as ALink, Stay as AStay}
@@ -21,7 +21,7 @@ isOver table level set = any (λ u. member set u && ltb level (at table u)) 64
 
 -- a link in force waits and is blocked, by a table of strengths
 abbrev pub isBlockedLink : List ℕ → Link → Bool
-isBlockedLink table l = (l .used && isWaiting (l .standing)) && isOver table (l .level) (l .outputs)
+isBlockedLink table l = (isInForce l && isWaiting (l .standing)) && isOver table (l .level) (l .outputs)
 
 -- the panel with other setters
 abbrev pub withSetters : Panel → List ℕ → Panel

@@ -53,10 +53,13 @@ touch-checks p f =
     (λ z.
     let o : not (isOpen p) ≡ false = ap not (lt-ltb 0 (p .size) (omega (arith, eqb-false (p .size) 0 z))) in
     says p (touching f) _ (leb (p .size) f) NoSuchField _ (λ e. passes p (not (isOpen p)) NotOpen _ _ _ o (applies p (leb (p .size) f) NoSuchField _ _ e))
-    (λ e. (refl, record {
-      field = leb-false (p .size) f e;
-      step = passes p (not (isOpen p)) NotOpen _ _ _ o (passes p (leb (p .size) f) NoSuchField _ _ _ e (none-left p (touchStep p f) (touchStep p f) refl));
-    })))
+    (λ e. (
+      refl,
+      record {
+        field = leb-false (p .size) f e;
+        step = passes p (not (isOpen p)) NotOpen _ _ _ o (passes p (leb (p .size) f) NoSuchField _ _ _ e (none-left p (touchStep p f) (touchStep p f) refl));
+      },
+    )))
 
 -- ---- the panel with the stay in front
 
@@ -83,7 +86,7 @@ unmoved p h k named same place = record {
   legal = h;
   size = refl;
   field = λ v e. absurd (holding-not-waiting e refl);
-  gone = λ v r e. absurd (holding-not-waiting e refl);
+  gone = λ v e. absurd (holding-not-waiting e refl);
   keeps = λ g l e. inl same;
 }
 

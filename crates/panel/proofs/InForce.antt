@@ -1,0 +1,26 @@
+-- What is known of a link in force. Nothing else looks into the definition.
+use Prim.Native.Nat.{ℕ}
+use mathlib.Core.Path.{_≡_}
+use mathlib.Core.Bool.{true, false}
+use Rattle.panel.specs.declared.Standing.the-variants.{Waiting, Holding}
+use Rattle.panel.specs.declared.Link.{Link}
+use Rattle.panel.specs.Items.{isInForce}
+
+module _ (l : Link) where
+  -- its number is in use
+  pub force-used : isInForce l ≡ true → l .used ≡ true
+  unfolding isInForce
+  force-used e = e
+
+  pub unused-off : l .used ≡ false → isInForce l ≡ false
+  unfolding isInForce
+  unused-off e = e
+
+  -- a link that waits, and one that holds a field, is in force
+  pub waiting-force : l .used ≡ true → l .standing ≡ Waiting → isInForce l ≡ true
+  unfolding isInForce
+  waiting-force e s = e
+
+  pub holding-force : (f : ℕ) → l .used ≡ true → l .standing ≡ Holding f → isInForce l ≡ true
+  unfolding isInForce
+  holding-force f e s = e
