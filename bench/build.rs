@@ -1,5 +1,6 @@
 //! Links the proved solver's static library, unless the feature `standin` puts
-//! the plain solver in its place.
+//! the plain solver in its place. For the feature `copies` the linker puts the
+//! functions of `src/copies.rs` in place of the C library's.
 
 use std::env;
 use std::path::Path;
@@ -9,6 +10,11 @@ const LIBRARY: &str = "panel_c";
 
 fn main() {
     println!("cargo::rerun-if-changed=build.rs");
+    if env::var_os("CARGO_FEATURE_COPIES").is_some() {
+        for name in ["memcpy", "memmove", "memset"] {
+            println!("cargo::rustc-link-arg-bins=-Wl,--wrap={name}");
+        }
+    }
     if env::var_os("CARGO_FEATURE_STANDIN").is_some() {
         return;
     }

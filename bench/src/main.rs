@@ -1,6 +1,15 @@
 //! Compares the proved solver with the ordinary one: first their replies, byte
 //! by byte on every text, then their times. Prints Markdown tables.
 
+#[cfg(feature = "copies")]
+mod copies;
+#[cfg(not(feature = "copies"))]
+mod copies {
+    /// Counts nothing.
+    pub fn counted(work: impl FnOnce()) {
+        work();
+    }
+}
 mod measure;
 mod options;
 mod plot;
@@ -26,13 +35,16 @@ fn main() {
     }
 }
 
-/// Runs one solver once over the texts of a mix, for a count of instructions.
+/// Runs one solver once over the texts of a mix, for a count of instructions or
+/// of copies.
 fn once(side: &Side, mix: usize) {
     let texts = texts::of_mix(mix);
     let mut out = vec![0; LONGEST_OUTPUT];
-    for text in &texts {
-        (side.run)(text, &mut out);
-    }
+    copies::counted(|| {
+        for text in &texts {
+            (side.run)(text, &mut out);
+        }
+    });
     println!("commands {}", texts::count(&texts));
 }
 
@@ -55,9 +67,6 @@ fn tables(rounds: usize, plot: Option<String>) {
             times: least_times(texts, rounds),
         })
         .collect();
-    if cfg!(feature = "standin") {
-        println!("**Here \"proved\" is the plain solver, which stands in for the proved one.**\n");
-    }
     print!("{}", report::mixes(&mixed, rounds));
     let growth: Vec<_> = (growth.iter())
         .map(|(fields, links, texts)| Growth {

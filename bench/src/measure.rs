@@ -13,12 +13,12 @@ pub struct Times {
 }
 
 impl Times {
-    /// Nanoseconds a command, by solver.
+    /// Nanoseconds per command, by solver.
     pub fn nanoseconds(&self) -> [f64; 3] {
         self.seconds.map(|s| s * 1e9 / self.commands as f64)
     }
 
-    /// The proved solver's time by another one's.
+    /// The proved solver's time divided by another one's.
     pub fn ratio_to(&self, side: usize) -> f64 {
         self.seconds[2] / self.seconds[side]
     }

@@ -1,5 +1,5 @@
 //! An ordinary optimised solver: sets of fields as masks, arrays, the panel changed in place, tables of the setters
-//! and strengths worked out once a command. Between commands it keeps what document 01 names and nothing more.
+//! and strengths worked out once per command. Between commands it keeps what document 01 names and nothing more.
 
 use crate::fields::{below, each, has, lowest, only, without};
 use crate::frame::{read_link, read_size};

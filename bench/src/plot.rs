@@ -1,4 +1,4 @@
-//! The plot of the time a command by links, one part for each number of fields,
+//! The plot of the time per command by links, one part for each number of fields,
 //! as SVG.
 
 use crate::measure::Growth;
@@ -61,7 +61,7 @@ pub fn svg(points: &[Growth]) -> String {
             LEFT,
             20.0,
             "start",
-            "Time a command in ns by links, mix 40/25/25/10"
+            "Time per command in ns by links, mix 40/25/25/10"
         ),
         legend(),
         text(

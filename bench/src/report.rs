@@ -8,10 +8,10 @@ use std::fmt::Write;
 /// A table of the mixes.
 pub fn mixes(mixed: &[Mixed], rounds: usize) -> String {
     let mut table = format!(
-        "Time a command: the least of {rounds} rounds, the solvers in turn; the buffer for the output \
+        "Time per command: the least of {rounds} rounds, the solvers in turn; the buffer for the output \
          is not cleared between rounds. Shares of all commands in percent.\n\n\
          | mix | touch/remove/add/plan as drawn | commands | touch | remove | add | plan \
-         | refused | moved | ordinary, ns | tuned, ns | proved, ns | proved by ordinary | proved by tuned |\n\
+         | refused | moved | ordinary, ns | tuned, ns | proved, ns | proved ÷ ordinary | proved ÷ tuned |\n\
          |---|---|--:|--:|--:|--:|--:|--:|--:|--:|--:|--:|--:|--:|\n"
     );
     for row in mixed {
@@ -37,12 +37,12 @@ pub fn mixes(mixed: &[Mixed], rounds: usize) -> String {
 }
 
 /// A table by fields and links: for each number of fields a row for each solver,
-/// and the proved one's time by the ordinary one's.
+/// and the proved one's time divided by the ordinary one's.
 pub fn growth(points: &[Growth]) -> String {
     let links: String = GROWTH_LINKS.map(|links| format!(" {links} |")).concat();
     let rule = "--:|".repeat(GROWTH_LINKS.len());
     let mut table = format!(
-        "\nTime a command in ns by fields and links, mix 40/25/25/10.\n\n\
+        "\nTime per command in ns by fields and links, mix 40/25/25/10.\n\n\
          | fields | links: |{links}\n|--:|---|{rule}\n"
     );
     for fields in GROWTH_FIELDS {
@@ -54,7 +54,7 @@ pub fn growth(points: &[Growth]) -> String {
         let ratio: String = points()
             .map(|p| format!(" {:.2} |", p.times.ratio_to(0)))
             .collect();
-        writeln!(table, "| {fields} | proved by ordinary |{ratio}").expect("a string");
+        writeln!(table, "| {fields} | proved ÷ ordinary |{ratio}").expect("a string");
     }
     table
 }

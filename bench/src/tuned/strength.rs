@@ -1,4 +1,4 @@
-//! Strengths, each worked out at most once a command.
+//! Strengths, each worked out at most once per command.
 
 use super::panel::{Panel, FIRST_STAY_LEVEL};
 use crate::fields::{each, has, lowest, only, without};
