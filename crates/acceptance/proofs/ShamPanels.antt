@@ -14,7 +14,7 @@ use Rattle.ordering.specs.Order.{next, following, order, hasLoop}
 use Rattle.panel.specs.Items.{setterOf, isInForce}
 use Rattle.panel.specs.Panels.{opened, toFront, moved}
 use Rattle.panel.specs.Solution.{strengthOf, isBlocked, pathFor, reversed, planOf, isLooped, rowsOf}
-use Rattle.panel.specs.Steps.{turned, enterStep, touchStep, planStep}
+use Rattle.panel.specs.Steps.{reverseStep, enterStep, touchStep, planStep}
 use Rattle.panel.specs.Commands.{anyOf, fieldsIn, isRising, areFieldBytes, checked}
 use Rattle.hex.specs.Hex.{isDigit, digitOf, charOf, areDigits, isHex, bytesOf, hexOf, lineOf}
 use Rattle.frames.specs.Texts.{linesOf, replies, written, output, outputOf}
@@ -30,7 +30,7 @@ differ-at place a b h e = eqb-false (at a place) (at b place) h (ap (λ (o : Lis
 pub sham-panels-differ : ShamPanelsDiffer
 unfolding characters shamPanels refusesAll repliesZeros keepsSetters solvesFirstLinkOnly inventsMoved outputOf output written
     replies linesOf lineAnswer commandOf frameOf checkedFrame isFrame fitsKind lineOf hexOf bytesOf isHex areDigits charOf digitOf isDigit checked areFieldBytes
-    isRising fieldsIn anyOf planStep touchStep enterStep turned rowsOf isLooped planOf reversed pathFor isBlocked strengthOf moved toFront opened
+    isRising fieldsIn anyOf planStep touchStep enterStep reverseStep rowsOf isLooped planOf reversed pathFor isBlocked strengthOf moved toFront opened
     setterOf isInForce tabulate hasLoop order following next path strongest lowestAt strength greatest within only without with setOf member lowest any
     count
 sham-panels-differ =

@@ -22,11 +22,11 @@ use Rattle.panel.specs.Items.{link, linkAt, outputsOf, isInForce, inForce, isWa
 use Rattle.panel.specs.Answers.{Answer, refused}
 use Rattle.panel.specs.Panels.{waitingLink, withLink}
 use Rattle.panel.specs.Solution.{level, isBlocked}
-use Rattle.panel.specs.Steps.{turned, enterStep, addStep}
+use Rattle.panel.specs.Steps.{reverseStep, enterStep, addStep}
 use Rattle.panel.specs.Commands.{isOpen, Command, performed, adding, areFieldBytes, isRising, anyOf, isOutput, fieldOf, coveredIn, outputsIn}
 use Rattle.panel.specs.Legal.{Legal, Formed}
 use Rattle.panel.specs.Outcomes.{Decides}
-use Rattle.panel.proofs.Turn.{setter-stay, link-here, link-there}
+use Rattle.panel.proofs.Reversed.{setter-stay, link-here, link-there}
 use Rattle.panel.proofs.Legal.{LegalBut, holding-not-waiting}
 use Rattle.panel.proofs.InForce.{unused-off, waiting-force}
 use Rattle.panel.proofs.Changes.{legal-add}
@@ -36,8 +36,8 @@ use Rattle.tables.specs.Tables.{Setting, Tabled, levelWith}
 use Rattle.tables.proofs.Settings.{placed-setting, tabled-same}
 use Rattle.fieldbytes.specs.Bytes.{FieldsOf}
 use Rattle.fieldbytes.proofs.FieldBytes.{add-check, covered-within}
-use Rattle.reversal.specs.declared.Turn.{Turn}
-use Rattle.reversal.specs.declared.Turn.the-variants.{Free, Looped}
+use Rattle.reversal.specs.declared.Verdict.{Verdict}
+use Rattle.reversal.specs.declared.Verdict.the-variants.{Free, Looped}
 use Rattle.reversal.specs.Reversals.{Unresolved, Resolved, stepOf}
 use Rattle.reversal.proofs.Decision.{unresolved}
 use Rattle.reversal.proofs.Steps.{Change, resolved-free, resolved-loop, resolved-step}
@@ -114,18 +114,18 @@ module _ (p : Panel) (id level₁ covered outputs : ℕ) (a : Enterable p id lev
         )
 
     module _ (cmd : Command) (path : List ℕ) (step : performed p cmd ≡ addStep p id level₁ covered outputs) where
-      abbrev pub Resolves : Turn → Type 0
+      abbrev pub Resolves : Verdict → Type 0
       Resolves = Resolved levels others (p .size) level₁ outputs covered reads path
 
-      turns : isBlocked (withLink p id (waitingLink level₁ covered outputs)) (link id) ≡ true
-          → performed p cmd ≡ turned p (withLink p id (waitingLink level₁ covered outputs)) (link id)
+      reverses : isBlocked (withLink p id (waitingLink level₁ covered outputs)) (link id) ≡ true
+          → performed p cmd ≡ reverseStep p (withLink p id (waitingLink level₁ covered outputs)) (link id)
       unfolding enterStep
-      turns e = step ∙ rw (e, enterStep) refl
+      reverses e = step ∙ rw (e, enterStep) refl
 
       pub add-loop : Resolves Looped → refused p Loop ≡ performed p cmd
       add-loop e =
           sym (resolved-loop p id (p .size) (p .place) _ Waiting new-change cmd path (link id) (new-legal .carrying) (new-legal .loopless) new-force levels others reads
-          (new-tabled t) new-waits level₁ outputs covered new-level new-outputs new-covered e turns)
+          (new-tabled t) new-waits level₁ outputs covered new-level new-outputs new-covered e reverses)
 
       pub add-conflict : level₁ ≡ 0 → Resolves Free → refused p Conflict ≡ performed p cmd
       unfolding enterStep
@@ -134,13 +134,13 @@ module _ (p : Panel) (id level₁ covered outputs : ℕ) (a : Enterable p id lev
           (new-tabled t) new-waits level₁ outputs covered new-level new-outputs new-covered e in
           sym (step ∙ rw (free, eq-eqb level₁ 0 z, enterStep) refl)
 
-      pub add-step : (u : Turn) → u ≢ Looped → (u ≡ Free → level₁ ≢ 0) → Resolves u
+      pub add-step : (u : Verdict) → u ≢ Looped → (u ≡ Free → level₁ ≢ 0) → Resolves u
           → Decides p id cmd path (stepOf u (p .size) (p .place) (waitingLink level₁ covered outputs) Waiting id)
       unfolding enterStep
       add-step u ne weak e =
           resolved-step p id (p .size) (p .place) _ Waiting new-change cmd path (link id) (new-legal .carrying) (new-legal .loopless) new-force levels others reads
           (new-tabled t) new-waits level₁ outputs covered new-level new-outputs new-covered u ne e
-          (λ f b. step ∙ rw (b, ne-eqb level₁ 0 (weak f), enterStep) refl) turns
+          (λ f b. step ∙ rw (b, ne-eqb level₁ 0 (weak f), enterStep) refl) reverses
 
 -- the number of a link
 number-small : (id level₁ c o : ℕ) (r : Bool) → isBadLink id level₁ c o r ≡ false → id < 128

@@ -11,7 +11,7 @@ use panel::Reply;
 use panel::Standing;
 use panel::Step;
 use panel::unchanged;
-use reversal::Turn;
+use reversal::Verdict;
 use reversal::resolve;
 use reversal::step_of;
 ghost use mathlib.Core.Path.{_≡_};
@@ -107,14 +107,14 @@ pub fn add(
     if let Reply::Refused(_) = reply {
         return unchanged(n, &place, old, reply);
     }
-    let turn = resolve(levels, others, reads, n, level, fields.outputs, fields.covered, path);
-    if let Turn::Looped = turn {
+    let verdict = resolve(levels, others, reads, n, level, fields.outputs, fields.covered, path);
+    if let Verdict::Looped = verdict {
         return unchanged(n, &place, old, Reply::Refused(Refusal::Loop));
     }
     if level == 0 {
-        if let Turn::Free = turn {
+        if let Verdict::Free = verdict {
             return unchanged(n, &place, old, Reply::Refused(Refusal::Conflict));
         }
     }
-    step_of(turn, n, &place, waiting_link(level, fields), Standing::Waiting, id)
+    step_of(verdict, n, &place, waiting_link(level, fields), Standing::Waiting, id)
 }

@@ -9,7 +9,7 @@ use Rattle.ordering.specs.Order.{next, following, order, hasLoop}
 use Rattle.panel.specs.Items.{setterOf, isInForce, itemsOf}
 use Rattle.panel.specs.Panels.{opened, dropped, toFront, moved}
 use Rattle.panel.specs.Solution.{strengthOf, isBlocked, pathFor, reversed, least, leastBlocked, planOf, isLooped, rowsOf}
-use Rattle.panel.specs.Steps.{turned, enterStep, removeStep, touchStep, planStep}
+use Rattle.panel.specs.Steps.{reverseStep, enterStep, removeStep, touchStep, planStep}
 use Rattle.panel.specs.Commands.{anyOf, fieldsIn, isRising, areFieldBytes, checked}
 use Rattle.hex.specs.Hex.{isDigit, digitOf, charOf, areDigits, isHex, bytesOf, hexOf, lineOf}
 use Rattle.tally.specs.Tallies.{more, tallied, threeBytes, tallyBytes}
@@ -19,5 +19,5 @@ use Rattle.items.specs.Characters.{characters}
 use Rattle.items.specs.Items.{items}
 
 pub items-hold : map (λ i. panelOutput (characters (i .text))) items ≡ map (λ i. characters (i .output)) items
-unfolding characters items outputOf output written tallyAfter replies refusalOf linesOf lineAnswer commandOf frameOf checkedFrame isFrame fitsKind tallyBytes threeBytes tallied more lineOf hexOf bytesOf isHex areDigits charOf digitOf isDigit checked areFieldBytes isRising fieldsIn anyOf planStep touchStep removeStep enterStep turned rowsOf isLooped planOf leastBlocked least reversed pathFor isBlocked strengthOf moved toFront dropped opened itemsOf isInForce setterOf tabulate hasLoop order following next path strongest lowestAt strength greatest within only without with setOf member lowest any count
+unfolding characters items outputOf output written tallyAfter replies refusalOf linesOf lineAnswer commandOf frameOf checkedFrame isFrame fitsKind tallyBytes threeBytes tallied more lineOf hexOf bytesOf isHex areDigits charOf digitOf isDigit checked areFieldBytes isRising fieldsIn anyOf planStep touchStep removeStep enterStep reverseStep rowsOf isLooped planOf leastBlocked least reversed pathFor isBlocked strengthOf moved toFront dropped opened itemsOf isInForce setterOf tabulate hasLoop order following next path strongest lowestAt strength greatest within only without with setOf member lowest any count
 items-hold = refl

@@ -20,7 +20,7 @@ use Rattle.panel.specs.Items.{Item, link, noLink, linkAt, isInForce, inForce}
 use Rattle.panel.specs.Panels.{opened, withLink, toFront, placeAfter}
 use Rattle.panel.specs.Commands.{opening, touching}
 use Rattle.panel.proofs.InForce.{unused-off}
-use Rattle.panel.proofs.Turn.{AllAlike, link-here, link-there}
+use Rattle.panel.proofs.Reversed.{AllAlike, link-here, link-there}
 use Rattle.optimality.specs.Condition3.{Entry, strike, Store, entry, entered}
 use Rattle.optimality.specs.Agreement.{entryFor, entryOf, Agrees}
 

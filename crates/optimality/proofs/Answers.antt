@@ -21,7 +21,7 @@ use Rattle.panel.specs.Items.{Item, link, stay, linkAt}
 use Rattle.panel.specs.Answers.{Answer, isRefusal, refused, refusalBytes}
 use Rattle.panel.specs.Panels.{dropped}
 use Rattle.panel.specs.Solution.{isBlocked, isLooped, pathFor, reversed, leastBlocked}
-use Rattle.panel.specs.Steps.{accepted, turned, openStep, enterStep, addStep, settled, dropStep, removeStep, touchStep, planStep}
+use Rattle.panel.specs.Steps.{accepted, reverseStep, openStep, enterStep, addStep, settled, dropStep, removeStep, touchStep, planStep}
 use Rattle.panel.specs.Commands.{Command, opening, adding, removing, touching, planning, performed, Check, checked, openChecks, addChecks, removeChecks, touchChecks, planChecks, coveredIn, outputsIn}
 use Rattle.panel.proofs.Answers.{refusals-apart}
 use Rattle.panel.proofs.Checks.{NoneApply, newLink}
@@ -58,9 +58,9 @@ abbrev pub pick : Bool → Answer → Answer → Answer
 pick t x y = elim t [ true ↦ x | false ↦ y ]
 
 module _ (R : Refusal → Type 0) (p : Panel) where
-  pub turned-outcome : (q : Panel) (c : Item) → R Loop → Outcome R p (turned p q c)
-  unfolding turned
-  turned-outcome q c l = go (isLooped (reversed q c (pathFor q c)))
+  pub reverse-outcome : (q : Panel) (c : Item) → R Loop → Outcome R p (reverseStep p q c)
+  unfolding reverseStep
+  reverse-outcome q c l = go (isLooped (reversed q c (pathFor q c)))
     where
       go : (t : Bool) → Outcome R p (pick t (refused p Loop) (accepted p (reversed q c (pathFor q c))))
       go true = no Loop l
@@ -70,14 +70,14 @@ module _ (R : Refusal → Type 0) (p : Panel) where
   unfolding enterStep
   enter-outcome q id x l k = go _ (isBlocked _ (link id)) (eqb (x .level) 0) refl
     where
-      go : (r : Panel) (t z : Bool) → eqb (x .level) 0 ≡ z → Outcome R p (pick t (turned p r (link id)) (pick z (refused p Conflict) (accepted p r)))
-      go r true z e = turned-outcome r (link id) l
+      go : (r : Panel) (t z : Bool) → eqb (x .level) 0 ≡ z → Outcome R p (pick t (reverseStep p r (link id)) (pick z (refused p Conflict) (accepted p r)))
+      go r true z e = reverse-outcome r (link id) l
       go r false true e = no Conflict (k (eqb-true (x .level) 0 e))
       go r false false e = yes _ _
 
   settled-outcome : (q : Panel) (o : Option Item) → R Loop → Outcome R p (settled p q o)
   settled-outcome q none l = yes _ _
-  settled-outcome q (some c) l = turned-outcome q c l
+  settled-outcome q (some c) l = reverse-outcome q c l
 
   drop-outcome : (q : Panel) (s : Standing) → R Loop → Outcome R p (dropStep p q s)
   drop-outcome q Waiting l = yes _ _
@@ -87,8 +87,8 @@ module _ (R : Refusal → Type 0) (p : Panel) where
   unfolding touchStep
   touch-outcome f l = go _ (isBlocked _ (stay f))
     where
-      go : (q : Panel) (t : Bool) → Outcome R p (pick t (turned p q (stay f)) (accepted p q))
-      go q true = turned-outcome q (stay f) l
+      go : (q : Panel) (t : Bool) → Outcome R p (pick t (reverseStep p q (stay f)) (accepted p q))
+      go q true = reverse-outcome q (stay f) l
       go q false = yes _ _
 
   -- the refusals of the checks are 3 to 9
@@ -156,5 +156,5 @@ pub remove-never-conflict : RemoveNeverConflict
 remove-never-conflict p id = no-conflict p (performed p (removing id)) (removing-outcome (Not 10) p (λ r h. omega arith) (omega arith) id)
 
 -- a reversal never gives Conflict
-pub turned-no-conflict : (p q : Panel) (c : Item) → turned p q c .reply ≢ refused p Conflict .reply
-turned-no-conflict p q c = no-conflict p (turned p q c) (turned-outcome (Not 10) p q c (omega arith))
+pub reverse-no-conflict : (p q : Panel) (c : Item) → reverseStep p q c .reply ≢ refused p Conflict .reply
+reverse-no-conflict p q c = no-conflict p (reverseStep p q c) (reverse-outcome (Not 10) p q c (omega arith))

@@ -17,9 +17,9 @@ use Rattle.panel.specs.Items.{link, stay, linkAt, isInForce}
 use Rattle.panel.specs.Answers.{refused}
 use Rattle.panel.specs.Panels.{withLink}
 use Rattle.panel.specs.Solution.{strengthOf, isBlocked, pathFor, planOf}
-use Rattle.panel.specs.Steps.{accepted, turned, enterStep, addStep}
+use Rattle.panel.specs.Steps.{accepted, reverseStep, enterStep, addStep}
 use Rattle.panel.specs.Commands.{addChecks, coveredIn, outputsIn}
-use Rattle.panel.proofs.Turn.{turn}
+use Rattle.panel.proofs.Reversed.{reversedSetters}
 use Rattle.panel.proofs.Legal.{LegalBut}
 use Rattle.panel.proofs.Changes.{Enters, add-enters}
 use Rattle.panel.proofs.Checks.{addable}
@@ -34,7 +34,7 @@ use Rattle.optimality.proofs.Graphs.{graphOf, settersOf, assigned, none
 use Rattle.optimality.proofs.Held.{plan-whole}
 use Rattle.optimality.proofs.Optimum.{matching-matches, matches-matching}
 use Rattle.optimality.proofs.Paths.{path-reversible, after-assigned}
-use Rattle.optimality.proofs.Answers.{pick, checked-step, turned-no-conflict}
+use Rattle.optimality.proofs.Answers.{pick, checked-step, reverse-no-conflict}
 use Rattle.optimality.proofs.Steps.{enter-here, enter-idle, enter-legal, enter-force, enter-agrees, enter-none}
 use Rattle.optimality.proofs.Runs.{after-sound}
 use Rattle.optimality.proofs.States.{required-force}
@@ -85,15 +85,15 @@ module _ {b : Store} {q : Panel} (x : Sound b q) {id : ℕ} {l : Link} (a : Ente
       }
     where
       xs : List Pair
-      xs = pairs (turn (settersOf r) (link id) (pathFor r (link id))) (planOf r)
+      xs = pairs (reversedSetters (settersOf r) (link id) (pathFor r (link id))) (planOf r)
 
   enter-conflict : (p : Panel) → (enterStep p q id l .reply ≡ refused p Conflict .reply) ↔ (Possible b′ → ⊥)
   unfolding enterStep
   enter-conflict p = go (isBlocked r (link id)) refl (eqb (l .level) 0) (eq-eqb (l .level) 0 needed)
     where
       go : (t : Bool) → isBlocked r (link id) ≡ t → (z : Bool) → z ≡ true
-          → (pick t (turned p r (link id)) (pick z (refused p Conflict) (accepted p r)) .reply ≡ refused p Conflict .reply) ↔ (Possible b′ → ⊥)
-      go true e z d = (λ h. absurd (turned-no-conflict p r (link id) h), λ no-choice. absurd (no-choice (possible e)))
+          → (pick t (reverseStep p r (link id)) (pick z (refused p Conflict) (accepted p r)) .reply ≡ refused p Conflict .reply) ↔ (Possible b′ → ⊥)
+      go true e z d = (λ h. absurd (reverse-no-conflict p r (link id) h), λ no-choice. absurd (no-choice (possible e)))
       go false e true d = (λ h. impossible e, λ no-choice. refl)
       go false e false d = absurd (clash d refl)
 

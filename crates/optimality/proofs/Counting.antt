@@ -12,7 +12,7 @@ use lib.ListN.{length, length-map}
 use Rattle.fieldset.specs.Lists.{In, passing}
 use Rattle.fieldset.proofs.Lists.{all-in, in-all, map-all, in-passing, passing-in, passing-map, passing-distinct, distinct-map, pigeonhole, find}
 use Rattle.panel.specs.Items.{Item}
-use Rattle.panel.proofs.Turn.{same-item}
+use Rattle.panel.proofs.Reversed.{same-item}
 use Rattle.optimality.specs.Condition3.{Pair, countUpTo}
 use Rattle.optimality.proofs.Setters.{Graph, Unblocked}
 use Rattle.optimality.proofs.Matchings.{Fits, Matches}

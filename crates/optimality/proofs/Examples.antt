@@ -11,7 +11,7 @@ use Rattle.ordering.specs.Order.{next, following, order, hasLoop}
 use Rattle.panel.specs.Items.{Item, link, stay, setterOf, isInForce}
 use Rattle.panel.specs.Panels.{opened, toFront, moved}
 use Rattle.panel.specs.Solution.{strengthOf, isBlocked, pathFor, reversed, planOf, isLooped, rowsOf}
-use Rattle.panel.specs.Steps.{turned, enterStep, touchStep, planStep}
+use Rattle.panel.specs.Steps.{reverseStep, enterStep, touchStep, planStep}
 use Rattle.panel.specs.Commands.{Command, opening, adding, touching, planning, anyOf, fieldsIn, isRising, areFieldBytes, checked}
 use Rattle.optimality.specs.Condition3.{strike, levelIn, Pair, countUpTo, rows, held, Run, stepped, after, panels, start}
 
@@ -37,6 +37,6 @@ example : (holds ≡ pair (stay 1) 1 ∷ pair (link 0) 0 ∷ pair (stay 2) 2 ∷
     × (run .store .stays ≡ 1 ∷ 0 ∷ 2 ∷ [])
     × (map held-up-to (0 ∷ 15 ∷ 16 ∷ 17 ∷ 18 ∷ []) ≡ 1 ∷ 1 ∷ 2 ∷ 2 ∷ 3 ∷ [])
 unfolding count any lowest tabulate member setOf with without only within greatest strength lowestAt strongest path next following order
-    hasLoop setterOf isInForce opened toFront moved strengthOf isBlocked pathFor reversed planOf isLooped rowsOf turned enterStep touchStep planStep anyOf
+    hasLoop setterOf isInForce opened toFront moved strengthOf isBlocked pathFor reversed planOf isLooped rowsOf reverseStep enterStep touchStep planStep anyOf
     fieldsIn isRising areFieldBytes checked passing place strike countUpTo rows held stepped after
 example = (refl, refl, refl)

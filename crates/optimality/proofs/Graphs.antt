@@ -20,7 +20,7 @@ use Rattle.panel.specs.declared.Panel.{Panel}
 use Rattle.panel.specs.Items.{Item, link, stay, linkAt, setterOf, outputsOf, isInForce, inForce, waits}
 use Rattle.panel.specs.Solution.{level, setterLevel, setterOthers, setterReads, strengthOf, isBlocked}
 use Rattle.panel.specs.Legal.{Legal}
-use Rattle.panel.proofs.Turn.{same-item, setter-stay}
+use Rattle.panel.proofs.Reversed.{same-item, setter-stay}
 use Rattle.panel.proofs.Legal.{Rests, Carrying, LegalBut, force-small}
 use Rattle.panel.proofs.Setters.{whole, outputs-inside, setter-force, setter-output, setter-single, others-out, others-inside, setter-ranked, setter-falls, waits-idle, waits-or-sets, waits-force, rests-waiting}
 use Rattle.optimality.proofs.Setters.{Graph, Waits, Assigned, Potential, Free, Unblocked}

@@ -18,7 +18,7 @@ use Rattle.panel.specs.Solution.{setterReads, planOf, isLooped, rowsOf}
 use Rattle.panel.specs.Steps.{planStep}
 use Rattle.panel.specs.Commands.{planning, performed, checked}
 use Rattle.panel.specs.Legal.{Legal}
-use Rattle.panel.proofs.Turn.{setter-link, setter-stay}
+use Rattle.panel.proofs.Reversed.{setter-link, setter-stay}
 use Rattle.optimality.specs.Condition3.{rows, held}
 use Rattle.optimality.proofs.Matchings.{pairs}
 use Rattle.optimality.proofs.Graphs.{settersOf}

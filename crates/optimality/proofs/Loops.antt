@@ -18,13 +18,13 @@ use Rattle.panel.specs.Items.{Item, link, stay, linkAt, itemsOf}
 use Rattle.panel.specs.Answers.{Answer, refused}
 use Rattle.panel.specs.Panels.{withLink, dropped, toFront}
 use Rattle.panel.specs.Solution.{level, setterReads, isBlocked, isLooped, pathFor, reversed, leastBlocked}
-use Rattle.panel.specs.Steps.{accepted, turned, openStep, enterStep, addStep, settled, dropStep, removeStep, touchStep, planStep}
+use Rattle.panel.specs.Steps.{accepted, reverseStep, openStep, enterStep, addStep, settled, dropStep, removeStep, touchStep, planStep}
 use Rattle.panel.specs.Commands.{Command, opening, adding, removing, touching, planning, performed, coveredIn, outputsIn}
 use Rattle.panel.specs.Legal.{Legal}
-use Rattle.panel.proofs.Turn.{left}
+use Rattle.panel.proofs.Reversed.{left}
 use Rattle.panel.proofs.Legal.{Carrying, LegalBut}
 use Rattle.panel.proofs.Setters.{setter-reads-inside}
-use Rattle.panel.proofs.Reversal.{blocking, route-for, turned-carrying, legal-waits}
+use Rattle.panel.proofs.Reversal.{blocking, route-for, route-carrying, legal-waits}
 use Rattle.panel.proofs.Changes.{add-enters, legal-add, legal-dropped, legal-front}
 use Rattle.panel.proofs.Checks.{NoneApply, newLink, addable, removable, touchable}
 use Rattle.optimality.specs.Condition3.{AfterEveryList, panels, start}
@@ -46,15 +46,15 @@ still p a o = (λ e. absurd (not-given (Not 11) p a o Loop (λ h. h refl) e), λ
     never l = let e : none ≡ some (l .made) = l .is-made in let z : _≡_ {A = ℕ} 0 1 = cc in absurd (omega arith)
 
 -- a reversal
-turned-exactly : (p q : Panel) (c : Item) → LegalBut c q → isBlocked q c ≡ true → Exactly p (turned p q c) (some (record { before = q; item = c }))
-unfolding turned reversedPanel isLooped
-turned-exactly p q c k b = go (isLooped r) refl
+reverse-exactly : (p q : Panel) (c : Item) → LegalBut c q → isBlocked q c ≡ true → Exactly p (reverseStep p q c) (some (record { before = q; item = c }))
+unfolding reverseStep reversedPanel isLooped
+reverse-exactly p q c k b = go (isLooped r) refl
   where
     r : Panel
     r = reversed q c (pathFor q c)
 
     carries : Carrying (left (settersOf q) c (pathFor q c)) r
-    carries = turned-carrying q c (pathFor q c) (k .carrying) (route-for q c (k .carrying) (k .loopless) (blocking q c b))
+    carries = route-carrying q c (pathFor q c) (k .carrying) (route-for q c (k .carrying) (k .loopless) (blocking q c b))
 
     -- the reversal made is this one
     this : Loops (some (record { before = q; item = c })) → ClosedWalk (setterReads r) (r .size)
@@ -85,8 +85,8 @@ module _ (p : Panel) (h : Legal p) where
       r = withLink q id l
 
       go : (t : Bool) → isBlocked r (link id) ≡ t → (z : Bool)
-          → Exactly p (pick t (turned p r (link id)) (pick z (refused p Conflict) (accepted p r))) (reversing t r (link id))
-      go true e z = turned-exactly p r (link id) k e
+          → Exactly p (pick t (reverseStep p r (link id)) (pick z (refused p Conflict) (accepted p r))) (reversing t r (link id))
+      go true e z = reverse-exactly p r (link id) k e
       go false e true = still p (refused p Conflict) (no Conflict (omega arith))
       go false e false = still p (accepted p r) (yes _ _)
 
@@ -97,14 +97,14 @@ module _ (p : Panel) (h : Legal p) where
       q : Panel
       q = toFront p f
 
-      go : (t : Bool) → isBlocked q (stay f) ≡ t → Exactly p (pick t (turned p q (stay f)) (accepted p q)) (reversing t q (stay f))
-      go true e = turned-exactly p q (stay f) (legal-waits q (stay f) (legal-front p f h l) (blocking q (stay f) e .waits-now)) e
+      go : (t : Bool) → isBlocked q (stay f) ≡ t → Exactly p (pick t (reverseStep p q (stay f)) (accepted p q)) (reversing t q (stay f))
+      go true e = reverse-exactly p q (stay f) (legal-waits q (stay f) (legal-front p f h l) (blocking q (stay f) e .waits-now)) e
       go false e = still p (accepted p q) (yes _ _)
 
   settled-exactly : (q : Panel) → Legal q → (o : Option Item) → Least (isBlocked q) (level q) (itemsOf (q .size)) o
       → Exactly p (settled p q o) (settling q o)
   settled-exactly q k none a = still p (accepted p q) (yes _ _)
-  settled-exactly q k (some c) a = turned-exactly p q c (legal-waits q c k (blocking q c (a .0) .waits-now)) (a .0)
+  settled-exactly q k (some c) a = reverse-exactly p q c (legal-waits q c k (blocking q c (a .0) .waits-now)) (a .0)
 
   drop-exactly : (q : Panel) → Legal q → (s : Standing) → Exactly p (dropStep p q s) (dropping q s)
   drop-exactly q k Waiting = still p (accepted p q) (yes _ _)

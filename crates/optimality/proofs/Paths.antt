@@ -12,10 +12,10 @@ use Rattle.panel.specs.declared.Panel.{Panel}
 use Rattle.panel.specs.Items.{Item, inForce, outputsOf, levelOf}
 use Rattle.panel.specs.Solution.{level, setterLevel, setterOthers, strengthOf, isBlocked, pathFor, reversed}
 use Rattle.panel.specs.Legal.{Legal}
-use Rattle.panel.proofs.Turn.{turn, reversed-size, reversed-place, reversed-level, reversed-outputs}
+use Rattle.panel.proofs.Reversed.{reversedSetters, reversed-size, reversed-place, reversed-level, reversed-outputs}
 use Rattle.panel.proofs.Legal.{LegalBut}
 use Rattle.panel.proofs.Setters.{others-out}
-use Rattle.panel.proofs.Reversal.{blocking, startOf, Start, start-of, path-for, Route, route-for, turned-carrying, turned-force, turned-setters}
+use Rattle.panel.proofs.Reversal.{blocking, startOf, Start, start-of, path-for, Route, route-for, route-carrying, reverse-force, route-setters}
 use Rattle.optimality.proofs.Setters.{Graph, Assigned, Unblocked, Chain, Reversible}
 use Rattle.optimality.proofs.Graphs.{graphOf, settersOf, legal-whole, assigned, strength-potential, unblocked-none}
 
@@ -70,7 +70,7 @@ module _ {p : Panel} {c : Item} (h : LegalBut c p) (b : isBlocked p c ≡ true) 
 
   pub after-force : (d : Item) → inForce (after .size) (after .links) d ≡ inForce (p .size) (p .links) d
   after-force d =
-      ap (λ (n : ℕ). inForce n (after .links) d) (reversed-size p c (pathFor p c)) ∙ turned-force p c (pathFor p c) (h .carrying) route (p .size) d
+      ap (λ (n : ℕ). inForce n (after .links) d) (reversed-size p c (pathFor p c)) ∙ reverse-force p c (pathFor p c) (h .carrying) route (p .size) d
 
   pub after-graph : graphOf after ≡ graphOf p
   after-graph = λ i. record {
@@ -87,12 +87,12 @@ module _ {p : Panel} {c : Item} (h : LegalBut c p) (b : isBlocked p c ≡ true) 
       outs : (d : Item) → _≡_ {A = ℕ → Bool} (λ u. member (outputsOf (after .links) d) u) (λ u. member (outputsOf (p .links) d) u)
       outs d = fun-ext (λ u. ap (λ (m : ℕ). member m u) (reversed-outputs p c (pathFor p c) d))
 
-  pub after-setters : settersOf after ≡ turn (settersOf p) c (pathFor p c)
-  after-setters = turned-setters p c (pathFor p c) (h .carrying) route
+  pub after-setters : settersOf after ≡ reversedSetters (settersOf p) c (pathFor p c)
+  after-setters = route-setters p c (pathFor p c) (h .carrying) route
 
-  pub after-assigned : Assigned G (turn (settersOf p) c (pathFor p c))
-  after-assigned = rw (after-graph, after-setters) at (assigned (turned-carrying p c (pathFor p c) (h .carrying) route))
+  pub after-assigned : Assigned G (reversedSetters (settersOf p) c (pathFor p c))
+  after-assigned = rw (after-graph, after-setters) at (assigned (route-carrying p c (pathFor p c) (h .carrying) route))
 
   -- nothing is blocked in it where the reversed setters have a potential that blocks nothing
-  pub after-none : (s : ℕ → ℕ) → Unblocked G (turn (settersOf p) c (pathFor p c)) s → Legal after → (d : Item) → isBlocked after d ≡ false
+  pub after-none : (s : ℕ → ℕ) → Unblocked G (reversedSetters (settersOf p) c (pathFor p c)) s → Legal after → (d : Item) → isBlocked after d ≡ false
   after-none s un l = unblocked-none (legal-whole after l) s (rw (after-graph, after-setters) un)

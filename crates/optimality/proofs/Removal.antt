@@ -9,7 +9,7 @@ use native.Mathlib.Decide.{ℕ-discrete}
 use native.Mathlib.Omega.{arith}
 use Rattle.fieldset.specs.Lists.{Distinct}
 use Rattle.panel.specs.Items.{Item}
-use Rattle.panel.proofs.Turn.{put, put-here, put-there, turn}
+use Rattle.panel.proofs.Reversed.{put, put-here, put-there, reversedSetters}
 use Rattle.optimality.proofs.Setters.{Graph, Waits, Under, Potential, Free, Unblocked, under-trans, Chain, Reversible}
 use Rattle.optimality.proofs.Reversal.{chain-put, reversal-potential, reversal-waits}
 
@@ -25,8 +25,8 @@ PotentialBut G st t v = (f : ℕ) → f < G .n → f ≢ v → Under G t (t f) (
 -- t, at least l, is a potential but at v: a path at the level K over l, for an item that t has under l, ends at v, and t is a potential after it
 module _ (G : Graph) (s t : ℕ → ℕ) (l K v : ℕ) (c1 : Item) (lK : l < K) (lt : (f : ℕ) → l ≤ t f) (top : K ≤ G .lev c1) where
   fill : (vs : List ℕ) (st : ℕ → Item) (c : Item) → Distinct vs → Chain G s K st c vs → st v ≡ c1 → PotentialBut G st t v → Under G t l c
-      → Potential G (turn st c vs) t
-  unfolding turn Chain
+      → Potential G (reversedSetters st c vs) t
+  unfolding reversedSetters Chain
   fill [] st c d ch e po un = absurd (omega (arith, un .level))
   fill (x ∷ vs) st c d ch e po un = go (ℕ-discrete x v) vs (chain-put G s K st x c (st x) vs (d .0) (ch .1)) (d .1) (fill vs (put st x c) (st x))
     where
@@ -37,8 +37,8 @@ module _ (G : Graph) (s t : ℕ → ℕ) (l K v : ℕ) (c1 : Item) (lK : l < K) 
 
       go : Dec (x ≡ v) → (vs : List ℕ) → Chain G s K (put st x c) (st x) vs → Distinct vs
           → (Distinct vs → Chain G s K (put st x c) (st x) vs → put st x c v ≡ c1 → PotentialBut G (put st x c) t v → Under G t l (st x)
-          → Potential G (turn (put st x c) (st x) vs) t)
-          → Potential G (turn (put st x c) (st x) vs) t
+          → Potential G (reversedSetters (put st x c) (st x) vs) t)
+          → Potential G (reversedSetters (put st x c) (st x) vs) t
       go (yes q) [] w d ih = λ f lf. at f lf (inr q) (ℕ-discrete f x)
       go (yes q) (y ∷ ys) w d ih = absurd (omega (arith, w .0 .weaker, ap (G .lev) (ap st q ∙ e)))
       go (no q) vs w d ih =
@@ -79,7 +79,7 @@ module _ (G : Graph) (F : Item → Bool) (st : ℕ → Item) (s0 : ℕ → ℕ) 
     top : s1 u ≤ G .lev c1
     top = omega (arith, r .over, least-po u u-below, un .free d (struck-waits d d-waits) u u-below u-out)
 
-    high-side : Potential without (turn (put st v c1) d vs) t
+    high-side : Potential without (reversedSetters (put st v c1) d vs) t
     high-side =
         fill without s1 t (G .lev d) (s1 u) v c1 (r .over) (λ f. omega arith) top vs (put st v c1) d (r .distinct) (r .chain) (put-here st v c1)
         (λ f lf nf. rw (put-there st v c1 f nf) (over-under f lf))
@@ -90,10 +90,10 @@ module _ (G : Graph) (F : Item → Bool) (st : ℕ → Item) (s0 : ℕ → ℕ) 
             let un-f = un .potential f lf in
             record { level = omega (arith, un-f .level); outs = λ w lw ow. omega (arith, un-f .outs w lw ow) }
 
-    pub removal-unblocked : Unblocked without (turn (put st v c1) d vs) (λ f. min (s1 f) (t f))
+    pub removal-unblocked : Unblocked without (reversedSetters (put st v c1) d vs) (λ f. min (s1 f) (t f))
     removal-unblocked =
         record {
-          potential = min-potential without (turn (put st v c1) d vs) s1 t (reversal-potential r) high-side;
+          potential = min-potential without (reversedSetters (put st v c1) d vs) s1 t (reversal-potential r) high-side;
           free = λ w h. go w (reversal-waits r w h);
         }
       where

@@ -23,7 +23,7 @@ use Rattle.panel.specs.Solution.{level, strengthOf, isBlocked, pathFor, leastBl
 use Rattle.panel.specs.Steps.{settled, dropStep, removeStep}
 use Rattle.panel.specs.Legal.{Legal}
 use Rattle.panel.proofs.InForce.{unused-off, waiting-force}
-use Rattle.panel.proofs.Turn.{put, same-item, link-here, set-setter, number-setter}
+use Rattle.panel.proofs.Reversed.{put, same-item, link-here, set-setter, number-setter}
 use Rattle.panel.proofs.Legal.{LegalBut}
 use Rattle.panel.proofs.Setters.{waits-idle}
 use Rattle.panel.proofs.Reversal.{blocking, startOf, legal-waits}
@@ -37,7 +37,7 @@ use Rattle.optimality.proofs.Graphs.{graphOf, settersOf, legal-whole, s
 use Rattle.optimality.proofs.Paths.{path-start, path-reversible}
 use Rattle.optimality.proofs.Agreement.{agrees-link}
 use Rattle.optimality.proofs.Least.{Least, least-blocked, item-listed}
-use Rattle.optimality.proofs.Steps.{SoundAfter, turned-sound, there, link-none}
+use Rattle.optimality.proofs.Steps.{SoundAfter, reverse-sound, there, link-none}
 
 -- a link is replaced by one that is not in force, of no higher level and no other outputs
 module _ (b : Store) (p : Panel) (x : Sound b p) (id : ℕ) (lt : id < 128) (used : linkAt (p .links) id .used ≡ true)
@@ -145,7 +145,7 @@ module _ (b : Store) (p : Panel) (x : Sound b p) (id : ℕ) (lt : id < 128) (use
 
       some-sound : SoundAfter b b′ (settled p q (some d))
       some-sound =
-          turned-sound b b′ p q d x kd blocked q-agrees (λ f. min (strengthOf q f) (max (level q d) (strengthOf p f)))
+          reverse-sound b b′ p q d x kd blocked q-agrees (λ f. min (strengthOf q f) (max (level q d) (strengthOf p f)))
           (rw now
           (removal-unblocked before (inForce (p .size) (q .links)) (settersOf p) (strengthOf p) un v (stay v) stay-only kept
           (strengthOf q)

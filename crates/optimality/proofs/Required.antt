@@ -9,7 +9,7 @@ use native.Mathlib.Omega.{arith}
 use Rattle.fieldset.specs.Lists.{In, Distinct}
 use Rattle.fieldset.proofs.Lists.{all-in, all-map, in-map, map-all, distinct-map, find, Whole, whole-in}
 use Rattle.panel.specs.Items.{Item}
-use Rattle.panel.proofs.Turn.{same-item, turn}
+use Rattle.panel.proofs.Reversed.{same-item, reversedSetters}
 use Rattle.optimality.specs.Condition3.{Pair, items, countUpTo}
 use Rattle.optimality.proofs.Setters.{Graph, Waits, Assigned, Under, Unblocked, Reversible}
 use Rattle.optimality.proofs.Matchings.{Fits, Matches, holds-more, pairOf, pairs, pairs-items, pairs-fields, pairs-count, item-pairs}
@@ -69,8 +69,8 @@ module _ (G : Graph) (st : ℕ → Item) (fs : List ℕ) (w : Whole (G .n) fs) w
 
 -- c waits, all other items of level 0 are held, and c goes in along a path: all are held
 module _ {G : Graph} {st : ℕ → Item} {s : ℕ → ℕ} {K : ℕ} {c : Item} {vs : List ℕ} (r : Reversible G st s K c vs) (fs : List ℕ) (w : Whole (G .n) fs) where
-  pub reversal-holds : ((d : Item) → Waits G st d → d ≢ c → G .lev d ≢ 0) → HoldsAll G (pairs (turn st c vs) fs)
-  reversal-holds held d fd ld = pairs-hold G (turn st c vs) fs w d fd (λ h. go (reversal-waits r d h))
+  pub reversal-holds : ((d : Item) → Waits G st d → d ≢ c → G .lev d ≢ 0) → HoldsAll G (pairs (reversedSetters st c vs) fs)
+  reversal-holds held d fd ld = pairs-hold G (reversedSetters st c vs) fs w d fd (λ h. go (reversal-waits r d h))
     where
       go : ((G .lev d ≡ K) × Under G s K d) ⊎ (Waits G st d × (d ≢ c)) → ⊥
       go (inl (e, un)) = omega (arith, r .over)

@@ -6,7 +6,7 @@ use mathlib.Core.Logic.{_≢_, _⊎_, inl, inr}
 use native.Mathlib.Decide.{ℕ-discrete}
 use Rattle.fieldset.specs.Lists.{Distinct}
 use Rattle.panel.specs.Items.{Item}
-use Rattle.panel.proofs.Turn.{same-item, put, put-here, put-there, turn, left, Off}
+use Rattle.panel.proofs.Reversed.{same-item, put, put-here, put-there, reversedSetters, left, Off}
 use Rattle.optimality.proofs.Setters.{Graph, Waits, Under, Potential, Free, Unblocked, Chain, Reversible}
 
 -- ---- one field set anew
@@ -37,37 +37,37 @@ module _ (G : Graph) (s : ℕ → ℕ) (K : ℕ) where
   chain-put st v d c (x ∷ xs) a ch = (ch .0, rw (put-there st v d x (λ e. a .0 (sym e))) (chain-put st v d (st x) xs (a .1) (ch .1)))
 
   -- a potential stays one, and what is left over has level K, and outputs that are at most K
-  turn-potential : (vs : List ℕ) (st : ℕ → Item) (c : Item) → Distinct vs → Chain G s K st c vs → Potential G st s → Under G s K c
-      → Potential G (turn st c vs) s × Under G s K (left st c vs) × (G .lev (left st c vs) ≡ K)
-  unfolding turn left Chain
-  turn-potential [] st c d ch po un = (po, un, ch)
-  turn-potential (v ∷ vs) st c d ch po un =
-      turn-potential vs (put st v c) (st v) (d .1) (chain-put st v c (st v) vs (d .0) (ch .1))
+  setters-potential : (vs : List ℕ) (st : ℕ → Item) (c : Item) → Distinct vs → Chain G s K st c vs → Potential G st s → Under G s K c
+      → Potential G (reversedSetters st c vs) s × Under G s K (left st c vs) × (G .lev (left st c vs) ≡ K)
+  unfolding reversedSetters left Chain
+  setters-potential [] st c d ch po un = (po, un, ch)
+  setters-potential (v ∷ vs) st c d ch po un =
+      setters-potential vs (put st v c) (st v) (d .1) (chain-put st v c (st v) vs (d .0) (ch .1))
       (put-potential G st v c s po (rw (ch .0 .at-top) un)) (rw (← ch .0 .at-top) (po v (ch .0 .below)))
 
   -- anything else that waits afterwards waited before and is not c
-  turn-waits : (vs : List ℕ) (st : ℕ → Item) (c : Item) → Distinct vs → Chain G s K st c vs → (w : Item) → Waits G (turn st c vs) w
+  setters-waits : (vs : List ℕ) (st : ℕ → Item) (c : Item) → Distinct vs → Chain G s K st c vs → (w : Item) → Waits G (reversedSetters st c vs) w
       → w ≢ left st c vs → Waits G st w × (w ≢ c)
-  unfolding turn left Chain
-  turn-waits [] st c d ch w h ne = (h, ne)
-  turn-waits (v ∷ vs) st c d ch w h ne =
-      let (a, b) = turn-waits vs (put st v c) (st v) (d .1) (chain-put st v c (st v) vs (d .0) (ch .1)) w h ne in
+  unfolding reversedSetters left Chain
+  setters-waits [] st c d ch w h ne = (h, ne)
+  setters-waits (v ∷ vs) st c d ch w h ne =
+      let (a, b) = setters-waits vs (put st v c) (st v) (d .1) (chain-put st v c (st v) vs (d .0) (ch .1)) w h ne in
       put-waits G st v c w (ch .0 .below) a b
 
 module _ {G : Graph} {st : ℕ → Item} {s : ℕ → ℕ} {K : ℕ} {c : Item} {vs : List ℕ} (r : Reversible G st s K c vs) where
   -- what waits afterwards: the setter of the last field, which has level K and outputs that are at most K, or what waited before and is not c
-  pub reversal-waits : (w : Item) → Waits G (turn st c vs) w → ((G .lev w ≡ K) × Under G s K w) ⊎ (Waits G st w × (w ≢ c))
+  pub reversal-waits : (w : Item) → Waits G (reversedSetters st c vs) w → ((G .lev w ≡ K) × Under G s K w) ⊎ (Waits G st w × (w ≢ c))
   reversal-waits w h = go (same-item w (left st c vs))
     where
       go : Dec (w ≡ left st c vs) → ((G .lev w ≡ K) × Under G s K w) ⊎ (Waits G st w × (w ≢ c))
-      go (yes e) = let (p, a, b) = turn-potential G s K vs st c (r .distinct) (r .chain) (r .potential) (r .under) in inl (rw e (b, a))
-      go (no e) = inr (turn-waits G s K vs st c (r .distinct) (r .chain) w h e)
+      go (yes e) = let (p, a, b) = setters-potential G s K vs st c (r .distinct) (r .chain) (r .potential) (r .under) in inl (rw e (b, a))
+      go (no e) = inr (setters-waits G s K vs st c (r .distinct) (r .chain) w h e)
 
-  pub reversal-potential : Potential G (turn st c vs) s
-  reversal-potential = turn-potential G s K vs st c (r .distinct) (r .chain) (r .potential) (r .under) .0
+  pub reversal-potential : Potential G (reversedSetters st c vs) s
+  reversal-potential = setters-potential G s K vs st c (r .distinct) (r .chain) (r .potential) (r .under) .0
 
   -- nothing but c was blocked: nothing is blocked
-  pub reversal-unblocked : ((w : Item) → Waits G st w → w ≢ c → Free G s w) → Unblocked G (turn st c vs) s
+  pub reversal-unblocked : ((w : Item) → Waits G st w → w ≢ c → Free G s w) → Unblocked G (reversedSetters st c vs) s
   reversal-unblocked fr = record { potential = reversal-potential; free = λ w h. go w (reversal-waits w h) }
     where
       go : (w : Item) → ((G .lev w ≡ K) × Under G s K w) ⊎ (Waits G st w × (w ≢ c)) → Free G s w

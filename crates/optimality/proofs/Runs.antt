@@ -14,7 +14,7 @@ use Rattle.panel.specs.Panels.{opened}
 use Rattle.panel.specs.Steps.{openStep, addStep, removeStep, touchStep, planStep}
 use Rattle.panel.specs.Commands.{Command, opening, adding, removing, touching, planning, performed, openChecks, addChecks, removeChecks, touchChecks, planChecks, coveredIn, outputsIn}
 use Rattle.panel.proofs.InForce.{unused-off}
-use Rattle.panel.proofs.Turn.{setter-stay}
+use Rattle.panel.proofs.Reversed.{setter-stay}
 use Rattle.panel.proofs.Changes.{legal-opened, unopened-links, add-enters}
 use Rattle.panel.proofs.Checks.{openable, addable, removable, touchable}
 use Rattle.optimality.specs.Condition3.{Store, empty, entered, System, Run, stepped, after, AfterEveryList, panels, start, Condition3}

@@ -12,7 +12,7 @@ use Rattle.panel.specs.declared.Panel.{Panel}
 use Rattle.panel.specs.Items.{Item, link, linkAt, isInForce}
 use Rattle.panel.specs.Solution.{planOf}
 use Rattle.panel.specs.Commands.{planning, performed}
-use Rattle.panel.proofs.Turn.{link-not-stay}
+use Rattle.panel.proofs.Reversed.{link-not-stay}
 use Rattle.optimality.specs.Condition3.{Entry, Store, levelOf, levelIn, items, countUpTo, held, Optimal, AfterEveryList, panels, start}
 use Rattle.optimality.specs.Agreement.{Agrees, Sound}
 use Rattle.optimality.specs.States.{HoldsRequired, Settled, NothingBlocked, NothingBetter}

@@ -19,11 +19,11 @@ use Rattle.panel.specs.Items.{Item, link, stay, linkAt, levelOf, outputsOf, isI
 use Rattle.panel.specs.Answers.{Answer, isRefusal, refused}
 use Rattle.panel.specs.Panels.{withLink, toFront, placeAfter}
 use Rattle.panel.specs.Solution.{level, strengthOf, isBlocked, isLooped, pathFor, reversed}
-use Rattle.panel.specs.Steps.{accepted, turned, enterStep, touchStep}
+use Rattle.panel.specs.Steps.{accepted, reverseStep, enterStep, touchStep}
 use Rattle.panel.specs.Commands.{touching}
 use Rattle.panel.specs.Legal.{Legal}
 use Rattle.panel.proofs.InForce.{waiting-force}
-use Rattle.panel.proofs.Turn.{turn, same-item, link-here, link-there, reversed-size, reversed-place, reversed-alike}
+use Rattle.panel.proofs.Reversed.{reversedSetters, same-item, link-here, link-there, reversed-size, reversed-place, reversed-alike}
 use Rattle.panel.proofs.Legal.{LegalBut, filled, force-formed}
 use Rattle.panel.proofs.Setters.{setter-force}
 use Rattle.panel.proofs.Reversal.{blocking, legal-waits, legal-reversed}
@@ -45,10 +45,10 @@ SoundAfter b b′ a = Sound (cond (isRefusal (a .reply)) b b′) (a .panel)
 -- ---- a reversal
 
 -- the panel p becomes q, where c is blocked and goes in
-pub turned-sound : (b b′ : Store) (p q : Panel) (c : Item) → Sound b p → LegalBut c q → isBlocked q c ≡ true → Agrees b′ q
-    → (s : ℕ → ℕ) → Unblocked (graphOf q) (turn (settersOf q) c (pathFor q c)) s → SoundAfter b b′ (turned p q c)
-unfolding turned
-turned-sound b b′ p q c x k bl a s un = go (isLooped r) refl
+pub reverse-sound : (b b′ : Store) (p q : Panel) (c : Item) → Sound b p → LegalBut c q → isBlocked q c ≡ true → Agrees b′ q
+    → (s : ℕ → ℕ) → Unblocked (graphOf q) (reversedSetters (settersOf q) c (pathFor q c)) s → SoundAfter b b′ (reverseStep p q c)
+unfolding reverseStep
+reverse-sound b b′ p q c x k bl a s un = go (isLooped r) refl
   where
     r : Panel
     r = reversed q c (pathFor q c)
@@ -149,9 +149,9 @@ module _ {b : Store} {q : Panel} (x : Sound b q) {id : ℕ} {l : Link} (a : Ente
   enter-sound {b₀} {p} y = go (isBlocked r (link id)) refl (eqb (l .level) 0) refl
     where
       go : (t : Bool) → isBlocked r (link id) ≡ t → (z : Bool) → eqb (l .level) 0 ≡ z
-          → SoundAfter b₀ (entry b id (some (entryFor l))) (pick t (turned p r (link id)) (pick z (refused p Conflict) (accepted p r)))
+          → SoundAfter b₀ (entry b id (some (entryFor l))) (pick t (reverseStep p r (link id)) (pick z (refused p Conflict) (accepted p r)))
       go true e z d =
-          turned-sound b₀ _ p r (link id) y enter-legal e enter-agrees (strengthOf r)
+          reverse-sound b₀ _ p r (link id) y enter-legal e enter-agrees (strengthOf r)
           (reversal-unblocked (path-reversible enter-legal e) (link-free q (x .legal) (x .unblocked) id l enter-idle enter-legal))
       go false e true d = y
       go false e false d =
@@ -221,8 +221,8 @@ module _ (b : Store) (p : Panel) (x : Sound b p) (f : ℕ) (lf : f < p .size) wh
       none e w (yes d) = rw d e
       none e w (no d) = free-unblocked (legal-whole front front-legal) w (λ hw. front-free (legal-whole front front-legal) w hw d)
 
-      go : (t : Bool) → isBlocked front (stay f) ≡ t → SoundAfter b (entered b (touching f)) (pick t (turned p front (stay f)) (accepted p front))
+      go : (t : Bool) → isBlocked front (stay f) ≡ t → SoundAfter b (entered b (touching f)) (pick t (reverseStep p front (stay f)) (accepted p front))
       go true e =
           let k : LegalBut (stay f) front = legal-waits front (stay f) front-legal (blocking front (stay f) e .waits-now) in
-          turned-sound b _ p front (stay f) x k e front-agrees (strengthOf front) (reversal-unblocked (path-reversible k e) (front-free k))
+          reverse-sound b _ p front (stay f) x k e front-agrees (strengthOf front) (reversal-unblocked (path-reversible k e) (front-free k))
       go false e = record { legal = front-legal; agrees = front-agrees; unblocked = λ w. none e w (same-item w (stay f)) }

@@ -24,7 +24,7 @@ use Rattle.panel.specs.Panels.{opened, withLink, withSetter, freed, drop
 use Rattle.panel.specs.Solution.{setterReads, isLooped}
 use Rattle.panel.specs.Legal.{Formed, Legal}
 use Rattle.panel.proofs.InForce.{unused-off}
-use Rattle.panel.proofs.Turn.{setter-own, number-setter, link-not-stay, setter-stay, put, put-here, put-there, link-here, holding-sets}
+use Rattle.panel.proofs.Reversed.{setter-own, number-setter, link-not-stay, setter-stay, put, put-here, put-there, link-here, holding-sets}
 use Rattle.panel.proofs.Legal.{Placed, Good, Carrying, Weak, LegalBut, placed, legal, carrying, carrying-step, carrying-link}
 use Rattle.panel.proofs.Checks.{newLink, Addable}
 use Rattle.panel.proofs.Setters.{whole, setter-reads-inside, no-loop-within, reads-there}

@@ -22,7 +22,7 @@ use Rattle.panel.specs.Panels.{standing, withLink, holding, waiting}
 use Rattle.panel.specs.Solution.{isLooped}
 use Rattle.panel.specs.Legal.{Formed, Legal}
 use Rattle.panel.proofs.InForce.{force-used, unused-off, holding-force}
-use Rattle.panel.proofs.Turn.{setter-number, number-setter, setter-own, link-injective, link-not-stay, same-item, numberOf, setter-link, setter-stay, put, put-here, put-there, link-here, link-there, Fit, set-setter}
+use Rattle.panel.proofs.Reversed.{setter-number, number-setter, setter-own, link-injective, link-not-stay, same-item, numberOf, setter-link, setter-stay, put, put-here, put-there, link-here, link-there, Fit, set-setter}
 
 -- ---- the parts
 

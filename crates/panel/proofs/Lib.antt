@@ -1,7 +1,7 @@
 -- The laws that the functions' proofs and other crates cite.
 pub mod Answers
 pub mod InForce
-pub mod Turn
+pub mod Reversed
 pub mod Legal
 pub mod Setters
 pub mod Reversal

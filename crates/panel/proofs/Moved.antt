@@ -21,10 +21,10 @@ use Rattle.panel.specs.Items.{Item, itemOf, setterOf, outputsOf}
 use Rattle.panel.specs.Panels.{holding, moved}
 use Rattle.panel.specs.Solution.{reversed}
 use Rattle.panel.specs.Commands.{anyOf}
-use Rattle.panel.proofs.Turn.{put, put-here, put-there, turn, Off, numberOf, holding-setter, waiting-setter}
+use Rattle.panel.proofs.Reversed.{put, put-here, put-there, reversedSetters, Off, numberOf, holding-setter, waiting-setter}
 use Rattle.panel.proofs.Legal.{Carrying}
 use Rattle.panel.proofs.Setters.{setter-single}
-use Rattle.panel.proofs.Reversal.{Leads, Route, turned-setters}
+use Rattle.panel.proofs.Reversal.{Leads, Route, route-setters}
 
 -- ---- on a path and off it
 
@@ -54,19 +54,19 @@ reversed-off p c (v ∷ vs) f (a, h) =
     reversed-off (holding p c v) (setterOf (p .setter) v) vs f h
     ∙ ap (λ (x : List ℕ). at x f) (holding-setter p v c) ∙ getD-set-other (p .setter) v f (numberOf c) 0 a
 
-turn-off : (st : ℕ → Item) (c : Item) (vs : List ℕ) (f : ℕ) → Off f vs → turn st c vs f ≡ st f
-unfolding turn
-turn-off st c [] f h = refl
-turn-off st c (v ∷ vs) f (a, b) = turn-off (put st v c) (st v) vs f b ∙ put-there st v c f a
+reversal-off : (st : ℕ → Item) (c : Item) (vs : List ℕ) (f : ℕ) → Off f vs → reversedSetters st c vs f ≡ st f
+unfolding reversedSetters
+reversal-off st c [] f h = refl
+reversal-off st c (v ∷ vs) f (a, b) = reversal-off (put st v c) (st v) vs f b ∙ put-there st v c f a
 
 -- each field of the path gets another setter, where no two fields have the same one and c sets none
-turn-on : (n : ℕ) (st : ℕ → Item) (c : Item) (vs : List ℕ) → Distinct vs → All (λ v. v < n) vs → ((f g : ℕ) → f < n → g < n → st f ≡ st g → f ≡ g)
-    → ((f : ℕ) → f < n → st f ≢ c) → (f : ℕ) → In f vs → turn st c vs f ≢ st f
-unfolding turn
-turn-on n st c (v ∷ vs) (off, dis) (lv, all) once idle f (inl d) e =
-    idle v lv (sym (ap st d) ∙ sym e ∙ ap (turn (put st v c) (st v) vs) d ∙ turn-off (put st v c) (st v) vs v off ∙ put-here st v c)
-turn-on n st c (v ∷ vs) (off, dis) (lv, all) once idle f (inr i) e =
-    turn-on n (put st v c) (st v) vs dis all once′ idle′ f i (e ∙ sym (put-there st v c f ne))
+reversal-on : (n : ℕ) (st : ℕ → Item) (c : Item) (vs : List ℕ) → Distinct vs → All (λ v. v < n) vs → ((f g : ℕ) → f < n → g < n → st f ≡ st g → f ≡ g)
+    → ((f : ℕ) → f < n → st f ≢ c) → (f : ℕ) → In f vs → reversedSetters st c vs f ≢ st f
+unfolding reversedSetters
+reversal-on n st c (v ∷ vs) (off, dis) (lv, all) once idle f (inl d) e =
+    idle v lv (sym (ap st d) ∙ sym e ∙ ap (reversedSetters (put st v c) (st v) vs) d ∙ reversal-off (put st v c) (st v) vs v off ∙ put-here st v c)
+reversal-on n st c (v ∷ vs) (off, dis) (lv, all) once idle f (inr i) e =
+    reversal-on n (put st v c) (st v) vs dis all once′ idle′ f i (e ∙ sym (put-there st v c f ne))
   where
     ne : f ≢ v
     ne d = all-in (λ y. v ≢ y) vs f off i (sym d)
@@ -100,9 +100,9 @@ reversed-changes q c vs h route f = go (anyOf (eqb f) vs) refl
     go : (b : Bool) → anyOf (eqb f) vs ≡ b → b ≡ not (eqb (at (q .setter) f) (at (reversed q c vs .setter) f))
     go true e =
         sym (ap not (ne-eqb (at (q .setter) f) (at (reversed q c vs .setter) f) (λ d.
-        turn-on (q .size) (setterOf (q .setter)) c vs (route .distinct) (leads-all (q .size) (outputsOf (q .links)) (setterOf (q .setter)) c vs (route .leads)) (setter-single q c h) (h .held .idle) f
+        reversal-on (q .size) (setterOf (q .setter)) c vs (route .distinct) (leads-all (q .size) (outputsOf (q .links)) (setterOf (q .setter)) c vs (route .leads)) (setter-single q c h) (h .held .idle) f
         (any-in f vs e)
-        (sym (ap (λ (s : ℕ → Item). s f) (turned-setters q c vs h route)) ∙ ap (λ (x : ℕ). itemOf x f) (sym d)))))
+        (sym (ap (λ (s : ℕ → Item). s f) (route-setters q c vs h route)) ∙ ap (λ (x : ℕ). itemOf x f) (sym d)))))
     go false e = sym (ap not (eq-eqb (at (q .setter) f) (at (reversed q c vs .setter) f) (sym (reversed-off q c vs f (any-off f vs e)))))
 
 -- ---- the moved count

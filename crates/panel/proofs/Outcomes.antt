@@ -24,7 +24,7 @@ use Rattle.panel.specs.Panels.{freed}
 use Rattle.panel.specs.Solution.{reversed}
 use Rattle.panel.specs.Commands.{Command, performed}
 use Rattle.panel.specs.Outcomes.{unchanged, altered, taken, Takes, Decides}
-use Rattle.panel.proofs.Turn.{reversed-place}
+use Rattle.panel.proofs.Reversed.{reversed-place}
 use Rattle.panel.proofs.Legal.{holding-not-waiting}
 
 -- the places are the step's

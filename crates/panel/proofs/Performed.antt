@@ -17,10 +17,10 @@ use Rattle.panel.specs.Items.{Item, link, stay, linkAt, itemsOf}
 use Rattle.panel.specs.Answers.{Answer, refused}
 use Rattle.panel.specs.Panels.{withLink, dropped, toFront}
 use Rattle.panel.specs.Solution.{level, isBlocked, pathFor, reversed, lesser, least, leastBlocked, isLooped}
-use Rattle.panel.specs.Steps.{accepted, turned, openStep, enterStep, addStep, settled, dropStep, removeStep, touchStep, planStep}
+use Rattle.panel.specs.Steps.{accepted, reverseStep, openStep, enterStep, addStep, settled, dropStep, removeStep, touchStep, planStep}
 use Rattle.panel.specs.Commands.{coveredIn, outputsIn, openChecks, addChecks, removeChecks, touchChecks, planChecks, Command, opening, adding, removing, touching, planning, performed}
 use Rattle.panel.specs.Legal.{Legal}
-use Rattle.panel.proofs.Turn.{link-here}
+use Rattle.panel.proofs.Reversed.{link-here}
 use Rattle.panel.proofs.Legal.{LegalBut}
 use Rattle.panel.proofs.Reversal.{blocking, legal-waits, legal-reversed}
 use Rattle.panel.proofs.Changes.{legal-opened, Enters, add-enters, legal-add, legal-but, legal-dropped, legal-front}
@@ -30,9 +30,9 @@ use Rattle.panel.proofs.Checks.{checked-panel, newLink, addable, remova
 abbrev pick : Bool → Answer → Answer → Answer
 pick b x y = elim b [ true ↦ x | false ↦ y ]
 
-pub legal-turned : (p q : Panel) (c : Item) → Legal p → LegalBut c q → isBlocked q c ≡ true → Legal (turned p q c .panel)
-unfolding turned
-legal-turned p q c h k b = go (isLooped r) refl
+pub legal-reverse : (p q : Panel) (c : Item) → Legal p → LegalBut c q → isBlocked q c ≡ true → Legal (reverseStep p q c .panel)
+unfolding reverseStep
+legal-reverse p q c h k b = go (isLooped r) refl
   where
     r : Panel
     r = reversed q c (pathFor q c)
@@ -56,8 +56,8 @@ legal-enter-step p q id l h k a = go (isBlocked r (link id)) refl (eqb (l .level
     here = link-here (q .links) id l (omega (arith, k .links-length, a .number))
 
     go : (b : Bool) → isBlocked r (link id) ≡ b → (z : Bool) → eqb (l .level) 0 ≡ z
-        → Legal (pick b (turned p r (link id)) (pick z (refused p Conflict) (accepted p r)) .panel)
-    go true e z d = legal-turned p r (link id) h new e
+        → Legal (pick b (reverseStep p r (link id)) (pick z (refused p Conflict) (accepted p r)) .panel)
+    go true e z d = legal-reverse p r (link id) h new e
     go false e true d = h
     go false e false d = legal-but r (link id) new (λ u x. eqb-false (l .level) 0 d (rw here at x))
 
@@ -93,7 +93,7 @@ legal-settled p q h k = go (leastBlocked q) refl
     go none e = k
     go (some c) e =
         let b : isBlocked q c ≡ true = least-passes (isBlocked q) (level q) (itemsOf (q .size)) c e in
-        legal-turned p q c h (legal-waits q c k (blocking q c b .waits-now)) b
+        legal-reverse p q c h (legal-waits q c k (blocking q c b .waits-now)) b
 
 pub legal-remove-step : (p : Panel) (id : ℕ) → Legal p → id < 128 → Legal (removeStep p id .panel)
 unfolding removeStep
@@ -113,8 +113,8 @@ legal-touch-step p f h l = go (isBlocked q (stay f)) refl
     k : Legal q
     k = legal-front p f h l
 
-    go : (b : Bool) → isBlocked q (stay f) ≡ b → Legal (pick b (turned p q (stay f)) (accepted p q) .panel)
-    go true e = legal-turned p q (stay f) h (legal-waits q (stay f) k (blocking q (stay f) e .waits-now)) e
+    go : (b : Bool) → isBlocked q (stay f) ≡ b → Legal (pick b (reverseStep p q (stay f)) (accepted p q) .panel)
+    go true e = legal-reverse p q (stay f) h (legal-waits q (stay f) k (blocking q (stay f) e .waits-now)) e
     go false e = k
 
 -- ---- the commands

@@ -21,7 +21,7 @@ use Rattle.panel.specs.Items.{Item, link, stay, linkAt, setterOf, output
 use Rattle.panel.specs.Panels.{holding}
 use Rattle.panel.specs.Solution.{level, setterLevel, setterOthers, strengthOf, isBlocked, pathFor, reversed, isLooped}
 use Rattle.panel.specs.Legal.{Legal}
-use Rattle.panel.proofs.Turn.{put, put-here, put-there, turn, left, left-last, Off, alike-outputs, holding-size, holding-alike, holding-same, waiting-same, holding-sets, reversed-alike, reversed-setters, Fit, Fits}
+use Rattle.panel.proofs.Reversed.{put, put-here, put-there, reversedSetters, left, left-last, Off, alike-outputs, holding-size, holding-alike, holding-same, waiting-same, holding-sets, reversed-alike, reversed-setters, Fit, Fits}
 use Rattle.panel.proofs.Legal.{Carrying, Rests, Weak, LegalBut, legal, carrying, held-force, force-fit, carrying-step, carrying-waiting, waiting-rests}
 use Rattle.panel.proofs.Setters.{whole, outputs-inside, others-out, others-inside, setter-ranked, setter-falls, rests-waiting, waits-idle, waits-force}
 
@@ -62,14 +62,14 @@ leads-fit Ok n out few fit st c (v ∷ vs) all ok (off, dis) (l, o, h) = (
 
 -- ---- the panel afterwards
 
-turned-parts : (p : Panel) (c : Item) (vs : List ℕ) → Carrying c p → inForce (p .size) (p .links) c ≡ true
+route-parts : (p : Panel) (c : Item) (vs : List ℕ) → Carrying c p → inForce (p .size) (p .links) c ≡ true
     → Leads (p .size) (outputsOf (p .links)) (setterOf (p .setter)) c vs → Distinct vs
     → Carrying (left (setterOf (p .setter)) c vs) (reversed p c vs)
     × Rests (reversed p c vs .links) (left (setterOf (p .setter)) c vs)
     × ((n : ℕ) (d : Item) → inForce n (reversed p c vs .links) d ≡ inForce n (p .links) d)
 unfolding reversed left
-turned-parts p c [] h u leads dis = (carrying-waiting p c h u, waiting-rests p c (h .filled .full) u, waiting-same p c u)
-turned-parts p c (v ∷ vs) h u (l, o, leads) (off, dis) =
+route-parts p c [] h u leads dis = (carrying-waiting p c h u, waiting-rests p c (h .filled .full) u, waiting-same p c u)
+route-parts p c (v ∷ vs) h u (l, o, leads) (off, dis) =
     let few : p .size ≤ 64 = h .few in
     let now : setterOf (holding p c v .setter) ≡ put (setterOf (p .setter)) v c =
     holding-sets p v c (h .held .full) (omega arith) (force-fit (p .size) (p .links) c v (h .filled .full) u (omega arith) o) in
@@ -80,35 +80,35 @@ turned-parts p c (v ∷ vs) h u (l, o, leads) (off, dis) =
     let leads′ : Leads (holding p c v .size) (outputsOf (holding p c v .links)) (setterOf (holding p c v .setter)) (setterOf (p .setter) v) vs =
     rw (holding-size p v c, outs, now)
     (leads-put (p .size) (outputsOf (p .links)) (setterOf (p .setter)) v c (setterOf (p .setter) v) vs off leads) in
-    let (k, r, same) = turned-parts (holding p c v) (setterOf (p .setter) v) vs (carrying-step p c v h u l o) force leads′ dis in
+    let (k, r, same) = route-parts (holding p c v) (setterOf (p .setter) v) vs (carrying-step p c v h u l o) force leads′ dis in
     (rw now at k, rw now at r, λ n d. same n d ∙ holding-same p v c u n d)
 
 module _ (p : Panel) (c : Item) (vs : List ℕ) (h : Carrying c p) (route : Route p c vs) where
   -- the last setter is carried
-  pub turned-carrying : Carrying (left (setterOf (p .setter)) c vs) (reversed p c vs)
-  turned-carrying = turned-parts p c vs h (route .force) (route .leads) (route .distinct) .0
+  pub route-carrying : Carrying (left (setterOf (p .setter)) c vs) (reversed p c vs)
+  route-carrying = route-parts p c vs h (route .force) (route .leads) (route .distinct) .0
 
   -- and waits
-  pub turned-rests : Rests (reversed p c vs .links) (left (setterOf (p .setter)) c vs)
-  turned-rests = turned-parts p c vs h (route .force) (route .leads) (route .distinct) .1
+  pub route-rests : Rests (reversed p c vs .links) (left (setterOf (p .setter)) c vs)
+  route-rests = route-parts p c vs h (route .force) (route .leads) (route .distinct) .1
 
   -- the same items are in force
-  pub turned-force : (n : ℕ) (d : Item) → inForce n (reversed p c vs .links) d ≡ inForce n (p .links) d
-  turned-force = turned-parts p c vs h (route .force) (route .leads) (route .distinct) .2
+  pub reverse-force : (n : ℕ) (d : Item) → inForce n (reversed p c vs .links) d ≡ inForce n (p .links) d
+  reverse-force = route-parts p c vs h (route .force) (route .leads) (route .distinct) .2
 
-  pub turned-fits : Fits (setterOf (p .setter)) c vs
-  turned-fits =
+  pub route-fits : Fits (setterOf (p .setter)) c vs
+  route-fits =
       leads-fit (λ d. inForce (p .size) (p .links) d ≡ true) (p .size) (outputsOf (p .links)) (h .few)
       (λ d v k l o. force-fit (p .size) (p .links) d v (h .filled .full) k (omega (arith, h .few)) o)
       (setterOf (p .setter)) c vs (held-force c (p .size) (p .links) (p .setter) (h .held)) (route .force) (route .distinct) (route .leads)
 
   -- the setters afterwards
-  pub turned-setters : setterOf (reversed p c vs .setter) ≡ turn (setterOf (p .setter)) c vs
-  turned-setters = reversed-setters p c vs (h .held .full) turned-fits
+  pub route-setters : setterOf (reversed p c vs .setter) ≡ reversedSetters (setterOf (p .setter)) c vs
+  route-setters = reversed-setters p c vs (h .held .full) route-fits
 
   pub legal-route : isLooped (reversed p c vs) ≡ false → Legal (reversed p c vs)
   legal-route loopless =
-      legal (reversed p c vs) (left (setterOf (p .setter)) c vs) turned-carrying turned-rests
+      legal (reversed p c vs) (left (setterOf (p .setter)) c vs) route-carrying route-rests
       (weak (left (setterOf (p .setter)) c vs) (route .ends)) loopless
     where
       weak : (d : Item) → 0 < level p d → Weak (reversed p c vs .links) d

@@ -27,7 +27,7 @@ use Rattle.panel.specs.declared.Panel.{Panel}
 use Rattle.panel.specs.Items.{Item, link, stay, linkAt, setterOf, outputsOf, readsOf, isInForce, inForce, isWaiting, waits}
 use Rattle.panel.specs.Solution.{setterOthers, setterReads, isLooped}
 use Rattle.panel.specs.Legal.{Formed, Legal}
-use Rattle.panel.proofs.Turn.{setter-own, setter-stay, link-there}
+use Rattle.panel.proofs.Reversed.{setter-own, setter-stay, link-there}
 use Rattle.panel.proofs.Legal.{Filled, Held, Carrying, carrying, single, force-small, force-formed, held-force, held-output}
 
 -- a legal panel, with no item left open: field n has no stay

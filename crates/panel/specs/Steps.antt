@@ -19,8 +19,8 @@ abbrev pub accepted : Panel → Panel → Answer
 accepted p q = record { panel = q; reply = 0x00 ∷ moved p q ∷ [] }
 
 -- the panel p becomes q with the path for c reversed; "If the result has a loop, refuse with Loop"
-unfoldable pub turned : Panel → Panel → Item → Answer
-turned p q c =
+unfoldable pub reverseStep : Panel → Panel → Item → Answer
+reverseStep p q c =
     let r = reversed q c (pathFor q c) in
     elim (isLooped r) [ true ↦ refused p Loop | false ↦ accepted p r ]
 
@@ -34,7 +34,7 @@ unfoldable pub enterStep : Panel → Panel → ℕ → Link → Answer
 enterStep p q id l =
     let r = withLink q id l in
     elim (isBlocked r (link id)) [
-      | true ↦ turned p r (link id)
+      | true ↦ reverseStep p r (link id)
       | false ↦ elim (eqb (l .level) 0) [ true ↦ refused p Conflict | false ↦ accepted p r ]
     ]
 
@@ -44,7 +44,7 @@ addStep p id level covered outputs = enterStep p p id (waitingLink level covered
 -- "if there are any, take the one with the least level .. and carry out the walk and the turning of Add for it, once"
 abbrev pub settled : Panel → Panel → Option Item → Answer
 settled p q none = accepted p q
-settled p q (some c) = turned p q c
+settled p q (some c) = reverseStep p q c
 
 -- the panel p becomes q with a link of this standing dropped: "If it sets v, .. Then look at all blocked links and stays"
 abbrev pub dropStep : Panel → Panel → Standing → Answer
@@ -58,7 +58,7 @@ removeStep p id = dropStep p (dropped p id) (linkAt (p .links) id .standing)
 unfoldable pub touchStep : Panel → ℕ → Answer
 touchStep p f =
     let q = toFront p f in
-    elim (isBlocked q (stay f)) [ true ↦ turned p q (stay f) | false ↦ accepted p q ]
+    elim (isBlocked q (stay f)) [ true ↦ reverseStep p q (stay f) | false ↦ accepted p q ]
 
 -- "for a plan 00 n, then n times field, setter .., strength"
 unfoldable pub planStep : Panel → Answer

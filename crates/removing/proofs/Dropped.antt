@@ -25,7 +25,7 @@ use Rattle.panel.specs.Steps.{removeStep}
 use Rattle.panel.specs.Commands.{removing, performed}
 use Rattle.panel.specs.Legal.{Legal}
 use Rattle.panel.proofs.InForce.{unused-off}
-use Rattle.panel.proofs.Turn.{numberOf, setter-stay, setter-number, link-here, link-there}
+use Rattle.panel.proofs.Reversed.{numberOf, setter-stay, setter-number, link-here, link-there}
 use Rattle.panel.proofs.Setters.{reads-there, waits-force}
 use Rattle.panel.proofs.Reversal.{blocking}
 use Rattle.panel.proofs.Performed.{least-passes}

@@ -34,7 +34,7 @@ use Rattle.panel.specs.Commands.{checked, isOpen, removing, performed}
 use Rattle.panel.specs.Legal.{Legal}
 use Rattle.panel.specs.Outcomes.{unchanged, Decides}
 use Rattle.panel.proofs.InForce.{unused-off}
-use Rattle.panel.proofs.Turn.{link-here}
+use Rattle.panel.proofs.Reversed.{link-here}
 use Rattle.panel.proofs.Legal.{Filled, LegalBut, force-formed}
 use Rattle.panel.proofs.Setters.{outputs-inside, waits-force}
 use Rattle.panel.proofs.Reversal.{Blocking, blocking, legal-waits}
@@ -43,8 +43,8 @@ use Rattle.panel.proofs.Outcomes.{decides-unchanged}
 use Rattle.tables.specs.Tables.{Tabled, StrengthsOf}
 use Rattle.tables.proofs.Maps.{tableOf}
 use Rattle.tables.proofs.Tables.{greatest-same, panel-acyclic, panel-among, panel-strengths, all-strengths}
-use Rattle.reversal.specs.declared.Turn.{Turn}
-use Rattle.reversal.specs.declared.Turn.the-variants.{Free, Looped, Path}
+use Rattle.reversal.specs.declared.Verdict.{Verdict}
+use Rattle.reversal.specs.declared.Verdict.the-variants.{Free, Looped, Path}
 use Rattle.reversal.specs.Reversals.{Undecided, Decided, stepOf}
 use Rattle.reversal.proofs.ReadFields.{coverOf}
 use Rattle.reversal.proofs.Decision.{found-refused}
@@ -207,14 +207,14 @@ module _ {p : Panel} {id v : ℕ} {levels others reads : List ℕ} (x : Held p i
           })
 
       module _ (path : List ℕ) where
-        -- the turn that is decided, where something is blocked
-        abbrev pub Turned : Turn → Type 0
-        Turned t =
+        -- the verdict, where something is blocked
+        abbrev pub Judged : Verdict → Type 0
+        Judged t =
             ((outputs ≢ 0) × (s : ℕ) × (s ≡ greatest (member outputs) (at table) 64) × Decided L O (p .size) s outputs covered R path t)
             ⊎ ((outputs ≡ 0) × (t ≡ Free) × (length path ≡ 64))
 
         -- the step, or a refusal
-        abbrev Comes : Turn → Type 0
+        abbrev Comes : Verdict → Type 0
         Comes Free = Decides p id (removing id) path (stepOf Free (p .size) (p .place) noLink (Holding v) number)
         Comes Looped = (performed p (removing id) ≡ refused p Loop) × (length path ≡ 64)
         Comes (Path count m) = Decides p id (removing id) path (stepOf (Path count m) (p .size) (p .place) noLink (Holding v) number)
@@ -226,10 +226,10 @@ module _ {p : Panel} {id v : ℕ} {levels others reads : List ℕ} (x : Held p i
         held : Change p id (p .size) (p .place) noLink (Holding v)
         held = change p (x .legal) id (x .small) (Holding v) (x .holds)
 
-        comes : (t : Turn) → Turned t → Comes t
-        comes t turned = go choice t turned
+        comes : (t : Verdict) → Judged t → Comes t
+        comes t judged = go choice t judged
           where
-            go : Choice x number outputs covered → (t : Turn) → Turned t → Comes t
+            go : Choice x number outputs covered → (t : Verdict) → Judged t → Comes t
             go (inl (free, z)) t (inl (ne, s, top, d)) = absurd (ne z)
             go (inl (free, z)) t (inr (_, e, long)) =
                 subst Comes (sym e)
@@ -248,18 +248,18 @@ module _ {p : Panel} {id v : ℕ} {levels others reads : List ℕ} (x : Held p i
                 tabled (blocked d found) s count m (is-greatest d found s (rw eo at top)) (rw (eo, ec) at f) em (step ∙ ap (settled p q) found))
 
         -- the reply of a loop, and the step, whose parts are the code's
-        module _ (t : Turn) (turned : Turned t) (s : Step) where
+        module _ (t : Verdict) (judged : Judged t) (s : Step) where
           pub remove-looped : (old : Link) → old ≡ linkAt (p .links) (id % 128) → t ≡ Looped → s ≡ unchanged (p .size) (p .place) old (Refused Loop)
               → Decides p (id % 128) (removing id) path s
           remove-looped old same e is =
-              let (loops, long) = subst Comes e (comes t turned) in
+              let (loops, long) = subst Comes e (comes t judged) in
               rw is (decides-unchanged p (id % 128) old (Refused Loop) same (removing id) path long (refused p Loop) loops refl refl)
 
-          pub remove-turned : (l : Link) (u : ℕ) → l ≡ noLink → v ≡ u → t ≢ Looped → s ≡ stepOf t (p .size) (p .place) l (Holding u) number
+          pub remove-reversed : (l : Link) (u : ℕ) → l ≡ noLink → v ≡ u → t ≢ Looped → s ≡ stepOf t (p .size) (p .place) l (Holding u) number
               → Decides p (id % 128) (removing id) path s
-          remove-turned l u el same ne is = rw (mod-eq-of-lt (x .small), is, el, ← same) (go t (comes t turned) ne)
+          remove-reversed l u el same ne is = rw (mod-eq-of-lt (x .small), is, el, ← same) (go t (comes t judged) ne)
             where
-              go : (t : Turn) → Comes t → t ≢ Looped → Decides p id (removing id) path (stepOf t (p .size) (p .place) noLink (Holding v) number)
+              go : (t : Verdict) → Comes t → t ≢ Looped → Decides p id (removing id) path (stepOf t (p .size) (p .place) noLink (Holding v) number)
               go Free d ne = d
               go Looped d ne = absurd (ne refl)
               go (Path count m) d ne = d

@@ -11,7 +11,7 @@ use panel::Standing;
 use panel::Step;
 use panel::no_link;
 use panel::unchanged;
-use reversal::Turn;
+use reversal::Verdict;
 use reversal::decide;
 use reversal::step_of;
 use scanning::Blocked;
@@ -102,7 +102,7 @@ pub fn remove(
     }
     let s = old.standing;
     let Standing::Holding(h) = s else {
-        return step_of(Turn::Free, n, &place, no_link(), s, STAY);
+        return step_of(Verdict::Free, n, &place, no_link(), s, STAY);
     };
     // its stay steps in
     let v = wide(h);
@@ -117,10 +117,10 @@ pub fn remove(
     let mut table = [0u8; 64];
     strengths(&fresh, &outs, n, &mut table);
     let b = choose(find_blocked(p, &setter, &table));
-    let mut turn = Turn::Free;
+    let mut verdict = Verdict::Free;
     if b.outputs != 0 {
         let top = top_of(&table, b.outputs);
-        turn = decide(
+        verdict = decide(
             &fresh,
             &outs,
             &table,
@@ -133,8 +133,8 @@ pub fn remove(
             path,
         );
     }
-    if let Turn::Looped = turn {
+    if let Verdict::Looped = verdict {
         return unchanged(n, &place, old, Reply::Refused(Refusal::Loop));
     }
-    step_of(turn, n, &place, no_link(), s, b.number)
+    step_of(verdict, n, &place, no_link(), s, b.number)
 }

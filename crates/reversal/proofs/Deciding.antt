@@ -18,8 +18,8 @@ use Rattle.strength.proofs.Paths.{Tie, lowestAt-found, lowestAt-cong, Reversibl
 use Rattle.ordering.specs.Order.{hasLoop}
 use Rattle.ordering.specs.Walks.{Among}
 use Rattle.panel.specs.Outcomes.{PathOf}
-use Rattle.reversal.specs.declared.Turn.{Turn}
-use Rattle.reversal.specs.declared.Turn.the-variants.{Free, Looped, Path}
+use Rattle.reversal.specs.declared.Verdict.{Verdict}
+use Rattle.reversal.specs.declared.Verdict.the-variants.{Free, Looped, Path}
 use Rattle.reversal.specs.Reversals.{reversedReads, Undecided, Found, Decided, Resolved}
 use Rattle.reversal.proofs.ReadFields.{among-reversed}
 
@@ -89,7 +89,7 @@ module _ (levels others table : List ℕ) (n known s outputs covered : ℕ) (rea
       }
 
 -- what is decided for a blocked item is what is to be done for it
-pub resolved : (levels others : List ℕ) (n level s outputs covered : ℕ) (reads after : List ℕ) (t : Turn)
+pub resolved : (levels others : List ℕ) (n level s outputs covered : ℕ) (reads after : List ℕ) (t : Verdict)
     → s ≡ greatest (member outputs) (strength (at levels) (at others) n) 64 → level < s
     → Decided levels others n s outputs covered reads after t → Resolved levels others n level outputs covered reads after t
 resolved levels others n level s outputs covered reads after Free e l d = absurd d

@@ -21,11 +21,11 @@ use Rattle.panel.specs.declared.Refusal.the-variants.{Loop}
 use Rattle.panel.specs.Items.{Item, link, stay, itemOf, setterOf, outputsOf, readsOf, inForce, waits}
 use Rattle.panel.specs.Answers.{refused}
 use Rattle.panel.specs.Solution.{level, setterLevel, setterOthers, setterReads, strengthOf, isBlocked, pathFor, reversed, isLooped}
-use Rattle.panel.specs.Steps.{accepted, turned}
-use Rattle.panel.proofs.Turn.{numberOf, turn, alike-reads, reversed-size, reversed-alike}
+use Rattle.panel.specs.Steps.{accepted, reverseStep}
+use Rattle.panel.proofs.Reversed.{numberOf, reversedSetters, alike-reads, reversed-size, reversed-alike}
 use Rattle.panel.proofs.Legal.{Carrying, force-small, force-formed}
 use Rattle.panel.proofs.Setters.{setter-force, setter-output, outputs-inside}
-use Rattle.panel.proofs.Reversal.{turned-setters, Start, startOf, start-of, blocking, path-for, route-for}
+use Rattle.panel.proofs.Reversal.{route-setters, Start, startOf, start-of, blocking, path-for, route-for}
 use Rattle.tables.specs.Tables.{Tabled}
 use Rattle.tables.proofs.Tables.{level-at, others-at, reads-at, table-inside, table-acyclic, table-among, table-strength, table-tied, greatest-same, path-same, any-over}
 use Rattle.reversal.specs.Reversals.{reversedReads, Unresolved, Found}
@@ -89,7 +89,7 @@ module _ (q : Panel) (c : Item) (h : Carrying c q) (loopless : isLooped q ≡ fa
     start : Start q c
     start = start-of q c h (blocking q c b)
 
-    -- the path in the buffer is the walk for c
+    -- the path in the buffer is the path for c
     pub decided-path : take count after ≡ pathFor q c
     unfolding str pathFor strongest
     decided-path =
@@ -126,8 +126,8 @@ module _ (q : Panel) (c : Item) (h : Carrying c q) (loopless : isLooped q ≡ fa
         ∙ ap (λ (x : List ℕ). hasLoop (at (reversedReads reads (coverOf (q .links) c) x)) (q .size)) decided-path
         ∙ hasLoop-cong (at (reversedReads reads (coverOf (q .links) c) (pathFor q c))) (setterReads (reversed q c (pathFor q c))) (q .size)
         (λ f i l k. ap (λ (m : ℕ). member m i) (r .reads f l
-        ∙ sym (alike-reads (reversed q c (pathFor q c) .links) (q .links) (reversed-alike q c (pathFor q c)) (turn (setterOf (q .setter)) c (pathFor q c) f) f)
-        ∙ ap (λ (e : ℕ → Item). readsOf (reversed q c (pathFor q c) .links) (e f) f) (sym (turned-setters q c (pathFor q c) h route))))
+        ∙ sym (alike-reads (reversed q c (pathFor q c) .links) (q .links) (reversed-alike q c (pathFor q c)) (reversedSetters (setterOf (q .setter)) c (pathFor q c) f) f)
+        ∙ ap (λ (e : ℕ → Item). readsOf (reversed q c (pathFor q c) .links) (e f) f) (sym (route-setters q c (pathFor q c) h route))))
         ∙ ap (hasLoop (setterReads (reversed q c (pathFor q c)))) (sym (reversed-size q c (pathFor q c)))
 
     -- the number of c as a setter stands for c at the path's first field
@@ -149,10 +149,10 @@ module _ (q : Panel) (c : Item) (h : Carrying c q) (loopless : isLooped q ≡ fa
     pub found-panel : reversed q (itemOf (numberOf c) (at after 0)) (take count after) ≡ reversed q c (pathFor q c)
     found-panel = ap₂ (reversed q) decided-item decided-path
 
-    pub found-refused : (p : Panel) → looped ≡ true → turned p q c ≡ refused p Loop
-    unfolding turned
-    found-refused p e = rw (sym decided-looped ∙ e, turned)
+    pub found-refused : (p : Panel) → looped ≡ true → reverseStep p q c ≡ refused p Loop
+    unfolding reverseStep
+    found-refused p e = rw (sym decided-looped ∙ e, reverseStep)
 
-    pub found-accepted : (p : Panel) → looped ≡ false → turned p q c ≡ accepted p (reversed q c (pathFor q c))
-    unfolding turned
-    found-accepted p e = rw (sym decided-looped ∙ e, turned)
+    pub found-accepted : (p : Panel) → looped ≡ false → reverseStep p q c ≡ accepted p (reversed q c (pathFor q c))
+    unfolding reverseStep
+    found-accepted p e = rw (sym decided-looped ∙ e, reverseStep)

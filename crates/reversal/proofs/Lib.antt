@@ -1,5 +1,5 @@
 pub mod Fields
-pub mod Turns
+pub mod Verdicts
 pub mod ReadFields
 pub mod Deciding
 pub mod Decision

@@ -19,7 +19,7 @@ use Rattle.ordering.specs.Walks.{Among}
 use Rattle.ordering.proofs.Sets.{or-cases, without-cases}
 use Rattle.panel.specs.declared.Link.{Link}
 use Rattle.panel.specs.Items.{Item, link, stay, linkAt, outputsOf, readsOf}
-use Rattle.panel.proofs.Turn.{put, put-here, put-there, turn}
+use Rattle.panel.proofs.Reversed.{put, put-here, put-there, reversedSetters}
 use Rattle.panel.proofs.Reversal.{Leads, leads-put}
 use Rattle.tables.proofs.Settings.{stay-others}
 use Rattle.reversal.specs.Reversals.{reversedReads}
@@ -88,8 +88,8 @@ module _ (n : ℕ) (links : List Link) (few : n ≤ 64) (Ok : Item → Type 0)
 
   -- what set a field covers what it read and that field
   pub reversed-reads : (st : ℕ → Item) (c : Item) (vs : List ℕ) (r : List ℕ) (m : ℕ) → Reading st r → Ok c → m ≡ coverOf links c
-      → Leads n (outputsOf links) st c vs → Distinct vs → Reading (turn st c vs) (reversedReads r m vs)
-  unfolding turn reversedReads
+      → Leads n (outputsOf links) st c vs → Distinct vs → Reading (reversedSetters st c vs) (reversedReads r m vs)
+  unfolding reversedSetters reversedReads
   reversed-reads st c [] r m h ok e leads dis = h
   reversed-reads st c (v ∷ vs) r m h ok e (l, out, leads) (off, dis) =
       let next : with (at r v) v ≡ coverOf links (st v) =

@@ -1,4 +1,4 @@
--- The step of a turn: it gives what its command gives.
+-- The step of a verdict: it gives what its command gives.
 use Prim.Native.Nat.{ℕ, _^_, _≤_, _<_}
 use mathlib.Core.Path.{_≡_, refl, sym, ap, _∙_, subst}
 use mathlib.Core.Bool.{Bool, true, false, not, _||_, or-false}
@@ -24,18 +24,18 @@ use Rattle.panel.specs.Items.{Item, link, itemOf, linkAt, outputsOf, isInForce,
 use Rattle.panel.specs.Answers.{Answer, refused}
 use Rattle.panel.specs.Panels.{freed}
 use Rattle.panel.specs.Solution.{level, isBlocked, pathFor, reversed, isLooped}
-use Rattle.panel.specs.Steps.{accepted, turned}
+use Rattle.panel.specs.Steps.{accepted, reverseStep}
 use Rattle.panel.specs.Commands.{anyOf, Command, performed}
 use Rattle.panel.specs.Legal.{Legal}
 use Rattle.panel.specs.Outcomes.{taken, PathOf, Decides}
-use Rattle.panel.proofs.Turn.{numberOf, reversed-size}
+use Rattle.panel.proofs.Reversed.{numberOf, reversed-size}
 use Rattle.panel.proofs.Legal.{Carrying, holding-not-waiting}
-use Rattle.panel.proofs.Reversal.{blocking, start-of, startOf, path-for, Route, route-for, turned-force}
+use Rattle.panel.proofs.Reversal.{blocking, start-of, startOf, path-for, Route, route-for, reverse-force}
 use Rattle.panel.proofs.Performed.{legal-performed}
 use Rattle.panel.proofs.Moved.{reversed-changes, moved-size}
 use Rattle.tables.specs.Tables.{Tabled}
-use Rattle.reversal.specs.declared.Turn.{Turn}
-use Rattle.reversal.specs.declared.Turn.the-variants.{Free, Looped, Path}
+use Rattle.reversal.specs.declared.Verdict.{Verdict}
+use Rattle.reversal.specs.declared.Verdict.the-variants.{Free, Looped, Path}
 use Rattle.reversal.specs.Reversals.{fieldsOf, Found, Resolved, heldField, setterBy, countBy, fieldsBy, stepOf}
 use Rattle.reversal.proofs.Fields.{fields-none, fields-first}
 use Rattle.reversal.proofs.ReadFields.{coverOf}
@@ -64,8 +64,8 @@ module _ (p : Panel) (k n : ℕ) (place : List ℕ) (l : Link) (held : Standing)
     none-zero : (a b f : ℕ) → union a b ≡ 0 → f < 64 → (member a f || member b f) ≡ false
     none-zero a b f z lf = sym (member-union a b f lf) ∙ ap (λ (m : ℕ). member m f) z ∙ member-empty f
 
-    -- what a turn changes, where r is the panel after it, whose path has the fields vs
-    module _ (t : Turn) (c : ℕ) (vs : List ℕ) (r : Panel)
+    -- what a verdict changes, where r is the panel after it, whose path has the fields vs
+    module _ (t : Verdict) (c : ℕ) (vs : List ℕ) (r : Panel)
         (taking : reversed after (itemOf (setterBy t c) (at path 0)) (take (countBy t) path) ≡ r) (force : (i : ℕ) → isInForce (linkAt (r .links) i) ≡ isInForce (linkAt (after .links) i)) (fields : fieldsBy t ≡ fieldsOf vs)
         (on : (f : ℕ) → anyOf (eqb f) vs ≡ not (eqb (at (after .setter) f) (at (r .setter) f))) (accept : performed p cmd ≡ accepted p r)
         (path-of : PathOf path (countBy t)) (moves : fieldsBy t ≡ 0 → (setterBy t c ≡ 128) × (countBy t ≡ 0)) (size-same : r .size ≡ after .size) where
@@ -129,9 +129,9 @@ module _ (p : Panel) (k n : ℕ) (place : List ℕ) (l : Link) (held : Standing)
               either true = refl
               either false = refl
 
-      pub decides-turn : Decides p k cmd path (stepOf t n place l held c)
+      pub decides-verdict : Decides p k cmd path (stepOf t n place l held c)
       unfolding taken
-      decides-turn = record {
+      decides-verdict = record {
         takes = record {
           panel = taking ∙ ap (λ (a : Answer). a .panel) (sym accept);
           changed = λ f lf. changed f lf ∙ ap (λ (a : Answer). not (eqb (at (p .setter) f) (at (a .panel .setter) f))) (sym accept);
@@ -148,7 +148,7 @@ module _ (p : Panel) (k n : ℕ) (place : List ℕ) (l : Link) (held : Standing)
     pub decides-free : length path ≡ 64 → (c : ℕ) → performed p cmd ≡ accepted p after → Decides p k cmd path (stepOf Free n place l held c)
     unfolding reversed anyOf
     decides-free long c accept =
-        decides-turn Free c [] after refl (λ i. refl) (sym (fields-none []))
+        decides-verdict Free c [] after refl (λ i. refl) (sym (fields-none []))
         (λ f. sym (ap not (eq-eqb (at (after .setter) f) (at (after .setter) f) refl))) accept
         (record { full = long; few = omega arith; fields = λ i l. absurd (omega arith) }) (λ z. (refl, refl)) refl
 
@@ -158,11 +158,11 @@ module _ (p : Panel) (k n : ℕ) (place : List ℕ) (l : Link) (held : Standing)
       pub decides-path : isBlocked after d ≡ true → (s count m : ℕ)
           → s ≡ greatest (member (outputsOf (after .links) d)) (strength (at levels) (at others) (after .size)) 64
           → Found levels others (after .size) s (outputsOf (after .links) d) (coverOf (after .links) d) reads path count false → m ≡ fieldsOf (take count path)
-          → performed p cmd ≡ turned p after d → Decides p k cmd path (stepOf (Path count m) n place l held (numberOf d))
+          → performed p cmd ≡ reverseStep p after d → Decides p k cmd path (stepOf (Path count m) n place l held (numberOf d))
       decides-path b s count m top found em step =
-          decides-turn (Path count m) (numberOf d) vs (reversed after d vs)
+          decides-verdict (Path count m) (numberOf d) vs (reversed after d vs)
           (found-panel after d h loopless force levels others reads tabled b s count path false top found)
-          (λ i. turned-force after d vs h route (after .size) (link i)) fields
+          (λ i. reverse-force after d vs h route (after .size) (link i)) fields
           (reversed-changes after d vs h route)
           (step ∙ found-accepted after d h loopless force levels others reads tabled b s count path false top found p refl)
           (found .fields) (λ z. absurd (some z)) (reversed-size after d vs)
@@ -195,15 +195,15 @@ module _ (p : Panel) (k n : ℕ) (place : List ℕ) (l : Link) (held : Standing)
         pub resolved-free : Resolved levels others (after .size) lev outs cover reads path Free → isBlocked after d ≡ false
         resolved-free e = blocked-is ∙ e .0
 
-        pub resolved-loop : Resolved levels others (after .size) lev outs cover reads path Looped → (isBlocked after d ≡ true → performed p cmd ≡ turned p after d)
+        pub resolved-loop : Resolved levels others (after .size) lev outs cover reads path Looped → (isBlocked after d ≡ true → performed p cmd ≡ reverseStep p after d)
             → performed p cmd ≡ refused p Loop
         resolved-loop (e, (count, f)) step =
             let b : isBlocked after d ≡ true = blocked-is ∙ e in
             step b
             ∙ found-refused after d h loopless force levels others reads tabled b _ count path true refl (rw (← outs-are, ← cover-is) at f) p refl
 
-        pub resolved-step : (t : Turn) → t ≢ Looped → Resolved levels others (after .size) lev outs cover reads path t
-            → (t ≡ Free → isBlocked after d ≡ false → performed p cmd ≡ accepted p after) → (isBlocked after d ≡ true → performed p cmd ≡ turned p after d)
+        pub resolved-step : (t : Verdict) → t ≢ Looped → Resolved levels others (after .size) lev outs cover reads path t
+            → (t ≡ Free → isBlocked after d ≡ false → performed p cmd ≡ accepted p after) → (isBlocked after d ≡ true → performed p cmd ≡ reverseStep p after d)
             → Decides p k cmd path (stepOf t n place l held (numberOf d))
         resolved-step Free ne e free step = decides-free (e .1) (numberOf d) (free refl (resolved-free e))
         resolved-step Looped ne e free step = absurd (ne refl)

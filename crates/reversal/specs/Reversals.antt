@@ -18,8 +18,8 @@ use Rattle.panel.specs.declared.Reply.the-variants.{Accepted}
 use Rattle.panel.specs.declared.Step.{Step}
 use Rattle.panel.specs.Commands.{anyOf}
 use Rattle.panel.specs.Outcomes.{PathOf}
-use Rattle.reversal.specs.declared.Turn.{Turn}
-use Rattle.reversal.specs.declared.Turn.the-variants.{Free, Looped, Path}
+use Rattle.reversal.specs.declared.Verdict.{Verdict}
+use Rattle.reversal.specs.declared.Verdict.the-variants.{Free, Looped, Path}
 
 -- the read fields after a path is reversed, from the covered fields of what sets its first field: what set a field covers what it read and
 -- that field
@@ -54,7 +54,7 @@ pub record Found (levels others : List ℕ) (n s outputs covered : ℕ) (reads a
   pub is-looped : looped ≡ hasLoop (at (reversedReads reads covered (take count after))) n
 
 -- what is decided for a blocked item
-abbrev pub Decided : List ℕ → List ℕ → ℕ → ℕ → ℕ → ℕ → List ℕ → List ℕ → Turn → Type 0
+abbrev pub Decided : List ℕ → List ℕ → ℕ → ℕ → ℕ → ℕ → List ℕ → List ℕ → Verdict → Type 0
 Decided levels others n s outputs covered reads after Free = ⊥
 Decided levels others n s outputs covered reads after Looped = (count : ℕ) × Found levels others n s outputs covered reads after count true
 Decided levels others n s outputs covered reads after (Path count set) =
@@ -71,7 +71,7 @@ pub record Unresolved (others : List ℕ) (n outputs covered : ℕ) (reads path 
   pub path-length : length path ≡ 64
 
 -- whether it is blocked, and what is then decided
-abbrev pub Resolved : List ℕ → List ℕ → ℕ → ℕ → ℕ → ℕ → List ℕ → List ℕ → Turn → Type 0
+abbrev pub Resolved : List ℕ → List ℕ → ℕ → ℕ → ℕ → ℕ → List ℕ → List ℕ → Verdict → Type 0
 Resolved levels others n level outputs covered reads after Free =
     (ltb level (greatest (member outputs) (strength (at levels) (at others) n) 64) ≡ false) × (length after ≡ 64)
 Resolved levels others n level outputs covered reads after Looped =
@@ -91,34 +91,34 @@ abbrev pub HeldField : Standing → Type 0
 HeldField Waiting = Unit {0}
 HeldField (Holding v) = v < 64
 
--- what a turn gives a step: what sets the path's first field, how many fields the path has, and these
-abbrev pub setterBy : Turn → ℕ → ℕ
+-- what a verdict gives a step: what sets the path's first field, how many fields the path has, and these
+abbrev pub setterBy : Verdict → ℕ → ℕ
 setterBy Free c = 128
 setterBy Looped c = 128
 setterBy (Path count set) c = c
 
-abbrev pub countBy : Turn → ℕ
+abbrev pub countBy : Verdict → ℕ
 countBy Free = 0
 countBy Looped = 0
 countBy (Path count set) = count
 
-abbrev pub fieldsBy : Turn → ℕ
+abbrev pub fieldsBy : Verdict → ℕ
 fieldsBy Free = 0
 fieldsBy Looped = 0
 fieldsBy (Path count set) = set
 
 -- the step that leaves so many fields, these places and this link, gives free what a link of this standing held, and reverses the path for the
 -- item of the number c
-abbrev pub stepOf : Turn → ℕ → List ℕ → Link → Standing → ℕ → Step
-stepOf turn n place link held c =
-    let changed = union (fieldsBy turn) (heldField held) in
+abbrev pub stepOf : Verdict → ℕ → List ℕ → Link → Standing → ℕ → Step
+stepOf verdict n place link held c =
+    let changed = union (fieldsBy verdict) (heldField held) in
     record {
       reply = Accepted (size changed);
       size = n;
       place = place;
       link = link;
       freed = held;
-      setter = setterBy turn c;
-      count = countBy turn;
+      setter = setterBy verdict c;
+      count = countBy verdict;
       changed = changed;
     }

@@ -21,7 +21,7 @@ ghost use Rattle.reversal.specs.Reversals.{reversedReads, fieldsOf, Unde
 
 // What is to be done for an item: nothing where it is not blocked; else its path is reversed, which has so many fields, these, unless
 // there is a loop then.
-pub enum Turn {
+pub enum Verdict {
     Free,
     Looped,
     Path(usize, u64),
@@ -70,7 +70,7 @@ pub fn decide(
     covered: u64,
     reads: &[u64; 64],
     path: &mut [u8; 64],
-) -> Turn
+) -> Verdict
     requires { ⌜ Undecided (now levels) (now others) (now table) n known s outputs covered (now reads) (now path) ⌝ }
     ensures { λ r. ⌜ Decided (now (levels .entry)) (now (others .entry)) n s outputs covered (now (reads .entry)) (now (path .exit)) r ⌝ }
 {
@@ -80,10 +80,10 @@ pub fn decide(
     let mut after = *reads;
     reverse_reads(&mut after, covered, path, count);
     if ordering::has_loop(&after, n) {
-        return Turn::Looped;
+        return Verdict::Looped;
     }
     let set = path_fields(path, count);
-    Turn::Path(count, set)
+    Verdict::Path(count, set)
 }
 
 // What is to be done for an item that waits, with this level, these outputs and covered fields.
@@ -96,7 +96,7 @@ pub fn resolve(
     outputs: u64,
     covered: u64,
     path: &mut [u8; 64],
-) -> Turn
+) -> Verdict
     requires { ⌜ Unresolved (now others) n outputs covered (now reads) (now path) ⌝ }
     ensures { λ r. ⌜ Resolved (now (levels .entry)) (now (others .entry)) n level outputs covered (now (reads .entry)) (now (path .exit)) r ⌝ }
 {
@@ -104,7 +104,7 @@ pub fn resolve(
     let top = greatest(levels, others, n, outputs, &mut table);
     let s = top.strength;
     if s <= level {
-        return Turn::Free;
+        return Verdict::Free;
     }
     decide(levels, others, &table, n, top.known, s, outputs, covered, reads, path)
 }
@@ -129,14 +129,14 @@ fn count_of(set: u64) -> u8
 
 // The step that leaves so many fields, these places and this link, gives free what a link of this standing held, and reverses the path for the item
 // of the number c. The fields that are given free and those of the path get another setter.
-pub fn step_of(turn: Turn, n: usize, place: &[u8; 64], link: Link, held: Standing, c: u8) -> Step
+pub fn step_of(verdict: Verdict, n: usize, place: &[u8; 64], link: Link, held: Standing, c: u8) -> Step
     requires { ⌜ (length (now place) ≡ 64) × HeldField held ⌝ }
-    ensures { λ r. ⌜ r ≡ stepOf turn n (now (place .entry)) link held c ⌝ }
+    ensures { λ r. ⌜ r ≡ stepOf verdict n (now (place .entry)) link held c ⌝ }
 {
     let mut setter = STAY;
     let mut count: usize = 0;
     let mut fields = 0u64;
-    if let Turn::Path(k, set) = turn {
+    if let Verdict::Path(k, set) = verdict {
         setter = c;
         count = k;
         fields = set;

@@ -1,4 +1,4 @@
--- What `fill` keeps from turn to turn, and what it leaves.
+-- What `fill` keeps from one round of its loop to the next, and what it leaves.
 use Prim.Native.Nat.{ℕ, _-_, _<_, max}
 use mathlib.Core.Path.{_≡_, refl, sym, ap, _∙_}
 use mathlib.Core.Bool.{Bool, true, false, not, _&&_, cond, false≢true}

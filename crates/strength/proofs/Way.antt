@@ -1,4 +1,4 @@
--- What `path_from` keeps from turn to turn.
+-- What `path_from` keeps from one round of its loop to the next.
 use Prim.Native.Nat.{ℕ, zero, suc, _+_, _-_, _<_}
 use mathlib.Core.Path.{_≡_, refl, sym, ap, _∙_}
 use mathlib.Core.Logic.{_≢_}
@@ -98,8 +98,8 @@ module _ {levels others table : List ℕ} {n known v s : ℕ} {before buffer : L
     pub scan-start : Scan table s (at others here) (at others here)
     scan-start = record { same = refl; some = rw same-table (onto .field) }
 
-    pub way-turn : {u : ℕ} → u ≡ lowestAt (at table) s (at others here) → Way levels others n known v s before (set buffer count here) u (count + 1)
-    way-turn {u} e = rw (e ∙ same-table) (go (lowestAt (strength (at levels) (at others) n) s (at others here)) refl onto)
+    pub way-reversal : {u : ℕ} → u ≡ lowestAt (at table) s (at others here) → Way levels others n known v s before (set buffer count here) u (count + 1)
+    way-reversal {u} e = rw (e ∙ same-table) (go (lowestAt (strength (at levels) (at others) n) s (at others here)) refl onto)
       where
         go : (w : ℕ) → w ≡ lowestAt (strength (at levels) (at others) n) s (at others here) → Tie (strength (at levels) (at others) n) s (at others here) w
             → Way levels others n known v s before (set buffer count here) w (count + 1)

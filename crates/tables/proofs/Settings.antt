@@ -18,7 +18,7 @@ use Rattle.panel.specs.declared.Link.{Link}
 use Rattle.panel.specs.declared.Panel.{Panel}
 use Rattle.panel.specs.Items.{Item, link, linkAt, setterOf, levelOf, outputsOf, readsOf, itemOf}
 use Rattle.panel.specs.Legal.{Legal}
-use Rattle.panel.proofs.Turn.{setter-link, setter-stay}
+use Rattle.panel.proofs.Reversed.{setter-link, setter-stay}
 use Rattle.tables.specs.declared.Entry.{Entry}
 use Rattle.tables.specs.Tables.{EntryOf, Setting, TabledTo, Tabled, Places, levelWith}
 

@@ -20,7 +20,7 @@ use Rattle.panel.specs.declared.Panel.{Panel}
 use Rattle.panel.specs.Items.{Item, link, stay, noLink, linkAt, setterOf, itemOf}
 use Rattle.panel.specs.Panels.{standing, withLink, withSetter, holding, waiting, freed}
 use Rattle.panel.specs.Solution.{reversed}
-use Rattle.panel.proofs.Turn.{AllAlike, alike-level, alike-outputs, alike-reads, Fit, put-here, put-there, holding-place, holding-alike, holding-sets, waiting-place, waiting-setter, waiting-alike}
+use Rattle.panel.proofs.Reversed.{AllAlike, alike-level, alike-outputs, alike-reads, Fit, put-here, put-there, holding-place, holding-alike, holding-sets, waiting-place, waiting-setter, waiting-alike}
 use Rattle.panel.proofs.Legal.{holding-not-waiting}
 use Rattle.tables.specs.declared.Entry.{Entry}
 use Rattle.tables.specs.Tables.{EntryOf, Setting, Tabled, Places}

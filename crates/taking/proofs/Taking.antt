@@ -23,7 +23,7 @@ use Rattle.panel.specs.Solution.{reversed}
 use Rattle.panel.specs.Commands.{Command, performed}
 use Rattle.panel.specs.Outcomes.{altered, taken, Takes}
 use Rattle.panel.specs.Legal.{Legal}
-use Rattle.panel.proofs.Turn.{setter-link, setter-stay, link-here, link-there}
+use Rattle.panel.proofs.Reversed.{setter-link, setter-stay, link-here, link-there}
 use Rattle.panel.proofs.Legal.{holding-not-waiting}
 use Rattle.panel.proofs.Outcomes.{taken-place, taken-still, altered-size}
 use Rattle.panel.proofs.Performed.{legal-performed}

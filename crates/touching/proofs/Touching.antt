@@ -23,7 +23,7 @@ use Rattle.panel.specs.Items.{stay, noLink, linkAt, inForce, waits}
 use Rattle.panel.specs.Answers.{Answer, refused}
 use Rattle.panel.specs.Panels.{placeAfter, toFront}
 use Rattle.panel.specs.Solution.{level, isBlocked, isLooped}
-use Rattle.panel.specs.Steps.{accepted, turned, touchStep}
+use Rattle.panel.specs.Steps.{accepted, reverseStep, touchStep}
 use Rattle.panel.specs.Commands.{isOpen, performed, touching}
 use Rattle.panel.specs.Legal.{Legal}
 use Rattle.panel.specs.Outcomes.{Decides}
@@ -33,8 +33,8 @@ use Rattle.panel.proofs.Checks.{Says, says, applies, passes, none-left}
 use Rattle.panel.proofs.Reversal.{legal-waits}
 use Rattle.tables.specs.Tables.{Tabled, Setting, levelWith}
 use Rattle.tables.proofs.Settings.{placed-setting}
-use Rattle.reversal.specs.declared.Turn.{Turn}
-use Rattle.reversal.specs.declared.Turn.the-variants.{Free, Looped}
+use Rattle.reversal.specs.declared.Verdict.{Verdict}
+use Rattle.reversal.specs.declared.Verdict.the-variants.{Free, Looped}
 use Rattle.reversal.specs.Reversals.{Unresolved, Resolved, stepOf}
 use Rattle.reversal.proofs.Decision.{unresolved}
 use Rattle.reversal.proofs.Steps.{after, Change, decides-free, resolved-loop, resolved-step}
@@ -64,7 +64,7 @@ touch-checks p f =
 -- ---- the panel with the stay in front
 
 abbrev touched : Panel → Panel → ℕ → Answer
-touched p q f = elim (isBlocked q (stay f)) [ true ↦ turned p q (stay f) | false ↦ accepted p q ]
+touched p q f = elim (isBlocked q (stay f)) [ true ↦ reverseStep p q (stay f) | false ↦ accepted p q ]
 
 -- the set of the touched field
 pub only-inside : (n f : ℕ) → f < n → Within (only f) (below n)
@@ -112,8 +112,8 @@ module _ (p : Panel) (h : Legal p) (f : ℕ) (t : Touchable p f) (place : List �
   touch-free : isBlocked fronted (stay f) ≡ false → performed p (touching f) ≡ accepted p fronted
   touch-free e = stepped ∙ rw (e, touched) refl
 
-  touch-turns : isBlocked fronted (stay f) ≡ true → performed p (touching f) ≡ turned p fronted (stay f)
-  touch-turns e = stepped ∙ rw (e, touched) refl
+  touch-reverses : isBlocked fronted (stay f) ≡ true → performed p (touching f) ≡ reverseStep p fronted (stay f)
+  touch-reverses e = stepped ∙ rw (e, touched) refl
 
   -- a stay that sets its field is not blocked
   front-idle : 128 ≤ at (p .setter) f → isBlocked fronted (stay f) ≡ false
@@ -153,7 +153,7 @@ module _ (p : Panel) (h : Legal p) (f : ℕ) (t : Touchable p f) (place : List �
         (only-inside (p .size) f (t .field))
 
     module _ (path : List ℕ) where
-      abbrev pub Resolves : Turn → Type 0
+      abbrev pub Resolves : Verdict → Type 0
       Resolves = Resolved fresh others (p .size) 16 (only f) (only f) reads path
 
       -- the panel as a change of the link of a number, which is the link that is there
@@ -166,16 +166,16 @@ module _ (p : Panel) (h : Legal p) (f : ℕ) (t : Touchable p f) (place : List �
             sym (resolved-loop p k (p .size) place named Waiting (unmoved p h k named same place) (touching f) path (stay f)
             (front-as (Carrying (stay f)) (front-but .carrying)) (front-as (λ q. isLooped q ≡ false) (front-but .loopless)) front-force fresh others reads
             (front-as (λ q. Tabled q fresh others reads) front-tabled)
-            front-waits 16 (only f) (only f) front-level refl refl e (front-as (λ q. isBlocked q (stay f) ≡ true → performed p (touching f) ≡ turned p q (stay f)) touch-turns))
+            front-waits 16 (only f) (only f) front-level refl refl e (front-as (λ q. isBlocked q (stay f) ≡ true → performed p (touching f) ≡ reverseStep p q (stay f)) touch-reverses))
 
-        pub touch-step : (u : Turn) → u ≢ Looped → Resolves u → Decides p k (touching f) path (stepOf u (p .size) place named Waiting 128)
+        pub touch-step : (u : Verdict) → u ≢ Looped → Resolves u → Decides p k (touching f) path (stepOf u (p .size) place named Waiting 128)
         touch-step u ne e =
             resolved-step p k (p .size) place named Waiting (unmoved p h k named same place) (touching f) path (stay f)
             (front-as (Carrying (stay f)) (front-but .carrying)) (front-as (λ q. isLooped q ≡ false) (front-but .loopless)) front-force fresh others reads
             (front-as (λ q. Tabled q fresh others reads) front-tabled)
             front-waits 16 (only f) (only f) front-level refl refl u ne e
             (λ free. front-as (λ q. isBlocked q (stay f) ≡ false → performed p (touching f) ≡ accepted p q) touch-free)
-            (front-as (λ q. isBlocked q (stay f) ≡ true → performed p (touching f) ≡ turned p q (stay f)) touch-turns)
+            (front-as (λ q. isBlocked q (stay f) ≡ true → performed p (touching f) ≡ reverseStep p q (stay f)) touch-reverses)
 
   -- a stay that sets its field
   pub touch-idle : 128 ≤ at (p .setter) f → (path : List ℕ) → length path ≡ 64 → (k : ℕ) (named : Link) → named ≡ linkAt (p .links) k

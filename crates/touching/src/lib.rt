@@ -9,7 +9,7 @@ use panel::STAY;
 use panel::Standing;
 use panel::Step;
 use panel::unchanged;
-use reversal::Turn;
+use reversal::Verdict;
 use reversal::resolve;
 use reversal::step_of;
 use tables::stay_levels;
@@ -86,15 +86,15 @@ pub fn touch(
     let setter = p.setter;
     let mut place = order;
     to_front(&mut place, v);
-    let mut turn = Turn::Free;
+    let mut verdict = Verdict::Free;
     if setter[v] < STAY {
         let mut fresh = *levels;
         stay_levels(&mut fresh, &setter, &place);
         let set = only(v);
-        turn = resolve(&fresh, others, reads, n, 16, set, set, path);
+        verdict = resolve(&fresh, others, reads, n, 16, set, set, path);
     }
-    if let Turn::Looped = turn {
+    if let Verdict::Looped = verdict {
         return unchanged(n, &order, named, Reply::Refused(Refusal::Loop));
     }
-    step_of(turn, n, &place, named, Standing::Waiting, STAY)
+    step_of(verdict, n, &place, named, Standing::Waiting, STAY)
 }

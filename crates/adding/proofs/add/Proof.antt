@@ -13,10 +13,10 @@ use Rattle.panel.specs.Commands.{Command, adding}
 use Rattle.panel.specs.Outcomes.{Decides}
 use Rattle.panel.proofs.Checks.{Says}
 use Rattle.panel.proofs.Outcomes.{decides-refused}
-use Rattle.reversal.specs.declared.Turn.{Turn}
-use Rattle.reversal.specs.declared.Turn.the-variants.{Free}
+use Rattle.reversal.specs.declared.Verdict.{Verdict}
+use Rattle.reversal.specs.declared.Verdict.the-variants.{Free}
 use Rattle.reversal.specs.Reversals.{Resolved, stepOf}
-use Rattle.reversal.proofs.Turns.{no-loop, no-free}
+use Rattle.reversal.proofs.Verdicts.{no-loop, no-free}
 use Rattle.adding.specs.Checks.{checkAdd}
 use Rattle.adding.proofs.Adding.{Passed, add-checks, new-unresolved, add-loop, add-conflict, add-step}
 use Rattle.adding.proofs.add.Statement.{statement}

@@ -7,9 +7,9 @@ use borrow.Author.Needs.{needs}
 use Rattle.panel.specs.declared.Standing.the-variants.{Holding}
 use Rattle.tables.proofs.Settings.{places}
 use Rattle.reversal.specs.Reversals.{HeldField}
-use Rattle.reversal.proofs.Turns.{no-loop}
+use Rattle.reversal.proofs.Verdicts.{no-loop}
 use Rattle.removing.proofs.Dropped.{Held, held-small, of-field, Choice, choice}
-use Rattle.removing.proofs.Removed.{Passed, old-standing, remove-refused, remove-passes, remove-waiting, rest-acyclic, stepped-strengths, undecided, Turned, remove-looped, remove-turned}
+use Rattle.removing.proofs.Removed.{Passed, old-standing, remove-refused, remove-passes, remove-waiting, rest-acyclic, stepped-strengths, undecided, Judged, remove-looped, remove-reversed}
 use Rattle.removing.proofs.remove.Statement.{statement}
 use Rattle.removing.proofs.remove.Tie as tie
 
@@ -43,7 +43,7 @@ held c =
 abbrev stay-in : tie.After-strengths → tie.After-wide
 stay-in c = c .before .before .before .before .before .before .before .before
 
--- what is chosen, and the turn for it
+-- what is chosen, and the verdict on it
 
 abbrev scan : tie.After-struct-known → tie.After-strengths
 scan c = c .before .before .before .before .before
@@ -51,9 +51,9 @@ scan c = c .before .before .before .before .before
 chosen : (c : tie.After-struct-known) → let b = c .before .choose .result in Choice (held (stay-in (scan c))) (b .number) (b .outputs) (b .covered)
 chosen c = choice (held (stay-in (scan c))) (c .before .choose .result) (c .before .before .find-blocked .result) (c .before .choose .ensures) (c .before .before .find-blocked .ensures)
 
-turned : (c : tie.Joined1) → let k = c .before in let b = k .before .choose .result in
-    Turned (held (stay-in (scan k))) _ _ refl (scan k .strengths .ensures) (b .number) (b .outputs) (b .covered) (chosen k) (c .if1 .path) (c .if1 .turn)
-turned c =
+judged : (c : tie.Joined1) → let k = c .before in let b = k .before .choose .result in
+    Judged (held (stay-in (scan k))) _ _ refl (scan k .strengths .ensures) (b .number) (b .outputs) (b .covered) (chosen k) (c .if1 .path) (c .if1 .verdict)
+judged c =
     ⊎-elim (λ w. inl (w .0 .taken, w .2 .result, w .2 .ensures, rw (w .10, w .11) (w .9 .ensures)))
     (λ w. inr (w .0 .left, w .2, ap length (w .1) ∙ begin (stay-in (scan (c .before))) .pre .3))
     (c .if1 .came)
@@ -165,7 +165,7 @@ returns-3 c =
     let t = c .before .before in
     let j = t .before .before in
     let k = j .before in
-    remove-looped (held (stay-in (scan k))) _ _ refl (scan k .strengths .ensures) _ _ _ (chosen k) _ _ (turned j) _ _ (begin (stay-in (scan k)) .pre .2) (t .enum-told4 .given .1) (c .unchanged2 .ensures)
+    remove-looped (held (stay-in (scan k))) _ _ refl (scan k .strengths .ensures) _ _ _ (chosen k) _ _ (judged j) _ _ (begin (stay-in (scan k)) .pre .2) (t .enum-told4 .given .1) (c .unchanged2 .ensures)
 
 no-link-requires-2 : tie.Need-no-link-requires-2
 no-link-requires-2 c κs = search needs
@@ -182,7 +182,7 @@ returns-4 c =
     let j = t .before in
     let k = j .before in
     let w = stay-in (scan k) in
-    remove-turned (held w) _ _ refl (scan k .strengths .ensures) _ _ _ (chosen k) _ _ (turned j) _ _ _ (n .no-link2 .ensures) (w .wide .ensures) (no-loop _ (t .match3 .keys2)) (c .step-of2 .ensures)
+    remove-reversed (held w) _ _ refl (scan k .strengths .ensures) _ _ _ (chosen k) _ _ (judged j) _ _ _ (n .no-link2 .ensures) (w .wide .ensures) (no-loop _ (t .match3 .keys2)) (c .step-of2 .ensures)
 
 pub remove-spec : {M : Type 1} → statement M
 remove-spec =

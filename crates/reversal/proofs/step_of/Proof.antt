@@ -2,14 +2,14 @@
 use mathlib.Core.Path.{sym, ap, _∙_}
 use mathlib.Core.Logic.{⊎-elim}
 use borrow.Author.Needs.{needs}
-use Rattle.reversal.specs.declared.Turn.{Turn}
+use Rattle.reversal.specs.declared.Verdict.{Verdict}
 use Rattle.reversal.specs.Reversals.{setterBy, countBy, fieldsBy}
-use Rattle.reversal.proofs.Turns.{no-path, step-is}
+use Rattle.reversal.proofs.Verdicts.{no-path, step-is}
 use Rattle.reversal.proofs.step_of.Statement.{statement}
 use Rattle.reversal.proofs.step_of.Tie as tie
 
-enum-known-turn : tie.Need-enum-known-turn
-enum-known-turn c = search needs
+enum-known-verdict : tie.Need-enum-known-verdict
+enum-known-verdict c = search needs
 
 held-field-requires : tie.Need-held-field-requires
 held-field-requires c κs = search needs
@@ -27,14 +27,14 @@ returns c =
     let u = c .before .union .ensures in
     let m = c .before .before .before .before .match in
     ⊎-elim
-    (λ w. step-is (s .args .turn) (s .args .n) _ (s .args .link) (s .args .held) (s .args .c) _ _ _ _ _ _
-    (w .3 ∙ sym (ap (λ (t : Turn). setterBy t (s .args .c)) (w .1 .given .1))) (w .4 ∙ sym (ap countBy (w .1 .given .1))) (w .5 ∙ sym (ap fieldsBy (w .1 .given .1))) h u (c .count-of .ensures))
+    (λ w. step-is (s .args .verdict) (s .args .n) _ (s .args .link) (s .args .held) (s .args .c) _ _ _ _ _ _
+    (w .3 ∙ sym (ap (λ (t : Verdict). setterBy t (s .args .c)) (w .1 .given .1))) (w .4 ∙ sym (ap countBy (w .1 .given .1))) (w .5 ∙ sym (ap fieldsBy (w .1 .given .1))) h u (c .count-of .ensures))
     (λ w.
-    let n = no-path (s .args .turn) (s .args .c) (w .0 .keys2) in
-    step-is (s .args .turn) (s .args .n) _ (s .args .link) (s .args .held) (s .args .c) _ _ _ _ _ _ (w .1 ∙ sym (n .0)) (w .2 ∙ sym (n .1)) (w .3 ∙ sym (n .2)) h u (c .count-of .ensures))
+    let n = no-path (s .args .verdict) (s .args .c) (w .0 .keys2) in
+    step-is (s .args .verdict) (s .args .n) _ (s .args .link) (s .args .held) (s .args .c) _ _ _ _ _ _ (w .1 ∙ sym (n .0)) (w .2 ∙ sym (n .1)) (w .3 ∙ sym (n .2)) h u (c .count-of .ensures))
     (m .came)
 
 pub step-of-spec : {M : Type 1} → statement M
 step-of-spec =
     tie.close
-    (tie.spec enum-known-turn held-field-requires union-requires count-of-requires returns)
+    (tie.spec enum-known-verdict held-field-requires union-requires count-of-requires returns)

@@ -4,7 +4,7 @@ use Prim.Native.Nat.{_-_, _<_}
 use native.Mathlib.Omega.{arith}
 use Rattle.fieldset.specs.Tables.{at}
 use Rattle.fieldset.proofs.Emptying.{first-falls}
-use Rattle.strength.proofs.Way.{Way, Scan, scan-pos, scan-pass, scan-found, scan-start, way-start, way-turn, way-stop}
+use Rattle.strength.proofs.Way.{Way, Scan, scan-pos, scan-pass, scan-found, scan-start, way-start, way-reversal, way-stop}
 use Rattle.strength.proofs.path_from.Statement.{statement}
 use Rattle.strength.proofs.path_from.Tie as tie
 
@@ -67,7 +67,7 @@ follow-less c = omega (arith, c .before .before .before .before .before .before 
 
 follow-again : tie.Need-follow-again Inv-scan μ-scan Inv-follow μ-follow
 follow-again c =
-    way-turn (c .before .before .before .before .before .before .before .before .before .pre .1) (c .before .before .before .before .before .before .before .follow .inv) (c .before .before .before .before .before .if1 .left)
+    way-reversal (c .before .before .before .before .before .before .before .before .before .pre .1) (c .before .before .before .before .before .before .before .follow .inv) (c .before .before .before .before .before .if1 .left)
     (scan-found (c .before .before .before .scan .inv) (c .before .before .first .ensures) (c .if2 .taken))
 
 returns : tie.Need-returns Inv-scan μ-scan Inv-follow μ-follow

@@ -18,10 +18,10 @@ use Rattle.fieldset.proofs.Tables.{length-tabulate}
 use Rattle.panel.specs.declared.Refusal.the-variants.{Loop}
 use Rattle.panel.specs.Commands.{performed}
 use Rattle.tables.proofs.Settings.{places}
-use Rattle.reversal.specs.declared.Turn.{Turn}
-use Rattle.reversal.specs.declared.Turn.the-variants.{Free, Looped}
+use Rattle.reversal.specs.declared.Verdict.{Verdict}
+use Rattle.reversal.specs.declared.Verdict.the-variants.{Free, Looped}
 use Rattle.reversal.specs.Reversals.{Resolved, stepOf}
-use Rattle.reversal.proofs.Turns.{no-loop}
+use Rattle.reversal.proofs.Verdicts.{no-loop}
 use Rattle.touching.proofs.Touching.{Touchable, touch-checks, small, front-legal, front-unresolved, touch-loop, touch-step, touch-idle}
 use Rattle.touching.proofs.touch.Statement.{statement}
 use Rattle.touching.proofs.touch.Tie as tie
@@ -58,11 +58,11 @@ touchable c =
     (touch-checks (p-of c) (s-of c .args .f)) .1)
 
 -- what was resolved, by the set, the path and the turn that the code then has
-resolves : (levels others : List ℕ) (n l m v : ℕ) (reads path path′ : List ℕ) (t u : Turn) → m ≡ only v → path′ ≡ path → t ≡ u
+resolves : (levels others : List ℕ) (n l m v : ℕ) (reads path path′ : List ℕ) (t u : Verdict) → m ≡ only v → path′ ≡ path → t ≡ u
     → Resolved levels others n l m m reads path t → Resolved levels others n l (only v) (only v) reads path′ u
 resolves levels others n l m v reads path path′ t u em ep et h =
     subst (λ (x : List ℕ). Resolved levels others n l (only v) (only v) reads x u) (sym ep)
-    (subst (λ (x : Turn). Resolved levels others n l (only v) (only v) reads path x) et
+    (subst (λ (x : Verdict). Resolved levels others n l (only v) (only v) reads path x) et
     (subst (λ (x : ℕ). Resolved levels others n l x x reads path t) em h))
 
 free-not-looped : Free ≡ Looped → ⊥
@@ -157,10 +157,10 @@ returns-3 c =
     let m = j .if1 in
     λ k same.
     rw (c .step-of .ensures)
-    (subst (λ (x : ℕ). Decides (p-of f) k (touching x) (m .path) (stepOf (m .turn) (p-of f .size) (f .to-front .last .0) (s-of f .args .named) Waiting 128)) (f .before .before .before .wide .ensures)
+    (subst (λ (x : ℕ). Decides (p-of f) k (touching x) (m .path) (stepOf (m .verdict) (p-of f .size) (f .to-front .last .0) (s-of f .args .named) Waiting 128)) (f .before .before .before .wide .ensures)
     (⊎-elim
     (λ w. touch-step (p-of f) (s-of f .pre .0) _ (touchable f) _ (f .to-front .ensures) (w .0 .taken) (s-of f .pre .1) (w .5 .ensures) (m .path) k _ same
-    (m .turn) (no-loop (m .turn) (e .match2 .keys2)) (resolves _ _ _ _ _ _ _ _ _ _ _ (w .6 .ensures) (w .10) (sym (w .11)) (w .9 .ensures)))
+    (m .verdict) (no-loop (m .verdict) (e .match2 .keys2)) (resolves _ _ _ _ _ _ _ _ _ _ _ (w .6 .ensures) (w .10) (sym (w .11)) (w .9 .ensures)))
     (λ w. rw (w .2) (touch-idle (p-of f) (s-of f .pre .0) _ (touchable f) _ (f .to-front .ensures) (w .0 .left) (m .path) (ap length (w .1) ∙ s-of f .pre .2) k _ same)) (m .came)))
 
 pub touch-spec : {M : Type 1} → statement M

@@ -1,4 +1,4 @@
--- A turn by its tag, and the step that it gives.
+-- A verdict by its tag, and the step that it gives.
 use Prim.Native.Nat.{ℕ}
 use mathlib.Core.Path.{_≡_, refl}
 use mathlib.Core.Logic.{_≢_, _⊎_, ⊎-elim}
@@ -10,31 +10,31 @@ use Rattle.panel.specs.declared.Standing.{Standing}
 use Rattle.panel.specs.declared.Link.{Link}
 use Rattle.panel.specs.declared.Reply.the-variants.{Accepted}
 use Rattle.panel.specs.declared.Step.{Step}
-use Rattle.reversal.specs.declared.Turn.{Turn}
-use Rattle.reversal.proofs.Turn.{the-type}
-use Rattle.reversal.specs.declared.Turn.the-variants.{Free, Looped, Path}
+use Rattle.reversal.specs.declared.Verdict.{Verdict}
+use Rattle.reversal.proofs.Verdict.{the-type}
+use Rattle.reversal.specs.declared.Verdict.the-variants.{Free, Looped, Path}
 use Rattle.reversal.specs.Reversals.{heldField, setterBy, countBy, fieldsBy, stepOf}
 
--- a turn that is no path
-pub no-path : (t : Turn) (c : ℕ) → (tagOf the-type t ≡ 0) ⊎ (tagOf the-type t ≡ 1) → (setterBy t c ≡ 128) × (countBy t ≡ 0) × (fieldsBy t ≡ 0)
+-- a verdict that is no path
+pub no-path : (t : Verdict) (c : ℕ) → (tagOf the-type t ≡ 0) ⊎ (tagOf the-type t ≡ 1) → (setterBy t c ≡ 128) × (countBy t ≡ 0) × (fieldsBy t ≡ 0)
 no-path Free c h = (refl, refl, refl)
 no-path Looped c h = (refl, refl, refl)
 no-path (Path k m) c h = absurd (⊎-elim (λ e. omega arith) (λ e. omega arith) h)
 
--- a turn that is no loop
-pub no-loop : (t : Turn) → (tagOf the-type t ≡ 0) ⊎ (tagOf the-type t ≡ 2) → t ≢ Looped
+-- a verdict that is no loop
+pub no-loop : (t : Verdict) → (tagOf the-type t ≡ 0) ⊎ (tagOf the-type t ≡ 2) → t ≢ Looped
 no-loop Free h e = let z : _≡_ {A = ℕ} 0 1 = cc in omega arith
 no-loop Looped h e = ⊎-elim (λ e. omega arith) (λ e. omega arith) h
 no-loop (Path k m) h e = let z : _≡_ {A = ℕ} 0 1 = cc in omega arith
 
--- a turn for which something is to be done
-pub no-free : (t : Turn) → (tagOf the-type t ≡ 1) ⊎ (tagOf the-type t ≡ 2) → t ≢ Free
+-- a verdict by which something is to be done
+pub no-free : (t : Verdict) → (tagOf the-type t ≡ 1) ⊎ (tagOf the-type t ≡ 2) → t ≢ Free
 no-free Free h e = ⊎-elim (λ e. omega arith) (λ e. omega arith) h
 no-free Looped h e = let z : _≡_ {A = ℕ} 0 1 = cc in omega arith
 no-free (Path k m) h e = let z : _≡_ {A = ℕ} 0 1 = cc in omega arith
 
 -- the step of the parts
-pub step-is : (t : Turn) (n : ℕ) (place : List ℕ) (link : Link) (held : Standing) (c s k m h u r : ℕ) → s ≡ setterBy t c → k ≡ countBy t → m ≡ fieldsBy t
+pub step-is : (t : Verdict) (n : ℕ) (place : List ℕ) (link : Link) (held : Standing) (c s k m h u r : ℕ) → s ≡ setterBy t c → k ≡ countBy t → m ≡ fieldsBy t
     → h ≡ heldField held → u ≡ union m h → r ≡ size u
     → _≡_ {A = Step} (record { reply = Accepted r; size = n; place = place; link = link; freed = held; setter = s; count = k; changed = u }) (stepOf t n place link held c)
 step-is t n place link held c s k m h u r es ek em eh eu er = rw (er, eu, es, ek, em, eh)

@@ -92,9 +92,9 @@ pub put-there : (st : ℕ → Item) (v : ℕ) (c : Item) (f : ℕ) → f ≢ v �
 put-there st v c f h = rw (ne-eqb f v h)
 
 -- c sets the first field of the path, the setter that stood there the next, and so on
-unfoldable pub turn : (ℕ → Item) → Item → List ℕ → ℕ → Item
-turn st c [] = st
-turn st c (v ∷ vs) = turn (put st v c) (st v) vs
+unfoldable pub reversedSetters : (ℕ → Item) → Item → List ℕ → ℕ → Item
+reversedSetters st c [] = st
+reversedSetters st c (v ∷ vs) = reversedSetters (put st v c) (st v) vs
 
 -- the item that is left over
 unfoldable pub left : (ℕ → Item) → Item → List ℕ → Item
@@ -291,8 +291,8 @@ pub holding-full : (p : Panel) (v : ℕ) (c : Item) → length (holding p c v .s
 holding-full p v c = rw (holding-setter p v c) (length-set (p .setter) v (numberOf c))
 
 pub reversed-setters : (p : Panel) (c : Item) (vs : List ℕ) → length (p .setter) ≡ 64 → Fits (setterOf (p .setter)) c vs
-    → setterOf (reversed p c vs .setter) ≡ turn (setterOf (p .setter)) c vs
-unfolding reversed turn
+    → setterOf (reversed p c vs .setter) ≡ reversedSetters (setterOf (p .setter)) c vs
+unfolding reversed reversedSetters
 reversed-setters p c [] full h = ap setterOf (waiting-setter p c)
 reversed-setters p c (v ∷ vs) full (l, fit, h) =
     let e = holding-sets p v c full l fit in
