@@ -22,12 +22,12 @@ use Rattle.panel.specs.Panels.{withLink, withSetter, freed, dropped}
 use Rattle.panel.specs.Solution.{level, strengthOf, isBlocked, pathFor, leastBlocked}
 use Rattle.panel.specs.Steps.{settled, dropStep, removeStep}
 use Rattle.panel.specs.Legal.{Legal}
-use Rattle.panel.proofs.InForce.{unused-off, waiting-force}
+use Rattle.panel.proofs.InForce.{waiting-force}
 use Rattle.panel.proofs.Reversed.{put, same-item, link-here, set-setter, number-setter}
 use Rattle.panel.proofs.Legal.{LegalBut}
 use Rattle.panel.proofs.Setters.{waits-idle}
 use Rattle.panel.proofs.Reversal.{blocking, startOf, legal-waits}
-use Rattle.panel.proofs.Changes.{legal-dropped}
+use Rattle.panel.proofs.Changes.{Aside, none-aside, legal-aside}
 use Rattle.optimality.specs.Condition3.{Store, entry}
 use Rattle.optimality.specs.Agreement.{Agrees, Sound}
 use Rattle.optimality.proofs.Setters.{Graph, Waits, Free, Unblocked}
@@ -41,7 +41,7 @@ use Rattle.optimality.proofs.Steps.{SoundAfter, reverse-sound, there, l
 
 -- a link is replaced by one that is not in force, of no higher level and no other outputs
 module _ (b : Store) (p : Panel) (x : Sound b p) (id : ℕ) (lt : id < 128) (used : linkAt (p .links) id .used ≡ true)
-    (l : Link) (off : isInForce l ≡ false) (low : l .level ≤ linkAt (p .links) id .level)
+    (l : Link) (a : Aside (p .size) l) (low : l .level ≤ linkAt (p .links) id .level)
     (fewer : (u : ℕ) → member (l .outputs) u ≡ true → member (linkAt (p .links) id .outputs) u ≡ true) where
   abbrev b′ : Store
   b′ = entry b id none
@@ -50,14 +50,15 @@ module _ (b : Store) (p : Panel) (x : Sound b p) (id : ℕ) (lt : id < 128) (use
   gone = link-here (p .links) id l (omega (arith, x .legal .links-length))
 
   never : inForce (p .size) (set (p .links) id l) (link id) ≡ true → ⊥
-  never u = clash u (ap isInForce gone ∙ off)
+  never u = clash u (ap isInForce gone ∙ a .off)
 
   left-agrees : Agrees b′ (withLink p id l)
-  left-agrees = agrees-link b p id l none (rw off) (omega (arith, x .legal .links-length)) (x .agrees)
+  left-agrees = agrees-link b p id l none (rw (a .off)) (omega (arith, x .legal .links-length)) (x .agrees)
 
   -- the link waits
-  drop-waiting : linkAt (p .links) id .standing ≡ Waiting → Legal (withLink p id l) → Sound b′ (withLink p id l)
-  drop-waiting e k =
+  drop-waiting : linkAt (p .links) id .standing ≡ Waiting → Sound b′ (withLink p id l)
+  drop-waiting e =
+      let k = legal-aside p id l a (x .legal) lt Waiting e in
       record {
         legal = k;
         agrees = left-agrees;
@@ -69,9 +70,12 @@ module _ (b : Store) (p : Panel) (x : Sound b p) (id : ℕ) (lt : id < 128) (use
       }
 
   -- the link holds v
-  module _ (v : ℕ) (holds : linkAt (p .links) id .standing ≡ Holding v) (q-legal : Legal (withSetter (withLink p id l) v 128)) where
+  module _ (v : ℕ) (holds : linkAt (p .links) id .standing ≡ Holding v) where
     abbrev q : Panel
     q = withSetter (withLink p id l) v 128
+
+    q-legal : Legal q
+    q-legal = legal-aside p id l a (x .legal) lt (Holding v) holds
 
     k : LegalBut (stay (q .size)) q
     k = legal-whole q q-legal
@@ -170,14 +174,13 @@ module _ (b : Store) (p : Panel) (x : Sound b p) (id : ℕ) (lt : id < 128) (use
         go none a = none-sound a
         go (some d) a = some-sound d (a .0) (a .1)
 
-  pub drop-sound : (s : Standing) → linkAt (p .links) id .standing ≡ s → Legal (freed (withLink p id l) s)
-      → SoundAfter b b′ (dropStep p (freed (withLink p id l) s) s)
-  drop-sound Waiting e k = drop-waiting e k
-  drop-sound (Holding v) e k = settled-sound v e k
+  pub drop-sound : (s : Standing) → linkAt (p .links) id .standing ≡ s → SoundAfter b b′ (dropStep p (freed (withLink p id l) s) s)
+  drop-sound Waiting e = drop-waiting e
+  drop-sound (Holding v) e = settled-sound v e
 
 pub remove-sound : (b : Store) (p : Panel) → Sound b p → (id : ℕ) → id < 128 → linkAt (p .links) id .used ≡ true
     → SoundAfter b (entry b id none) (removeStep p id)
 unfolding removeStep dropped
 remove-sound b p x id lt used =
-    drop-sound b p x id lt used noLink (unused-off noLink refl) (omega arith) (λ u o. absurd (clash o (member-empty u))) (linkAt (p .links) id .standing) refl
-    (legal-dropped p id (x .legal) lt)
+    drop-sound b p x id lt used noLink (none-aside (p .size)) (omega arith) (λ u o. absurd (clash o (member-empty u)))
+    (linkAt (p .links) id .standing) refl

@@ -152,25 +152,32 @@ legal-add p i l h a =
 pub legal-but : (p : Panel) (c : Item) → LegalBut c p → Weak (p .links) c → Legal p
 legal-but p c h weak = legal p c (h .carrying) (h .rests) weak (h .loopless)
 
--- the link is dropped, and nothing was set by it
-drop-link : (p : Panel) (i : ℕ) → i < 128 → Carrying (link i) p → isLooped p ≡ false → Legal (withLink p i noLink)
-drop-link p i small h e =
-    let gone : linkAt (set (p .links) i noLink) i ≡ noLink = link-here (p .links) i noLink (omega (arith, h .filled .full)) in
-    legal (withLink p i noLink) (link i) (carrying-link p i noLink h (good-none (p .size))) (rw gone refl)
-    (λ u z. clash (rw gone at u) (unused-off noLink refl)) (loopless-link p i noLink h e)
+-- a link that may stand in a panel of n fields and is not in force
+pub record Aside (n : ℕ) (l : Link) : Type 0 where
+  pub good : Good n l
+  pub off : isInForce l ≡ false
+  pub rests : l .standing ≡ Waiting
 
--- a link that waits is dropped
-legal-drop : (p : Panel) (i : ℕ) → Legal p → i < 128 → linkAt (p .links) i .standing ≡ Waiting → Legal (withLink p i noLink)
-legal-drop p i h small rests =
-    drop-link p i small (carrying p (link i) h (λ f l e. never f (whole p h .held .sets f i l e .holds))) (h .loopless)
+-- it takes the number of a link by which nothing was set
+aside-link : (p : Panel) (i : ℕ) (l : Link) → Aside (p .size) l → i < 128 → Carrying (link i) p → isLooped p ≡ false → Legal (withLink p i l)
+aside-link p i l a small h e =
+    let here : linkAt (set (p .links) i l) i ≡ l = link-here (p .links) i l (omega (arith, h .filled .full)) in
+    legal (withLink p i l) (link i) (carrying-link p i l h (a .good)) (ap (λ (x : Link). x .standing) here ∙ a .rests)
+    (λ u z. clash (rw here at u) (a .off)) (loopless-link p i l h e)
+
+-- of a link that waits
+aside-waiting : (p : Panel) (i : ℕ) (l : Link) → Aside (p .size) l → Legal p → i < 128 → linkAt (p .links) i .standing ≡ Waiting → Legal (withLink p i l)
+aside-waiting p i l a h small rests =
+    aside-link p i l a small (carrying p (link i) h (λ f l e. never f (whole p h .held .sets f i l e .holds))) (h .loopless)
   where
     never : (f : ℕ) → linkAt (p .links) i .standing ≡ Holding f → ⊥
     never f e = let z : _≡_ {A = ℕ} 0 1 = cc in omega arith
 
--- a link that holds v is dropped, and v's stay sets v
-legal-free : (p : Panel) (i v : ℕ) → Legal p → i < 128 → linkAt (p .links) i .standing ≡ Holding v → Legal (withSetter (withLink p i noLink) v 128)
+-- of a link that holds v, and v's stay sets v
+aside-holding : (p : Panel) (i v : ℕ) (l : Link) → Aside (p .size) l → Legal p → i < 128 → linkAt (p .links) i .standing ≡ Holding v
+    → Legal (withSetter (withLink p i l) v 128)
 unfolding isLooped
-legal-free p i v h small holds = drop-link q i small (subst (λ (c : Item). Carrying c q) was step) less
+aside-holding p i v l a h small holds = aside-link q i l a small (subst (λ (c : Item). Carrying c q) was step) less
   where
     q : Panel
     q = withSetter p v 128
@@ -206,13 +213,17 @@ legal-free p i v h small holds = drop-link q i small (subst (λ (c : Item). Carr
         no-loop-within (setterReads p) (setterReads q) (p .size) (setter-reads-inside p (stay v) start)
         (λ g f l m e. fewer g f (rw now at e) (ℕ-discrete g v)) (h .loopless)
 
+pub legal-aside : (p : Panel) (i : ℕ) (l : Link) → Aside (p .size) l → Legal p → i < 128 → (s : Standing) → linkAt (p .links) i .standing ≡ s
+    → Legal (freed (withLink p i l) s)
+legal-aside p i l a h small Waiting e = aside-waiting p i l a h small e
+legal-aside p i l a h small (Holding v) e = aside-holding p i v l a h small e
+
+pub none-aside : (n : ℕ) → Aside n noLink
+none-aside n = record { good = good-none n; off = unused-off noLink refl; rests = refl }
+
 pub legal-dropped : (p : Panel) (i : ℕ) → Legal p → i < 128 → Legal (dropped p i)
 unfolding dropped
-legal-dropped p i h small = go (linkAt (p .links) i .standing) refl
-  where
-    go : (s : Standing) → linkAt (p .links) i .standing ≡ s → Legal (freed (withLink p i noLink) s)
-    go Waiting e = legal-drop p i h small e
-    go (Holding v) e = legal-free p i v h small e
+legal-dropped p i h small = legal-aside p i noLink (none-aside (p .size)) h small (linkAt (p .links) i .standing) refl
 
 -- ---- a stay moved to the front
 

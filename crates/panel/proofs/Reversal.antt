@@ -21,7 +21,7 @@ use Rattle.panel.specs.Items.{Item, link, stay, linkAt, setterOf, output
 use Rattle.panel.specs.Panels.{holding}
 use Rattle.panel.specs.Solution.{level, setterLevel, setterOthers, strengthOf, isBlocked, pathFor, reversed, isLooped}
 use Rattle.panel.specs.Legal.{Legal}
-use Rattle.panel.proofs.Reversed.{put, put-here, put-there, reversedSetters, left, left-last, Off, alike-outputs, holding-size, holding-alike, holding-same, waiting-same, holding-sets, reversed-alike, reversed-setters, Fit, Fits}
+use Rattle.panel.proofs.Reversed.{put, put-here, put-there, reversedSetters, left, left-last, Off, alike-outputs, holding-size, holding-alike, holding-same, waiting-same, holding-sets, reversed-level, reversed-setters, Fit, Fits}
 use Rattle.panel.proofs.Legal.{Carrying, Rests, Weak, LegalBut, legal, carrying, held-force, force-fit, carrying-step, carrying-waiting, waiting-rests}
 use Rattle.panel.proofs.Setters.{whole, outputs-inside, others-out, others-inside, setter-ranked, setter-falls, rests-waiting, waits-idle, waits-force}
 
@@ -112,7 +112,7 @@ module _ (p : Panel) (c : Item) (vs : List ℕ) (h : Carrying c p) (route : Rout
       (weak (left (setterOf (p .setter)) c vs) (route .ends)) loopless
     where
       weak : (d : Item) → 0 < level p d → Weak (reversed p c vs .links) d
-      weak (link i) l = λ k e. omega (arith, reversed-alike p c vs i .level)
+      weak (link i) l = λ k e. omega (arith, reversed-level p c vs (p .place) (link i))
       weak (stay f) l = tt
 
 -- ---- the path for a blocked item

@@ -12,6 +12,7 @@ use lib.ListN.{length, set, length-set}
 use lib.Seq.{getD-set-same, getD-set-other, set-out}
 use Rattle.fieldset.specs.Tables.{at}
 use Rattle.fieldset.specs.Lists.{All, Distinct}
+use Rattle.fieldset.specs.Fields.{without}
 use Rattle.strength.specs.Filling.{lastOf}
 use Rattle.panel.specs.declared.Standing.{Standing}
 use Rattle.panel.specs.declared.Standing.the-variants.{Waiting, Holding}
@@ -120,24 +121,13 @@ left-last st c v (w ∷ vs) (a, b) =
 
 -- ---- the links
 
--- level and fields agree
-pub record Alike (l m : Link) : Type 0 where
-  pub covered : l .covered ≡ m .covered
-  pub outputs : l .outputs ≡ m .outputs
-  pub level : l .level ≡ m .level
+-- a link's level and fields
+abbrev parts : Link → ℕ × ℕ × ℕ
+parts l = (l .level, l .covered, l .outputs)
 
+-- links of the same levels and fields
 abbrev pub AllAlike : List Link → List Link → Type 0
-AllAlike a b = (i : ℕ) → Alike (linkAt a i) (linkAt b i)
-
-pub all-alike-refl : (a : List Link) → AllAlike a a
-all-alike-refl a i = record { covered = refl; outputs = refl; level = refl }
-
-alike-trans : {l m k : Link} → Alike l m → Alike m k → Alike l k
-alike-trans a b = record {
-  covered = a .covered ∙ b .covered;
-  outputs = a .outputs ∙ b .outputs;
-  level = a .level ∙ b .level;
-}
+AllAlike a b = (i : ℕ) → parts (linkAt a i) ≡ parts (linkAt b i)
 
 -- another link of a number, read where it was put, and elsewhere
 pub link-here : (a : List Link) (i : ℕ) (l : Link) → i < length a → linkAt (set a i l) i ≡ l
@@ -158,13 +148,7 @@ set-shares of a i l e j = go (ℕ-discrete j i) (decLt i (length a))
 
 -- a link at another standing
 set-alike : (a : List Link) (i : ℕ) (s : Standing) → AllAlike (set a i (standing (linkAt a i) s)) a
-set-alike a i s j =
-    let l = standing (linkAt a i) s in
-    record {
-      covered = set-shares (λ l. l .covered) a i l refl j;
-      outputs = set-shares (λ l. l .outputs) a i l refl j;
-      level = set-shares (λ l. l .level) a i l refl j;
-    }
+set-alike a i s = set-shares parts a i (standing (linkAt a i) s) refl
 
 set-force : (a : List Link) (i : ℕ) (l : Link) → isInForce l ≡ true → isInForce (linkAt a i) ≡ true → (n : ℕ) (d : Item)
     → inForce n (set a i l) d ≡ inForce n a d
@@ -173,15 +157,15 @@ set-force a i l e u n (stay f) = refl
 
 module _ (a b : List Link) (h : AllAlike a b) where
   pub alike-level : (place : List ℕ) (d : Item) → levelOf a place d ≡ levelOf b place d
-  alike-level place (link i) = h i .level
+  alike-level place (link i) = ap (λ (x : ℕ × ℕ × ℕ). x .0) (h i)
   alike-level place (stay f) = refl
 
   pub alike-outputs : (d : Item) → outputsOf a d ≡ outputsOf b d
-  alike-outputs (link i) = h i .outputs
+  alike-outputs (link i) = ap (λ (x : ℕ × ℕ × ℕ). x .2) (h i)
   alike-outputs (stay f) = refl
 
   pub alike-reads : (d : Item) (f : ℕ) → readsOf a d f ≡ readsOf b d f
-  alike-reads (link i) f = rw (h i .covered)
+  alike-reads (link i) f = ap (λ (x : ℕ × ℕ × ℕ). without (x .1) f) (h i)
   alike-reads (stay g) f = refl
 
 -- ---- one item holds a field
@@ -201,7 +185,7 @@ module _ (p : Panel) (v : ℕ) where
 
   pub holding-alike : (c : Item) → AllAlike (holding p c v .links) (p .links)
   holding-alike (link i) = set-alike (p .links) i (Holding v)
-  holding-alike (stay g) = all-alike-refl (p .links)
+  holding-alike (stay g) = λ i. refl
 
   -- the same items are in force
   pub holding-same : (c : Item) → inForce (p .size) (p .links) c ≡ true → (n : ℕ) (d : Item) → inForce n (holding p c v .links) d ≡ inForce n (p .links) d
@@ -223,7 +207,7 @@ module _ (p : Panel) where
 
   pub waiting-alike : (c : Item) → AllAlike (waiting p c .links) (p .links)
   waiting-alike (link i) = set-alike (p .links) i Waiting
-  waiting-alike (stay g) = all-alike-refl (p .links)
+  waiting-alike (stay g) = λ i. refl
 
   pub waiting-same : (c : Item) → inForce (p .size) (p .links) c ≡ true → (n : ℕ) (d : Item) → inForce n (waiting p c .links) d ≡ inForce n (p .links) d
   waiting-same (link i) u = set-force (p .links) i _ (waiting-force _ (force-used _ u) refl) u
@@ -244,7 +228,7 @@ reversed-place p c (v ∷ vs) = reversed-place (holding p c v) (setterOf (p .set
 pub reversed-alike : (p : Panel) (c : Item) (vs : List ℕ) → AllAlike (reversed p c vs .links) (p .links)
 unfolding reversed
 reversed-alike p c [] i = waiting-alike p c i
-reversed-alike p c (v ∷ vs) i = alike-trans (reversed-alike (holding p c v) (setterOf (p .setter) v) vs i) (holding-alike p v c i)
+reversed-alike p c (v ∷ vs) i = reversed-alike (holding p c v) (setterOf (p .setter) v) vs i ∙ holding-alike p v c i
 
 module _ (p : Panel) (c : Item) (vs : List ℕ) where
   pub reversed-level : (place : List ℕ) (d : Item) → levelOf (reversed p c vs .links) place d ≡ levelOf (p .links) place d
