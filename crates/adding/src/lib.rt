@@ -107,7 +107,16 @@ pub fn add(
     if let Reply::Refused(_) = reply {
         return unchanged(n, &place, old, reply);
     }
-    let verdict = resolve(levels, others, reads, n, level, fields.outputs, fields.covered, path);
+    let verdict = resolve(
+        levels,
+        others,
+        reads,
+        n,
+        level,
+        fields.outputs,
+        fields.covered,
+        path,
+    );
     if let Verdict::Looped = verdict {
         return unchanged(n, &place, old, Reply::Refused(Refusal::Loop));
     }
@@ -116,5 +125,12 @@ pub fn add(
             return unchanged(n, &place, old, Reply::Refused(Refusal::Conflict));
         }
     }
-    step_of(verdict, n, &place, waiting_link(level, fields), Standing::Waiting, id)
+    step_of(
+        verdict,
+        n,
+        &place,
+        waiting_link(level, fields),
+        Standing::Waiting,
+        id,
+    )
 }

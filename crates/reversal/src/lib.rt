@@ -106,7 +106,18 @@ pub fn resolve(
     if s <= level {
         return Verdict::Free;
     }
-    decide(levels, others, &table, n, top.known, s, outputs, covered, reads, path)
+    decide(
+        levels,
+        others,
+        &table,
+        n,
+        top.known,
+        s,
+        outputs,
+        covered,
+        reads,
+        path,
+    )
 }
 
 // The set of the field that an item of this standing holds.
@@ -129,7 +140,14 @@ fn count_of(set: u64) -> u8
 
 // The step that leaves so many fields, these places and this link, gives free what a link of this standing held, and reverses the path for the item
 // of the number c. The fields that are given free and those of the path get another setter.
-pub fn step_of(verdict: Verdict, n: usize, place: &[u8; 64], link: Link, held: Standing, c: u8) -> Step
+pub fn step_of(
+    verdict: Verdict,
+    n: usize,
+    place: &[u8; 64],
+    link: Link,
+    held: Standing,
+    c: u8,
+) -> Step
     requires { ⌜ (length (now place) ≡ 64) × HeldField held ⌝ }
     ensures { λ r. ⌜ r ≡ stepOf verdict n (now (place .entry)) link held c ⌝ }
 {

@@ -104,7 +104,17 @@ fn decide_line(
             let frame = line.frame;
             let len = line.len;
             let bytes = &frame[..len];
-            adding::add(p, named, levels, others, reads, id, level, &bytes[3..], path)
+            adding::add(
+                p,
+                named,
+                levels,
+                others,
+                reads,
+                id,
+                level,
+                &bytes[3..],
+                path,
+            )
         }
         Command::Remove(_) => keep(p, named, Reply::Accepted(0)),
         Command::Touch(f) => touching::touch(p, named, levels, others, reads, f, path),
@@ -147,8 +157,25 @@ fn answer_lines(
         let named = q.links[k];
         // a removal scans all links: it stands here, since in decide_line it would have the panel copied for every line
         let step = match command {
-            Command::Remove(id) => removing::remove(q, named, &levels, &others, &reads, id, &mut path),
-            _ => decide_line(q, named, &levels, &others, &reads, line, &mut path, &mut rows),
+            Command::Remove(id) => removing::remove(
+                q,
+                named,
+                &levels,
+                &others,
+                &reads,
+                id,
+                &mut path,
+            ),
+            _ => decide_line(
+                q,
+                named,
+                &levels,
+                &others,
+                &reads,
+                line,
+                &mut path,
+                &mut rows,
+            ),
         };
         // the panel takes the step
         let place = step.place;
@@ -160,7 +187,16 @@ fn answer_lines(
         stay_levels(&mut levels, &setter, &place);
         let freed = step.freed;
         if step.changed != 0 {
-            q = reverse(q, freed, step.setter, &path, step.count, &mut levels, &mut others, &mut reads);
+            q = reverse(
+                q,
+                freed,
+                step.setter,
+                &path,
+                step.count,
+                &mut levels,
+                &mut others,
+                &mut reads,
+            );
         }
         let reply = step.reply;
         let count = rest_of(command, reply);

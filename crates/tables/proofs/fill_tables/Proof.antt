@@ -63,7 +63,7 @@ loop-again c =
     let k = c .before .before .before .before .before .loop-test .taken in (
       omega arith,
       tabled-set _ _ (a .loop .f) (a .loop .f + 1) (a .loop .f) _ _ _ k (λ f x y z l ne. (omega arith, λ s. s))
-      (entry-setting _ (a .loop .f) _ _ _ _ refl (rw (c .before .before .before .wide .ensures) refl) refl (c .setter-entry .ensures)) (a .loop .inv .1),
+          (entry-setting _ (a .loop .f) _ _ _ _ refl (rw (c .before .before .before .wide .ensures) refl) refl (c .setter-entry .ensures)) (a .loop .inv .1),
     )
 
 returns : tie.Need-returns Inv-loop μ-loop
