@@ -4,6 +4,7 @@ use panel::Link;
 use panel::Panel;
 use panel::STAY;
 use panel::Standing;
+use panel::Step;
 use tables::setter_entry;
 ghost use mathlib.Core.Path.{_≡_};
 ghost use mathlib.Core.Bool.{cond};
@@ -41,20 +42,19 @@ fn number_of(c: u8) -> u8
     if c < STAY { c } else { STAY }
 }
 
-// The panel with what a dropped link held set by its stay, and then a path reversed, with its tables.
+// The panel with what a step's dropped link held set by its stay, and then the step's path reversed, with its tables.
 pub fn reverse(
     mut p: Panel,
-    held: Standing,
-    setter: u8,
+    step: Step,
     path: &[u8; 64],
-    count: usize,
     levels: &mut [u8; 64],
     others: &mut [u64; 64],
     reads: &mut [u64; 64],
 ) -> Panel
-    requires { ⌜ PathOf (now path) count × Places (p .place) × TabledBut p held (now levels) (now others) (now reads) ⌝ }
-    ensures { λ r. ⌜ (r ≡ reversed (freed p held) (itemOf setter (at (now (path .entry)) 0)) (take count (now (path .entry)))) × Tabled r (now (levels .exit)) (now (others .exit)) (now (reads .exit)) ⌝ }
+    requires { ⌜ PathOf (now path) (step .count) × Places (p .place) × TabledBut p (step .freed) (now levels) (now others) (now reads) ⌝ }
+    ensures { λ r. ⌜ (r ≡ reversed (freed p (step .freed)) (itemOf (step .setter) (at (now (path .entry)) 0)) (take (step .count) (now (path .entry)))) × Tabled r (now (levels .exit)) (now (others .exit)) (now (reads .exit)) ⌝ }
 {
+    let held = step.freed;
     if let Standing::Holding(v) = held {
         let f = wide(v);
         p.setter[f] = STAY;
@@ -62,7 +62,8 @@ pub fn reverse(
         others[f] = 0;
         reads[f] = 0;
     }
-    let mut c = setter;
+    let count = step.count;
+    let mut c = step.setter;
     let mut i: usize = 0;
     while i < count {
         let f = path[i];

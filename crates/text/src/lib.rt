@@ -7,6 +7,7 @@ use panel::Panel;
 use panel::Reply;
 use panel::Step;
 use panel::unchanged;
+use removing::remove;
 use tables::fill_tables;
 use tables::stay_levels;
 use taking::reverse;
@@ -154,28 +155,11 @@ fn answer_lines(
         let line = frames::read_line(&text[at..end]);
         let command = line.command;
         let k = wide(frames::number_of(command));
-        let named = q.links[k];
+        let old = q.links[k];
         // a removal scans all links: it stands here, since in decide_line it would have the panel copied for every line
         let step = match command {
-            Command::Remove(id) => removing::remove(
-                q,
-                named,
-                &levels,
-                &others,
-                &reads,
-                id,
-                &mut path,
-            ),
-            _ => decide_line(
-                q,
-                named,
-                &levels,
-                &others,
-                &reads,
-                line,
-                &mut path,
-                &mut rows,
-            ),
+            Command::Remove(id) => remove(q, old, &levels, &others, &reads, id, &mut path),
+            _ => decide_line(q, old, &levels, &others, &reads, line, &mut path, &mut rows),
         };
         // the panel takes the step
         let place = step.place;
@@ -185,18 +169,8 @@ fn answer_lines(
         q.place = place;
         q.links[k] = link;
         stay_levels(&mut levels, &setter, &place);
-        let freed = step.freed;
         if step.changed != 0 {
-            q = reverse(
-                q,
-                freed,
-                step.setter,
-                &path,
-                step.count,
-                &mut levels,
-                &mut others,
-                &mut reads,
-            );
+            q = reverse(q, step, &path, &mut levels, &mut others, &mut reads);
         }
         let reply = step.reply;
         let count = rest_of(command, reply);

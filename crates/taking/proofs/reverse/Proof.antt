@@ -13,10 +13,10 @@ use Rattle.taking.proofs.reverse.Statement.{statement}
 use Rattle.taking.proofs.reverse.Tie as tie
 
 abbrev Inv-loop : tie.InvT-loop
-Inv-loop setter path count levels₀ others₀ reads₀ p₀ c₀ i₀ levels others reads p c i = Reversing count path (reversed p₀ (itemOf setter (at path 0)) (take count path)) p c i levels others reads
+Inv-loop path levels₀ others₀ reads₀ p₀ count c₀ i₀ levels others reads p c i = Reversing count path (reversed p₀ (itemOf c₀ (at path 0)) (take count path)) p c i levels others reads
 
 abbrev μ-loop : tie.MeasureT-loop
-μ-loop setter path count levels₀ others₀ reads₀ p₀ c₀ i₀ levels others reads p c i = count - i
+μ-loop path levels₀ others₀ reads₀ p₀ count c₀ i₀ levels others reads p c i = count - i
 
 -- the field that a dropped link held, and the next field of the path
 freed-field : (c : tie.After-wide Inv-loop μ-loop) → c .wide .result < 64
@@ -64,7 +64,7 @@ enum-told c = search needs
 
 -- what the loop starts from
 starts : (c : tie.At-match-came Inv-loop μ-loop)
-    → Starts (c .before .args .count) (c .before .args .path .now) (c .before .args .setter) (c .before .args .t1) (c .before .args .held)
+    → Starts (c .before .args .step .count) (c .before .args .path .now) (c .before .args .step .setter) (c .before .args .t1) (c .before .args .step .freed)
     (c .match .p) (c .match .levels) (c .match .others) (c .match .reads)
 starts c =
     let s = c .before in
@@ -141,7 +141,7 @@ loop-again c =
     let w = e .before .before .before .before .before in
     let a = w .before .before .before in
     let s = a .before .before in
-    reversing-next (s .args .count) (s .args .path .now) (omega arith) (a .loop .inv) (w .before .before .loop-test .taken) (s .pre .0 .fields (a .loop .i) (w .before .before .loop-test .taken)) (w .wide2 .ensures) (e .before .before .before .wide3 .ensures) (c .before .standing-of .ensures) (c .number-of .ensures) (e .setter-entry .ensures)
+    reversing-next (s .args .step .count) (s .args .path .now) (omega arith) (a .loop .inv) (w .before .before .loop-test .taken) (s .pre .0 .fields (a .loop .i) (w .before .before .loop-test .taken)) (w .wide2 .ensures) (e .before .before .before .wide3 .ensures) (c .before .standing-of .ensures) (c .number-of .ensures) (e .setter-entry .ensures)
 
 wide-requires-4 : tie.Need-wide-requires-4 Inv-loop μ-loop
 wide-requires-4 c κs = search needs
@@ -166,7 +166,7 @@ returns c =
     let w = c .before .before in
     let a = w .before .before in
     let s = a .before .before in
-    let r = reversing-ends (s .args .count) (s .args .path .now) (omega arith) (a .loop .inv) (w .before .loop-test .left) (w .wide4 .ensures) (c .standing-of2 .ensures) in
+    let r = reversing-ends (s .args .step .count) (s .args .path .now) (omega arith) (a .loop .inv) (w .before .loop-test .left) (w .wide4 .ensures) (c .standing-of2 .ensures) in
     (r .0 ∙ rw (starts (a .before) .0) refl, r .1)
 
 pub reverse-spec : {M : Type 1} → statement M

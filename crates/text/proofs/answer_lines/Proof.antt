@@ -43,32 +43,32 @@ abbrev s-of : tie.After-reads Inv-loop μ-loop → tie.Start Inv-loop μ-loop
 s-of c = c .before .before .before .before .before
 
 -- the link that the command names is known, from there the line that was read, the line's end, and the loop's test
-abbrev read-of : tie.After-named Inv-loop μ-loop → tie.After-read-line Inv-loop μ-loop
+abbrev read-of : tie.After-old Inv-loop μ-loop → tie.After-read-line Inv-loop μ-loop
 read-of c = c .before .before .before
 
-abbrev end-of : tie.After-named Inv-loop μ-loop → tie.After-line-end Inv-loop μ-loop
+abbrev end-of : tie.After-old Inv-loop μ-loop → tie.After-line-end Inv-loop μ-loop
 end-of c = read-of c .before .before
 
-abbrev loop-of : tie.After-named Inv-loop μ-loop → tie.At-loop Inv-loop μ-loop
+abbrev loop-of : tie.After-old Inv-loop μ-loop → tie.At-loop Inv-loop μ-loop
 loop-of c = end-of c .before .before .before
 
 abbrev text-of : tie.At-loop Inv-loop μ-loop → List ℕ
 text-of c = s-of (c .before .before) .args .text .now
 
-is-legal : (c : tie.After-named Inv-loop μ-loop) → Legal (loop-of c .loop .q)
+is-legal : (c : tie.After-old Inv-loop μ-loop) → Legal (loop-of c .loop .q)
 is-legal c = loop-of c .loop .inv .3 .legal
 
 number-small : (c : tie.After-wide Inv-loop μ-loop) → c .wide .result < 128
 number-small c = omega (arith, c .wide .ensures, c .before .number-of .ensures .1)
 
 -- the link of the command's number
-abbrev command-of : tie.After-named Inv-loop μ-loop → Command
+abbrev command-of : tie.After-old Inv-loop μ-loop → Command
 command-of c = read-of c .read-line .result .command
 
-number-is : (c : tie.After-named Inv-loop μ-loop) → c .before .wide .result ≡ numberOf (command-of c)
+number-is : (c : tie.After-old Inv-loop μ-loop) → c .before .wide .result ≡ numberOf (command-of c)
 number-is c = c .before .wide .ensures ∙ c .before .before .number-of .ensures .0
 
-named-at : (c : tie.After-named Inv-loop μ-loop) → linkAt (loop-of c .loop .q .links) (c .before .wide .result) ≡ linkAt (loop-of c .loop .q .links) (numberOf (command-of c))
+named-at : (c : tie.After-old Inv-loop μ-loop) → linkAt (loop-of c .loop .q .links) (c .before .wide .result) ≡ linkAt (loop-of c .loop .q .links) (numberOf (command-of c))
 named-at c = ap (linkAt (loop-of c .loop .q .links)) (number-is c)
 
 -- where the line ends, and where the next begins
@@ -105,11 +105,11 @@ number-of-requires c κs = search needs
 wide-requires : tie.Need-wide-requires Inv-loop μ-loop
 wide-requires c κs = search needs
 
-mul-named : tie.Need-mul-named Inv-loop μ-loop
-mul-named c = omega (arith, number-small c)
+mul-old : tie.Need-mul-old Inv-loop μ-loop
+mul-old c = omega (arith, number-small c)
 
-element-copy-out-named : tie.Need-element-copy-out-named Inv-loop μ-loop
-element-copy-out-named c = omega (arith, number-small c)
+element-copy-out-old : tie.Need-element-copy-out-old Inv-loop μ-loop
+element-copy-out-old c = omega (arith, number-small c)
 
 enum-known-command : tie.Need-enum-known-command Inv-loop μ-loop
 enum-known-command c = search needs
@@ -130,13 +130,13 @@ decide-line-requires c κs =
 -- ---- the step of the line, and the panel that has taken it
 
 -- the arms of the match meet
-abbrev named-of : tie.After-setter Inv-loop μ-loop → tie.After-named Inv-loop μ-loop
+abbrev named-of : tie.After-setter Inv-loop μ-loop → tie.After-old Inv-loop μ-loop
 named-of c = c .before .before .before .before
 
 abbrev met-of : tie.After-stay-levels Inv-loop μ-loop → tie.At-match-came Inv-loop μ-loop
 met-of c = c .before .before .before .before .before .before .before
 
-abbrev fields-at : tie.After-named Inv-loop μ-loop → List ℕ
+abbrev fields-at : tie.After-old Inv-loop μ-loop → List ℕ
 fields-at c = fieldsOf (read-of c .read-line .result)
 
 same-command : (c : tie.At-match-came Inv-loop μ-loop) → c .match .command ≡ command-of (c .before)
@@ -213,7 +213,7 @@ reply-bytes-requires c κs = search needs
 -- ---- what one line does
 
 -- the line, and its reply
-abbrev line-of : tie.After-named Inv-loop μ-loop → List ℕ
+abbrev line-of : tie.After-old Inv-loop μ-loop → List ℕ
 line-of c = let l = loop-of c in take (end-of c .line-end .result - l .loop .at) (drop (l .loop .at) (text-of l))
 
 abbrev reply-of : tie.After-reply-bytes Inv-loop μ-loop → List ℕ
@@ -316,8 +316,8 @@ answer-lines-spec =
     read-line-requires
     number-of-requires
     wide-requires
-    mul-named
-    element-copy-out-named
+    mul-old
+    element-copy-out-old
     enum-known-command
     remove-requires
     decide-line-requires
