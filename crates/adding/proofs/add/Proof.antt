@@ -55,38 +55,17 @@ k-of r = r .before .before .before .before
 abbrev path-of : tie.After-resolve → List ℕ
 path-of r = r .resolve .last .1 .1 .1 .1 .1 .1 .1 .0
 
-read-fields-requires : tie.Need-read-fields-requires
-read-fields-requires c κs = search needs
-
-check-add-requires : tie.Need-check-add-requires
-check-add-requires c κs = search needs
-
-enum-told : tie.Need-enum-told
-enum-told c = search needs
-
-unchanged-requires : tie.Need-unchanged-requires
-unchanged-requires c κs = search needs
-
 returns : tie.Need-returns
 returns c =
     let e = c .before .before in
     let k = e .before .before in
     decides-refused _ _ _ _ (cmd-of k) _ (s-of k .pre .3) _ _ (s-of k .pre .2) (e .enum-told .given .1) (subst (Says _ (cmd-of k) (passed-of k)) (e .enum-told .given .1) (says-of k)) (c .unchanged .ensures)
 
-enum-told-2 : tie.Need-enum-told-2
-enum-told-2 c = search needs
-
 resolve-requires : tie.Need-resolve-requires
 resolve-requires c κs =
     let t = c .before in
     let s = s-of (t .before .before) in
     new-unresolved _ _ _ _ _ (passed t .enterable) (s .pre .1) _ (s .pre .3)
-
-enum-told-3 : tie.Need-enum-told-3
-enum-told-3 c = search needs
-
-unchanged-requires-2 : tie.Need-unchanged-requires-2
-unchanged-requires-2 c κs = search needs
 
 returns-2 : tie.Need-returns-2
 returns-2 c =
@@ -98,12 +77,6 @@ returns-2 c =
     (add-loop _ _ _ _ _ (passed (r .before .before) .enterable) (s-of k .pre .1) (cmd-of k) (path-of r) (passed (r .before .before) .step) l)
     (c .unchanged2 .ensures)
 
-enum-told-4 : tie.Need-enum-told-4
-enum-told-4 c = search needs
-
-unchanged-requires-3 : tie.Need-unchanged-requires-3
-unchanged-requires-3 c κs = search needs
-
 returns-3 : tie.Need-returns-3
 returns-3 c =
     let e = c .before .before in
@@ -114,12 +87,6 @@ returns-3 c =
     decides-refused _ _ _ _ (cmd-of k) (path-of r) (l .1) Conflict _ (s-of k .pre .2) refl
     (add-conflict _ _ _ _ _ (passed (r .before .before) .enterable) (s-of k .pre .1) (cmd-of k) (path-of r) (passed (r .before .before) .step) (z .if1 .taken) l)
     (c .unchanged3 .ensures)
-
-waiting-link-requires : tie.Need-waiting-link-requires
-waiting-link-requires c κs = search needs
-
-step-of-requires : tie.Need-step-of-requires
-step-of-requires c κs = search needs
 
 returns-4 : tie.Need-returns-4
 returns-4 c =
@@ -143,19 +110,19 @@ pub add-spec : {M : Type 1} → statement M
 add-spec =
     tie.close
     (tie.spec
-    read-fields-requires
-    check-add-requires
-    enum-told
-    unchanged-requires
+    (λ c κs. search needs)
+    (λ c κs. search needs)
+    (λ c. search needs)
+    (λ c κs. search needs)
     returns
-    enum-told-2
+    (λ c. search needs)
     resolve-requires
-    enum-told-3
-    unchanged-requires-2
+    (λ c. search needs)
+    (λ c κs. search needs)
     returns-2
-    enum-told-4
-    unchanged-requires-3
+    (λ c. search needs)
+    (λ c κs. search needs)
     returns-3
-    waiting-link-requires
-    step-of-requires
+    (λ c κs. search needs)
+    (λ c κs. search needs)
     returns-4)

@@ -8,19 +8,10 @@ use Rattle.adding.proofs.check_add.Tie as tie
 returns : tie.Need-returns
 returns c = rw (eq-eqb (c .before .args .n) 0 (c .if1 .taken)) refl
 
-is-bad-link-requires : tie.Need-is-bad-link-requires
-is-bad-link-requires c κs = search needs
-
 returns-2 : tie.Need-returns-2
 returns-2 c =
     let b = c .before in
     rw (ne-eqb (b .before .before .args .n) 0 (b .before .if1 .left), ← b .is-bad-link .ensures, c .if2 .taken) refl
-
-below-requires : tie.Need-below-requires
-below-requires c κs = search needs
-
-within-requires : tie.Need-within-requires
-within-requires c κs = search needs
 
 returns-3 : tie.Need-returns-3
 returns-3 c =
@@ -71,10 +62,10 @@ check-add-spec =
     tie.close
     (tie.spec
     returns
-    is-bad-link-requires
+    (λ c κs. search needs)
     returns-2
-    below-requires
-    within-requires
+    (λ c κs. search needs)
+    (λ c κs. search needs)
     returns-3
     returns-4
     returns-5)

@@ -18,9 +18,6 @@ returns-3 c =
     let s = c .before .before .before in
     rw (le-ltb 127 (s .args .id) (c .before .before .if1 .left), le-ltb 15 (s .args .level) (c .before .if2 .left), c .if3 .taken) refl
 
-size-requires : tie.Need-size-requires
-size-requires c κs = search needs
-
 returns-4 : tie.Need-returns-4
 returns-4 c =
     let s = c .before .before .before .before .before in
@@ -56,4 +53,4 @@ returns-6 c =
     ) refl
 
 pub is-bad-link-spec : {M : Type 1} → statement M
-is-bad-link-spec = tie.close (tie.spec returns returns-2 returns-3 size-requires returns-4 returns-5 returns-6)
+is-bad-link-spec = tie.close (tie.spec returns returns-2 returns-3 (λ c κs. search needs) returns-4 returns-5 returns-6)

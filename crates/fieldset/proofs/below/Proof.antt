@@ -5,9 +5,6 @@ use Rattle.fieldset.proofs.Bits.{shl-pos, shl-below, max-below}
 use Rattle.fieldset.proofs.below.Statement.{statement}
 use Rattle.fieldset.proofs.below.Tie as tie
 
-shl-result : tie.Need-shl-result
-shl-result c = search needs
-
 sub-result : tie.Need-sub-result
 sub-result c = shl-pos (c .before .args .n) (omega arith)
 
@@ -18,4 +15,4 @@ returns-2 : tie.Need-returns-2
 returns-2 c = max-below (c .before .args .n) (omega arith)
 
 pub below-spec : {M : Type 1} → statement M
-below-spec = tie.close (tie.spec shl-result sub-result returns returns-2)
+below-spec = tie.close (tie.spec (λ c. search needs) sub-result returns returns-2)

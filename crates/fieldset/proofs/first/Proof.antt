@@ -4,11 +4,8 @@ use Rattle.fieldset.proofs.Emptying.{first-is}
 use Rattle.fieldset.proofs.first.Statement.{statement}
 use Rattle.fieldset.proofs.first.Tie as tie
 
-lowest-requires : tie.Need-lowest-requires
-lowest-requires c κs = search needs
-
 returns : tie.Need-returns
 returns c = first-is (c .before .fits .m .fits) (c .before .pre) (c .lowest .ensures)
 
 pub first-spec : {M : Type 1} → statement M
-first-spec = tie.close (tie.spec lowest-requires returns)
+first-spec = tie.close (tie.spec (λ c κs. search needs) returns)

@@ -4,11 +4,8 @@ use Rattle.fieldset.proofs.Bits.{shr-member}
 use Rattle.fieldset.proofs.member.Statement.{statement}
 use Rattle.fieldset.proofs.member.Tie as tie
 
-shr-result : tie.Need-shr-result
-shr-result c = search needs
-
 returns : tie.Need-returns
 returns c = shr-member (c .args .m) (c .args .i)
 
 pub member-spec : {M : Type 1} → statement M
-member-spec = tie.close (tie.spec shr-result returns)
+member-spec = tie.close (tie.spec (λ c. search needs) returns)

@@ -4,11 +4,8 @@ use Rattle.fieldset.proofs.Bits.{shl-only}
 use Rattle.fieldset.proofs.only.Statement.{statement}
 use Rattle.fieldset.proofs.only.Tie as tie
 
-shl-result : tie.Need-shl-result
-shl-result c = search needs
-
 returns : tie.Need-returns
 returns c = shl-only (c .args .i) (c .pre)
 
 pub only-spec : {M : Type 1} → statement M
-only-spec = tie.close (tie.spec shl-result returns)
+only-spec = tie.close (tie.spec (λ c. search needs) returns)

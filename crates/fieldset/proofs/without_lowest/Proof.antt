@@ -4,11 +4,8 @@ use Rattle.fieldset.proofs.Bits.{and-without-lowest}
 use Rattle.fieldset.proofs.without_lowest.Statement.{statement}
 use Rattle.fieldset.proofs.without_lowest.Tie as tie
 
-sub-result : tie.Need-sub-result
-sub-result c = search needs
-
 returns : tie.Need-returns
 returns c = and-without-lowest (c .args .m) (c .pre) (c .fits .m .fits)
 
 pub without-lowest-spec : {M : Type 1} → statement M
-without-lowest-spec = tie.close (tie.spec sub-result returns)
+without-lowest-spec = tie.close (tie.spec (λ c. search needs) returns)

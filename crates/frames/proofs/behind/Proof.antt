@@ -5,9 +5,6 @@ use borrow.Author.Needs.{needs}
 use Rattle.frames.proofs.behind.Statement.{statement}
 use Rattle.frames.proofs.behind.Tie as tie
 
-add-result : tie.Need-add-result
-add-result c = search needs
-
 returns : tie.Need-returns
 unfolding behindOf
 returns c = simp (lt-ltb _ _ (c .if1 .taken))
@@ -17,4 +14,4 @@ unfolding behindOf
 returns-2 c = simp (le-ltb _ _ (c .if1 .left))
 
 pub behind-spec : {M : Type 1} → statement M
-behind-spec = tie.close (tie.spec add-result returns returns-2)
+behind-spec = tie.close (tie.spec (λ c. search needs) returns returns-2)

@@ -15,12 +15,6 @@ use Rattle.frames.proofs.Reading.{fits-other, fits-short, unfit-read, b
 use Rattle.frames.proofs.read_frame.Statement.{statement}
 use Rattle.frames.proofs.read_frame.Tie as tie
 
-element-copy-out-kind : tie.Need-element-copy-out-kind
-element-copy-out-kind c = search needs
-
-fits-kind-requires : tie.Need-fits-kind-requires
-fits-kind-requires c κs = search needs
-
 returns : tie.Need-returns
 returns c =
     let s = c .before .before .before in
@@ -36,9 +30,6 @@ exactly : (c : tie.Else1) → let s = c .before .before .before .args in
     → take m (k ∷ at (s .frame .now) 1 ∷ at (s .frame .now) 2 ∷ drop 3 (s .frame .now)) ≡ checkedFrame (take (s .n) (s .frame .now))
 exactly c k kind m one low = let s = c .before .before .before in exact-read (s .args .frame .now) (s .args .n) (s .pre) k kind (fits c) m one low
 
-element-copy-out-t13 : tie.Need-element-copy-out-t13
-element-copy-out-t13 c = search needs
-
 has-bit6-requires : tie.Need-has-bit6-requires
 has-bit6-requires c κs = let s = c .before .before .before .before in (omega (arith, fits-short _ (s .args .n) (fits (c .before))), s .pre)
 
@@ -46,18 +37,6 @@ returns-2 : tie.Need-returns-2
 returns-2 c =
     let s = c .before .before .before .before .before .before in
     bit6-read (s .args .frame .now) (s .args .n) (s .pre) 0x02 (c .before .before .match .keys2) (fits (c .before .before .before)) (sym (c .before .has-bit6 .ensures) ∙ c .if2 .taken)
-
-element-copy-out-t18 : tie.Need-element-copy-out-t18
-element-copy-out-t18 c = search needs
-
-element-copy-out-t21 : tie.Need-element-copy-out-t21
-element-copy-out-t21 c = search needs
-
-element-copy-out-t24 : tie.Need-element-copy-out-t24
-element-copy-out-t24 c = search needs
-
-element-copy-out-t27 : tie.Need-element-copy-out-t27
-element-copy-out-t27 c = search needs
 
 returns-3 : tie.Need-returns-3
 unfolding fitsKind
@@ -92,16 +71,16 @@ pub read-frame-spec : {M : Type 1} → statement M
 read-frame-spec =
     tie.close
     (tie.spec
-    element-copy-out-kind
-    fits-kind-requires
+    (λ c. search needs)
+    (λ c κs. search needs)
     returns
-    element-copy-out-t13
+    (λ c. search needs)
     has-bit6-requires
     returns-2
-    element-copy-out-t18
-    element-copy-out-t21
-    element-copy-out-t24
-    element-copy-out-t27
+    (λ c. search needs)
+    (λ c. search needs)
+    (λ c. search needs)
+    (λ c. search needs)
     returns-3
     returns-4
     returns-5

@@ -7,18 +7,6 @@ use Rattle.frames.proofs.Reading.{full, read-bad, read-good}
 use Rattle.frames.proofs.read_line.Statement.{statement}
 use Rattle.frames.proofs.read_line.Tie as tie
 
-decode-requires : tie.Need-decode-requires
-decode-requires c κs = search needs
-
-enum-told : tie.Need-enum-told
-enum-told c = search needs
-
-enum-known-d : tie.Need-enum-known-d
-enum-known-d c = search needs
-
-kept-requires : tie.Need-kept-requires
-kept-requires c κs = search needs
-
 read-frame-requires : tie.Need-read-frame-requires
 read-frame-requires c κs =
     let d = c .before .before .before .before .before .decode in
@@ -40,10 +28,10 @@ pub read-line-spec : {M : Type 1} → statement M
 read-line-spec =
     tie.close
     (tie.spec
-    decode-requires
-    enum-told
-    enum-known-d
-    kept-requires
+    (λ c κs. search needs)
+    (λ c. search needs)
+    (λ c. search needs)
+    (λ c κs. search needs)
     read-frame-requires
     returns
     returns-2)

@@ -8,15 +8,6 @@ use Rattle.frames.proofs.reply_bytes.Statement.{statement}
 use Rattle.frames.proofs.reply_bytes.Tie as tie
 use Rattle.frames.proofs.refusal_number.Reads as refusal-number-reads
 
-enum-known-reply : tie.Need-enum-known-reply
-enum-known-reply c = search needs
-
-enum-known-reply-2 : tie.Need-enum-known-reply-2
-enum-known-reply-2 c = search needs
-
-refusal-number-requires : tie.Need-refusal-number-requires
-refusal-number-requires c κs = search needs
-
 returns : tie.Need-returns
 returns c = (sym (ap replyBytes (c .before .reply .given .1)), refl)
 
@@ -27,4 +18,4 @@ returns-2 c =
 pub reply-bytes-spec : {M : Type 1} → statement M
 reply-bytes-spec =
     tie.close
-    (tie.spec enum-known-reply enum-known-reply-2 refusal-number-requires returns returns-2)
+    (tie.spec (λ c. search needs) (λ c. search needs) (λ c κs. search needs) returns returns-2)

@@ -11,9 +11,6 @@ returns c = bad-line _ _ (hex-empty _ (c .if1 .taken))
 returns-2 : tie.Need-returns-2
 returns-2 c = bad-line _ _ (hex-odd _ (c .if2 .taken))
 
-are-digits-requires : tie.Need-are-digits-requires
-are-digits-requires c κs = search needs
-
 fill-requires : tie.Need-fill-requires
 fill-requires c κs = (sym (c .before .before .are-digits .ensures) ∙ c .before .if3 .taken, c .before .before .before .before .before .before .pre)
 
@@ -27,4 +24,4 @@ returns-4 c = bad-line _ _ (hex-other _ (sym (c .before .are-digits .ensures) �
 
 pub decode-spec : {M : Type 1} → statement M
 decode-spec =
-    tie.close (tie.spec returns returns-2 are-digits-requires fill-requires returns-3 returns-4)
+    tie.close (tie.spec returns returns-2 (λ c κs. search needs) fill-requires returns-3 returns-4)

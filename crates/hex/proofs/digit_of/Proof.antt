@@ -4,9 +4,6 @@ use Rattle.hex.proofs.Digits.{below-0, from-0, below-A, from-A, behind-
 use Rattle.hex.proofs.digit_of.Statement.{statement}
 use Rattle.hex.proofs.digit_of.Tie as tie
 
-sub-t11 : tie.Need-sub-t11
-sub-t11 c = search needs
-
 returns : tie.Need-returns
 returns c = below-0 _ (c .if1 .taken)
 
@@ -23,4 +20,4 @@ returns-5 : tie.Need-returns-5
 returns-5 c = behind-F _ (c .if4 .left)
 
 pub digit-of-spec : {M : Type 1} → statement M
-digit-of-spec = tie.close (tie.spec sub-t11 returns returns-2 returns-3 returns-4 returns-5)
+digit-of-spec = tie.close (tie.spec (λ c. search needs) returns returns-2 returns-3 returns-4 returns-5)

@@ -24,46 +24,13 @@ same c = ap length (c .loop .inv .digits) ∙ simp length-sets
 loop-holds : tie.Need-loop-holds Inv-loop μ-loop
 loop-holds c = written-none _ _ _
 
-shared-slice-read-high-char : tie.Need-shared-slice-read-high-char Inv-loop μ-loop
-shared-slice-read-high-char c = search needs
-
-high-char-requires : tie.Need-high-char-requires Inv-loop μ-loop
-high-char-requires c κs = search needs
-
-mul-out : tie.Need-mul-out Inv-loop μ-loop
-mul-out c = search needs
-
-add-out : tie.Need-add-out Inv-loop μ-loop
-add-out c = search needs
-
 slice-write-out : tie.Need-slice-write-out Inv-loop μ-loop
 slice-write-out c = omega (arith, same (c .before .before .before))
-
-shared-slice-read-low-char : tie.Need-shared-slice-read-low-char Inv-loop μ-loop
-shared-slice-read-low-char c = search needs
-
-low-char-requires : tie.Need-low-char-requires Inv-loop μ-loop
-low-char-requires c κs = search needs
-
-mul-out-2 : tie.Need-mul-out-2 Inv-loop μ-loop
-mul-out-2 c = search needs
-
-add-out-2 : tie.Need-add-out-2 Inv-loop μ-loop
-add-out-2 c = search needs
-
-add-out-3 : tie.Need-add-out-3 Inv-loop μ-loop
-add-out-3 c = search needs
 
 slice-write-out-2 : tie.Need-slice-write-out-2 Inv-loop μ-loop
 slice-write-out-2 c =
     let l = c .before .before .before .before .before in
     omega (arith, same l, length-set (l .loop .out) (l .before .before .before .args .at + 2 * l .loop .i) (c .before .before .high-char .result))
-
-add-i : tie.Need-add-i Inv-loop μ-loop
-add-i c = search needs
-
-loop-less : tie.Need-loop-less Inv-loop μ-loop
-loop-less c = search needs
 
 loop-again : tie.Need-loop-again Inv-loop μ-loop
 loop-again c =
@@ -84,19 +51,19 @@ put-all-spec =
     Inv-loop
     μ-loop
     loop-holds
-    shared-slice-read-high-char
-    high-char-requires
-    mul-out
-    add-out
+    (λ c. search needs)
+    (λ c κs. search needs)
+    (λ c. search needs)
+    (λ c. search needs)
     slice-write-out
-    shared-slice-read-low-char
-    low-char-requires
-    mul-out-2
-    add-out-2
-    add-out-3
+    (λ c. search needs)
+    (λ c κs. search needs)
+    (λ c. search needs)
+    (λ c. search needs)
+    (λ c. search needs)
     slice-write-out-2
-    add-i
-    loop-less
+    (λ c. search needs)
+    (λ c. search needs)
     loop-again
     same-length
     returns)

@@ -6,15 +6,6 @@ use Rattle.hex.proofs.Digits.{value-read, not-other}
 use Rattle.hex.proofs.value.Statement.{statement}
 use Rattle.hex.proofs.value.Tie as tie
 
-digit-of-requires : tie.Need-digit-of-requires
-digit-of-requires c κs = search needs
-
-enum-known-d : tie.Need-enum-known-d
-enum-known-d c = search needs
-
-enum-told : tie.Need-enum-told
-enum-told c = search needs
-
 returns : tie.Need-returns
 returns c = value-read (c .before .before .before .before .args .c) (c .before .d .given .0 .0) (sym (ap digitValues (c .before .d .given .1)) ∙ c .before .before .before .digit-of .ensures) .1
 
@@ -22,4 +13,4 @@ returns-2 : tie.Need-returns-2
 returns-2 c = absurd (not-other (c .before .before .before .args .c) (c .before .before .before .pre) (sym (ap digitValues (c .enum-told .given .1)) ∙ c .before .before .digit-of .ensures))
 
 pub value-spec : {M : Type 1} → statement M
-value-spec = tie.close (tie.spec digit-of-requires enum-known-d enum-told returns returns-2)
+value-spec = tie.close (tie.spec (λ c κs. search needs) (λ c. search needs) (λ c. search needs) returns returns-2)

@@ -17,23 +17,8 @@ abbrev μ-loop : tie.MeasureT-loop
 loop-holds : tie.Need-loop-holds Inv-loop μ-loop
 loop-holds c = (omega arith, sym (mapped-none (λ g x. g) _))
 
-cast-place : tie.Need-cast-place Inv-loop μ-loop
-cast-place c = omega arith
-
-array-write-place : tie.Need-array-write-place Inv-loop μ-loop
-array-write-place c = omega arith
-
-add-f : tie.Need-add-f Inv-loop μ-loop
-add-f c = omega arith
-
-loop-less : tie.Need-loop-less Inv-loop μ-loop
-loop-less c = omega arith
-
 loop-again : tie.Need-loop-again Inv-loop μ-loop
 loop-again c = (omega arith, mapped-more (λ g x. g) _ _ _ _ (omega arith) (c .before .loop .inv .1) refl)
-
-no-link-requires : tie.Need-no-link-requires Inv-loop μ-loop
-no-link-requires c κs = search needs
 
 returns : tie.Need-returns Inv-loop μ-loop
 returns c =
@@ -46,10 +31,10 @@ unopened-spec =
     Inv-loop
     μ-loop
     loop-holds
-    cast-place
-    array-write-place
-    add-f
-    loop-less
+    (λ c. omega arith)
+    (λ c. omega arith)
+    (λ c. omega arith)
+    (λ c. omega arith)
     loop-again
-    no-link-requires
+    (λ c κs. search needs)
     returns)

@@ -14,9 +14,6 @@ abbrev μ-loop : tie.MeasureT-loop
 loop-holds : tie.Need-loop-holds Inv-loop μ-loop
 loop-holds c = entering-start (c .pre .1)
 
-first-requires : tie.Need-first-requires Inv-loop μ-loop
-first-requires c κs = omega arith
-
 mul-with : tie.Need-mul-with Inv-loop μ-loop
 mul-with c = omega (arith, c .first .ensures .field)
 
@@ -31,9 +28,6 @@ mul-readers c = omega (arith, c .before .before .first .ensures .field)
 
 element-write-readers : tie.Need-element-write-readers Inv-loop μ-loop
 element-write-readers c = c .before .before .first .ensures .field
-
-without-lowest-requires : tie.Need-without-lowest-requires Inv-loop μ-loop
-without-lowest-requires c κs = omega arith
 
 loop-less : tie.Need-loop-less Inv-loop μ-loop
 loop-less c = first-falls (c .before .before .before .first .ensures) (c .without-lowest .ensures)
@@ -51,13 +45,13 @@ enter-readers-spec =
     Inv-loop
     μ-loop
     loop-holds
-    first-requires
+    (λ c κs. omega arith)
     mul-with
     element-copy-out-with
     with-requires
     mul-readers
     element-write-readers
-    without-lowest-requires
+    (λ c κs. omega arith)
     loop-less
     loop-again
     returns)

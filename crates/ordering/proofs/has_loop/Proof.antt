@@ -18,9 +18,6 @@ nonempty-requires c κs = c .pre .few
 loop-holds : tie.Need-loop-holds Inv-loop μ-loop
 loop-holds c = looking-start (c .before .pre .few) (c .nonempty .ensures)
 
-pass-requires : tie.Need-pass-requires Inv-loop μ-loop
-pass-requires c κs = search needs
-
 returns : tie.Need-returns Inv-loop μ-loop
 returns c =
     sym
@@ -48,7 +45,7 @@ has-loop-spec =
     μ-loop
     nonempty-requires
     loop-holds
-    pass-requires
+    (λ c κs. search needs)
     returns
     loop-less
     loop-again

@@ -4,12 +4,6 @@ use borrow.Author.Needs.{needs}
 use Rattle.ordering.proofs.listed.Statement.{statement}
 use Rattle.ordering.proofs.listed.Tie as tie
 
-meets-requires : tie.Need-meets-requires
-meets-requires c κs = search needs
-
-without-requires : tie.Need-without-requires
-without-requires c κs = search needs
-
 returns : tie.Need-returns
 returns c = rw (sym (c .before .meets .ensures), c .if1 .taken)
 
@@ -17,4 +11,4 @@ returns-2 : tie.Need-returns-2
 returns-2 c = c .without .ensures ∙ rw (sym (c .before .before .meets .ensures), c .before .if1 .left)
 
 pub listed-spec : {M : Type 1} → statement M
-listed-spec = tie.close (tie.spec meets-requires without-requires returns returns-2)
+listed-spec = tie.close (tie.spec (λ c κs. search needs) (λ c κs. search needs) returns returns-2)

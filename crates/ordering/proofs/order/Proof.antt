@@ -20,14 +20,8 @@ readers-of-requires c κs = c .pre .0 .few
 below-requires : tie.Need-below-requires Inv-loop μ-loop
 below-requires c κs = c .before .pre .0 .few
 
-ready-requires : tie.Need-ready-requires Inv-loop μ-loop
-ready-requires c κs = search needs
-
 loop-holds : tie.Need-loop-holds Inv-loop μ-loop
 loop-holds c = planning-start (c .before .before .before .pre .0 .few) (c .before .below .ensures) (c .ready .ensures)
-
-first-requires : tie.Need-first-requires Inv-loop μ-loop
-first-requires c κs = omega arith
 
 -- there is room in the buffer
 room : (c : tie.After-first Inv-loop μ-loop) → c .before .before .loop .count < 64
@@ -47,20 +41,11 @@ add-count c = omega (arith, room c)
 without-requires : tie.Need-without-requires Inv-loop μ-loop
 without-requires c κs = c .first .ensures .field
 
-without-lowest-requires : tie.Need-without-lowest-requires Inv-loop μ-loop
-without-lowest-requires c κs = omega arith
-
 mul-ready : tie.Need-mul-ready Inv-loop μ-loop
 mul-ready c = omega (arith, c .before .before .first .ensures .field)
 
 array-read-ready : tie.Need-array-read-ready Inv-loop μ-loop
 array-read-ready c = c .before .before .first .ensures .field
-
-ready-requires-2 : tie.Need-ready-requires-2 Inv-loop μ-loop
-ready-requires-2 c κs = search needs
-
-union-requires : tie.Need-union-requires Inv-loop μ-loop
-union-requires c κs = search needs
 
 loop-less : tie.Need-loop-less Inv-loop μ-loop
 loop-less c =
@@ -95,18 +80,18 @@ order-spec =
     μ-loop
     readers-of-requires
     below-requires
-    ready-requires
+    (λ c κs. search needs)
     loop-holds
-    first-requires
+    (λ c κs. omega arith)
     cast-out
     element-write-out
     add-count
     without-requires
-    without-lowest-requires
+    (λ c κs. omega arith)
     mul-ready
     array-read-ready
-    ready-requires-2
-    union-requires
+    (λ c κs. search needs)
+    (λ c κs. search needs)
     loop-less
     loop-again
     returns)

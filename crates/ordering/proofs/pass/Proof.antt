@@ -15,9 +15,6 @@ abbrev μ-loop : tie.MeasureT-loop
 loop-holds : tie.Need-loop-holds Inv-loop μ-loop
 loop-holds c = passing-start (c .fits .set .fits)
 
-first-requires : tie.Need-first-requires Inv-loop μ-loop
-first-requires c κs = omega arith
-
 mul-listed : tie.Need-mul-listed Inv-loop μ-loop
 mul-listed c = omega (arith, c .first .ensures .field)
 
@@ -26,9 +23,6 @@ element-copy-out-listed c = c .first .ensures .field
 
 listed-requires : tie.Need-listed-requires Inv-loop μ-loop
 listed-requires c κs = c .before .first .ensures .field
-
-without-lowest-requires : tie.Need-without-lowest-requires Inv-loop μ-loop
-without-lowest-requires c κs = omega arith
 
 loop-less : tie.Need-loop-less Inv-loop μ-loop
 loop-less c = first-falls (c .before .before .before .first .ensures) (c .without-lowest .ensures)
@@ -46,11 +40,11 @@ pass-spec =
     Inv-loop
     μ-loop
     loop-holds
-    first-requires
+    (λ c κs. omega arith)
     mul-listed
     element-copy-out-listed
     listed-requires
-    without-lowest-requires
+    (λ c κs. omega arith)
     loop-less
     loop-again
     returns)

@@ -15,20 +15,8 @@ abbrev μ-loop : tie.MeasureT-loop
 loop-holds : tie.Need-loop-holds Inv-loop μ-loop
 loop-holds c = readers-start
 
-mul-enter-readers : tie.Need-mul-enter-readers Inv-loop μ-loop
-mul-enter-readers c = omega arith
-
-element-copy-out-enter-readers : tie.Need-element-copy-out-enter-readers Inv-loop μ-loop
-element-copy-out-enter-readers c = omega arith
-
 enter-readers-requires : tie.Need-enter-readers-requires Inv-loop μ-loop
 enter-readers-requires c κs = (omega arith, c .before .before .before .loop .inv .long)
-
-add-f : tie.Need-add-f Inv-loop μ-loop
-add-f c = omega arith
-
-loop-less : tie.Need-loop-less Inv-loop μ-loop
-loop-less c = omega arith
 
 loop-again : tie.Need-loop-again Inv-loop μ-loop
 loop-again c =
@@ -49,10 +37,10 @@ readers-of-spec =
     Inv-loop
     μ-loop
     loop-holds
-    mul-enter-readers
-    element-copy-out-enter-readers
+    (λ c. omega arith)
+    (λ c. omega arith)
     enter-readers-requires
-    add-f
-    loop-less
+    (λ c. omega arith)
+    (λ c. omega arith)
     loop-again
     returns)

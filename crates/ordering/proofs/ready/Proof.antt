@@ -19,23 +19,14 @@ abbrev μ-loop : tie.MeasureT-loop
 loop-holds : tie.Need-loop-holds Inv-loop μ-loop
 loop-holds c = filter-start
 
-first-requires : tie.Need-first-requires Inv-loop μ-loop
-first-requires c κs = omega arith
-
 mul-meets : tie.Need-mul-meets Inv-loop μ-loop
 mul-meets c = omega (arith, c .first .ensures .field)
 
 element-copy-out-meets : tie.Need-element-copy-out-meets Inv-loop μ-loop
 element-copy-out-meets c = c .first .ensures .field
 
-meets-requires : tie.Need-meets-requires Inv-loop μ-loop
-meets-requires c κs = search needs
-
 with-requires : tie.Need-with-requires Inv-loop μ-loop
 with-requires c κs = c .before .before .before .first .ensures .field
-
-without-lowest-requires : tie.Need-without-lowest-requires Inv-loop μ-loop
-without-lowest-requires c κs = omega arith
 
 loop-less : tie.Need-loop-less Inv-loop μ-loop
 loop-less c = first-falls (c .before .before .before .before .first .ensures) (c .without-lowest .ensures)
@@ -56,12 +47,12 @@ ready-spec =
     Inv-loop
     μ-loop
     loop-holds
-    first-requires
+    (λ c κs. omega arith)
     mul-meets
     element-copy-out-meets
-    meets-requires
+    (λ c κs. search needs)
     with-requires
-    without-lowest-requires
+    (λ c κs. omega arith)
     loop-less
     loop-again
     returns)

@@ -5,25 +5,10 @@ use Rattle.panel_c.proofs.panel_run_text.Statement.{statement}
 use Rattle.panel_c.proofs.panel_run_text.Tie as tie
 use Rattle.text.proofs.run_tallied.Reads as run-tallied-reads
 
-run-tallied-requires : tie.Need-run-tallied-requires
-run-tallied-requires c κs = search needs
-
-enum-known-outcome : tie.Need-enum-known-outcome
-enum-known-outcome c = search needs
-
-enum-told : tie.Need-enum-told
-enum-told c = search needs
-
-same-length : tie.Need-same-length
-same-length c = search needs
-
 returns : tie.Need-returns
 returns c =
     let a = c .before .before .before .before .before .run-tallied .ensures in
     (told-length _ _ _ _ _ (a .outcome) _ (c .before .outcome .given .1), a .buffer)
-
-same-length-2 : tie.Need-same-length-2
-same-length-2 c = search needs
 
 returns-2 : tie.Need-returns-2
 returns-2 c =
@@ -34,10 +19,10 @@ pub panel-run-text-spec : {M : Type 1} → statement M
 panel-run-text-spec =
     tie.close
     (tie.spec
-    run-tallied-requires
-    enum-known-outcome
-    enum-told
-    same-length
+    (λ c κs. search needs)
+    (λ c. search needs)
+    (λ c. search needs)
+    (λ c. search needs)
     returns
-    same-length-2
+    (λ c. search needs)
     returns-2)

@@ -49,9 +49,6 @@ loop-holds c = record { within = omega arith; stored = refl }
 array-read-f : tie.Need-array-read-f Inv-loop μ-loop
 array-read-f c = low c .0
 
-wide-requires : tie.Need-wide-requires Inv-loop μ-loop
-wide-requires c κs = search needs
-
 array-read-put-row : tie.Need-array-read-put-row Inv-loop μ-loop
 array-read-put-row c = let l = low (c .before .before) in omega (arith, c .before .wide .ensures, l .0, l .1)
 
@@ -99,7 +96,7 @@ plan-spec =
     order-requires
     loop-holds
     array-read-f
-    wide-requires
+    (λ c κs. search needs)
     array-read-put-row
     array-read-put-row-2
     put-row-requires

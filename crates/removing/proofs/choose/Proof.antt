@@ -5,18 +5,6 @@ use Rattle.removing.specs.Choice.{OfField, chosenOf}
 use Rattle.removing.proofs.choose.Statement.{statement}
 use Rattle.removing.proofs.choose.Tie as tie
 
-enum-told : tie.Need-enum-told
-enum-told c = search needs
-
-enum-known-b : tie.Need-enum-known-b
-enum-known-b c = search needs
-
-enum-known-b-2 : tie.Need-enum-known-b-2
-enum-known-b-2 c = search needs
-
-wide-requires : tie.Need-wide-requires
-wide-requires c κs = search needs
-
 only-requires : tie.Need-only-requires
 only-requires c κs =
     let b = c .before .before in
@@ -35,10 +23,10 @@ pub choose-spec : {M : Type 1} → statement M
 choose-spec =
     tie.close
     (tie.spec
-    enum-told
-    enum-known-b
-    enum-known-b-2
-    wide-requires
+    (λ c. search needs)
+    (λ c. search needs)
+    (λ c. search needs)
+    (λ c κs. search needs)
     only-requires
     returns
     returns-2

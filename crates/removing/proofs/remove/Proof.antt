@@ -60,33 +60,12 @@ judged c =
 
 -- ---- the needs
 
-check-remove-requires : tie.Need-check-remove-requires
-check-remove-requires c κs = search needs
-
-enum-told : tie.Need-enum-told
-enum-told c = search needs
-
-unchanged-requires : tie.Need-unchanged-requires
-unchanged-requires c κs = search needs
-
 returns : tie.Need-returns
 returns c =
     let t = c .before .before in
     let r = t .before .before in
     let s = r .before .before in
     remove-refused (s .args .p) (s .args .id) _ (s .pre .2) _ (r .check-remove .ensures) _ _ _ (s .pre .3) (t .enum-told .given .1) (c .unchanged .ensures)
-
-enum-told-2 : tie.Need-enum-told-2
-enum-told-2 c = search needs
-
-enum-known-s : tie.Need-enum-known-s
-enum-known-s c = search needs
-
-enum-told-3 : tie.Need-enum-told-3
-enum-told-3 c = search needs
-
-no-link-requires : tie.Need-no-link-requires
-no-link-requires c κs = search needs
 
 step-of-requires : tie.Need-step-of-requires
 step-of-requires c κs =
@@ -99,9 +78,6 @@ returns-2 c =
     let e = t .before .before in
     let s = start e in
     remove-waiting (s .args .p) (s .pre .0) (s .args .id) (passed e .0) _ _ _ _ (s .pre .3) (s .pre .2) (c .before .no-link .ensures) (t .enum-told3 .given .1) (passed e .1) (c .step-of .ensures)
-
-wide-requires : tie.Need-wide-requires
-wide-requires c κs = search needs
 
 array-write-setter : tie.Need-array-write-setter
 array-write-setter c = held-small (held (c .before .before .before .before))
@@ -117,14 +93,8 @@ add-fresh c =
 array-write-fresh : tie.Need-array-write-fresh
 array-write-fresh c = held-small (held (c .before .before .before .before))
 
-mul-outs : tie.Need-mul-outs
-mul-outs c = search needs
-
 array-write-outs : tie.Need-array-write-outs
 array-write-outs c = held-small (held (c .before .before .before .before))
-
-mul-reading : tie.Need-mul-reading
-mul-reading c = search needs
 
 array-write-reading : tie.Need-array-write-reading
 array-write-reading c = held-small (held (c .before .before .before .before))
@@ -141,9 +111,6 @@ find-blocked-requires c κs =
 choose-requires : tie.Need-choose-requires
 choose-requires c κs = of-field (held (stay-in (c .before .before .before))) (c .find-blocked .result) (c .find-blocked .ensures)
 
-top-of-requires : tie.Need-top-of-requires
-top-of-requires c κs = search needs
-
 below-requires : tie.Need-below-requires
 below-requires c κs = held (stay-in (scan (c .before .before .before .before .before .before))) .legal .few
 
@@ -154,9 +121,6 @@ decide-requires c κs =
     let k = o .before .before .before in
     undecided (held (stay-in (scan k))) _ _ refl (scan k .strengths .ensures) _ _ _ (chosen k) _ _ _ (b .below .ensures) (o .before .before .if1 .taken) (o .top-of .ensures) (begin (stay-in (scan k)) .pre .3)
 
-enum-told-4 : tie.Need-enum-told-4
-enum-told-4 c = search needs
-
 unchanged-requires-2 : tie.Need-unchanged-requires-2
 unchanged-requires-2 c κs = held (stay-in (scan (c .before .before .before .before))) .legal .place-length
 
@@ -166,9 +130,6 @@ returns-3 c =
     let j = t .before .before in
     let k = j .before in
     remove-looped (held (stay-in (scan k))) _ _ refl (scan k .strengths .ensures) _ _ _ (chosen k) _ _ (judged j) _ _ (begin (stay-in (scan k)) .pre .2) (t .enum-told4 .given .1) (c .unchanged2 .ensures)
-
-no-link-requires-2 : tie.Need-no-link-requires-2
-no-link-requires-2 c κs = search needs
 
 step-of-requires-2 : tie.Need-step-of-requires-2
 step-of-requires-2 c κs =
@@ -188,34 +149,34 @@ pub remove-spec : {M : Type 1} → statement M
 remove-spec =
     tie.close
     (tie.spec
-    check-remove-requires
-    enum-told
-    unchanged-requires
+    (λ c κs. search needs)
+    (λ c. search needs)
+    (λ c κs. search needs)
     returns
-    enum-told-2
-    enum-known-s
-    enum-told-3
-    no-link-requires
+    (λ c. search needs)
+    (λ c. search needs)
+    (λ c. search needs)
+    (λ c κs. search needs)
     step-of-requires
     returns-2
-    wide-requires
+    (λ c κs. search needs)
     array-write-setter
     array-read-fresh
     add-fresh
     array-write-fresh
-    mul-outs
+    (λ c. search needs)
     array-write-outs
-    mul-reading
+    (λ c. search needs)
     array-write-reading
     strengths-requires
     find-blocked-requires
     choose-requires
-    top-of-requires
+    (λ c κs. search needs)
     below-requires
     decide-requires
-    enum-told-4
+    (λ c. search needs)
     unchanged-requires-2
     returns-3
-    no-link-requires-2
+    (λ c κs. search needs)
     step-of-requires-2
     returns-4)

@@ -6,15 +6,9 @@ use Rattle.fieldset.proofs.Numbers.{count-le}
 use Rattle.reversal.proofs.count_of.Statement.{statement}
 use Rattle.reversal.proofs.count_of.Tie as tie
 
-size-requires : tie.Need-size-requires
-size-requires c κs = search needs
-
 cast-result : tie.Need-cast-result
 unfolding size
 cast-result c = record { fits = omega (arith, c .size .ensures, count-le (member (c .before .args .set)) 64) }
 
-returns : tie.Need-returns
-returns c = search needs
-
 pub count-of-spec : {M : Type 1} → statement M
-count-of-spec = tie.close (tie.spec size-requires cast-result returns)
+count-of-spec = tie.close (tie.spec (λ c κs. search needs) cast-result (λ c. search needs))

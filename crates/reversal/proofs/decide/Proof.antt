@@ -9,9 +9,6 @@ use Rattle.reversal.proofs.decide.Tie as tie
 abbrev s-of : tie.After-path-from → tie.Start
 s-of w = w .before .before .before
 
-lowest-at-requires : tie.Need-lowest-at-requires
-lowest-at-requires c κs = search needs
-
 path-from-requires : tie.Need-path-from-requires
 path-from-requires c κs =
     let s = c .before .before in
@@ -61,7 +58,7 @@ pub decide-spec : {M : Type 1} → statement M
 decide-spec =
     tie.close
     (tie.spec
-    lowest-at-requires
+    (λ c κs. search needs)
     path-from-requires
     reverse-reads-requires
     has-loop-requires

@@ -8,24 +8,12 @@ use Rattle.reversal.specs.Reversals.{HeldField, heldField}
 use Rattle.reversal.proofs.held_field.Statement.{statement}
 use Rattle.reversal.proofs.held_field.Tie as tie
 
-enum-told : tie.Need-enum-told
-enum-told c = search needs
-
-enum-known-s : tie.Need-enum-known-s
-enum-known-s c = search needs
-
-wide-requires : tie.Need-wide-requires
-wide-requires c κs = search needs
-
 only-requires : tie.Need-only-requires
 only-requires c κs = let k = c .before .before .s in omega (arith, c .wide .ensures, subst HeldField (k .given .1) (c .before .before .before .before .pre))
-
-returns : tie.Need-returns
-returns c = search needs
 
 returns-2 : tie.Need-returns-2
 returns-2 c = c .only .ensures ∙ ap only (c .before .wide .ensures) ∙ sym (ap heldField (c .before .before .before .s .given .1))
 
 pub held-field-spec : {M : Type 1} → statement M
 held-field-spec =
-    tie.close (tie.spec enum-told enum-known-s wide-requires only-requires returns returns-2)
+    tie.close (tie.spec (λ c. search needs) (λ c. search needs) (λ c κs. search needs) only-requires (λ c. search needs) returns-2)

@@ -19,12 +19,6 @@ abbrev μ-loop : tie.MeasureT-loop
 loop-holds : tie.Need-loop-holds Inv-loop μ-loop
 loop-holds c = (omega arith, refl)
 
-element-copy-out-wide : tie.Need-element-copy-out-wide Inv-loop μ-loop
-element-copy-out-wide c = omega arith
-
-wide-requires : tie.Need-wide-requires Inv-loop μ-loop
-wide-requires c κs = search needs
-
 mul-with : tie.Need-mul-with Inv-loop μ-loop
 mul-with c = omega (arith, c .before .before .before .before .pre .0 .fields (c .before .before .before .loop .i) (omega arith))
 
@@ -42,12 +36,6 @@ mul-reads c = omega (arith, c .before .before .before .before .before .before .b
 
 element-write-reads : tie.Need-element-write-reads Inv-loop μ-loop
 element-write-reads c = omega (arith, c .before .before .before .before .before .before .before .pre .0 .fields (c .before .before .before .before .before .before .loop .i) (omega arith))
-
-add-i : tie.Need-add-i Inv-loop μ-loop
-add-i c = omega arith
-
-loop-less : tie.Need-loop-less Inv-loop μ-loop
-loop-less c = omega arith
 
 loop-again : tie.Need-loop-again Inv-loop μ-loop
 loop-again c =
@@ -72,15 +60,15 @@ reverse-reads-spec =
     Inv-loop
     μ-loop
     loop-holds
-    element-copy-out-wide
-    wide-requires
+    (λ c. omega arith)
+    (λ c κs. search needs)
     mul-with
     element-copy-out-with
     with-requires
     without-requires
     mul-reads
     element-write-reads
-    add-i
-    loop-less
+    (λ c. omega arith)
+    (λ c. omega arith)
     loop-again
     returns)

@@ -8,18 +8,6 @@ use Rattle.reversal.proofs.Verdicts.{no-path, step-is}
 use Rattle.reversal.proofs.step_of.Statement.{statement}
 use Rattle.reversal.proofs.step_of.Tie as tie
 
-enum-known-verdict : tie.Need-enum-known-verdict
-enum-known-verdict c = search needs
-
-held-field-requires : tie.Need-held-field-requires
-held-field-requires c κs = search needs
-
-union-requires : tie.Need-union-requires
-union-requires c κs = search needs
-
-count-of-requires : tie.Need-count-of-requires
-count-of-requires c κs = search needs
-
 returns : tie.Need-returns
 returns c =
     let s = c .before .before .before .before .before in
@@ -37,4 +25,4 @@ returns c =
 pub step-of-spec : {M : Type 1} → statement M
 step-of-spec =
     tie.close
-    (tie.spec enum-known-verdict held-field-requires union-requires count-of-requires returns)
+    (tie.spec (λ c. search needs) (λ c κs. search needs) (λ c κs. search needs) (λ c κs. search needs) returns)

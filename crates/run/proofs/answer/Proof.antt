@@ -23,17 +23,8 @@ Inv-loop text out₀ next₀ p₀ t₀ out next p t = Sent lineAnswer Legal (ope
 abbrev μ-loop : tie.MeasureT-loop
 μ-loop text out₀ next₀ p₀ t₀ out next p t = length text - next
 
-large-buffer-requires : tie.Need-large-buffer-requires Inv-loop μ-loop
-large-buffer-requires c κs = search needs
-
-unopened-requires : tie.Need-unopened-requires Inv-loop μ-loop
-unopened-requires c κs = search needs
-
 loop-holds : tie.Need-loop-holds Inv-loop μ-loop
 loop-holds c = sent-none _ _ _ _ _ _ (sym (c .before .large-buffer .ensures)) (c .unopened .ensures .0) (c .unopened .ensures .1)
-
-slice-aggregate-lines-from : tie.Need-slice-aggregate-lines-from Inv-loop μ-loop
-slice-aggregate-lines-from c = search needs
 
 lines-from-requires : tie.Need-lines-from-requires Inv-loop μ-loop
 lines-from-requires c κs = let s = c .before .before .loop .inv in (s .within, s .legal)
@@ -48,12 +39,6 @@ array-share-prefix-out c = fits (c .before .before .before)
 slice-aggregate-write-all : tie.Need-slice-aggregate-write-all Inv-loop μ-loop
 slice-aggregate-write-all c = sym (length-take-le _ _ (fits (c .before .before .before .before)))
 
-write-all-requires : tie.Need-write-all-requires Inv-loop μ-loop
-write-all-requires c κs = search needs
-
-returns : tie.Need-returns Inv-loop μ-loop
-returns c = search needs
-
 loop-less : tie.Need-loop-less Inv-loop μ-loop
 loop-less c =
     let l = c .before .before .before .before .before .before in
@@ -66,12 +51,6 @@ loop-again c =
     let e = l .lines-from .ensures in
     sent-more _ _ _ _ _ _ _ _ (l .before .before .before .loop .inv) _ _ _ _ (e .0) (e .1)
 
-slice-aggregate-put-tally : tie.Need-slice-aggregate-put-tally Inv-loop μ-loop
-slice-aggregate-put-tally c = search needs
-
-put-tally-requires : tie.Need-put-tally-requires Inv-loop μ-loop
-put-tally-requires c κs = search needs
-
 -- the tally that ends it
 ends : (c : tie.After-put-tally Inv-loop μ-loop) → c .put-tally .result ≤ length (c .put-tally .last .0)
 ends c = let e = c .put-tally .ensures in last-fits _ _ _ _ _ _ _ _ (c .before .before .before .loop .inv) _ _ (e .0) (e .1)
@@ -82,32 +61,26 @@ array-share-prefix-out-2 c = ends (c .before)
 slice-aggregate-write-all-2 : tie.Need-slice-aggregate-write-all-2 Inv-loop μ-loop
 slice-aggregate-write-all-2 c = sym (length-take-le _ _ (ends (c .before .before)))
 
-write-all-requires-2 : tie.Need-write-all-requires-2 Inv-loop μ-loop
-write-all-requires-2 c κs = search needs
-
-returns-2 : tie.Need-returns-2 Inv-loop μ-loop
-returns-2 c = search needs
-
 pub answer-spec : {M : Type 1} → statement M
 answer-spec =
     tie.close
     (tie.spec
     Inv-loop
     μ-loop
-    large-buffer-requires
-    unopened-requires
+    (λ c κs. search needs)
+    (λ c κs. search needs)
     loop-holds
-    slice-aggregate-lines-from
+    (λ c. search needs)
     lines-from-requires
     array-share-prefix-out
     slice-aggregate-write-all
-    write-all-requires
-    returns
+    (λ c κs. search needs)
+    (λ c. search needs)
     loop-less
     loop-again
-    slice-aggregate-put-tally
-    put-tally-requires
+    (λ c. search needs)
+    (λ c κs. search needs)
     array-share-prefix-out-2
     slice-aggregate-write-all-2
-    write-all-requires-2
-    returns-2)
+    (λ c κs. search needs)
+    (λ c. search needs))

@@ -31,21 +31,6 @@ abbrev μ-loop2 : tie.MeasureT-loop2
 loop-holds : tie.Need-loop-holds Inv-loop μ-loop Inv-loop2 μ-loop2
 loop-holds c = (omega arith, scan-none _ _ link 128)
 
-mul-l : tie.Need-mul-l Inv-loop μ-loop Inv-loop2 μ-loop2
-mul-l c = omega arith
-
-element-copy-out-l : tie.Need-element-copy-out-l Inv-loop μ-loop Inv-loop2 μ-loop2
-element-copy-out-l c = omega arith
-
-is-blocked-requires : tie.Need-is-blocked-requires Inv-loop μ-loop Inv-loop2 μ-loop2
-is-blocked-requires c κs = search needs
-
-add-i : tie.Need-add-i Inv-loop μ-loop Inv-loop2 μ-loop2
-add-i c = omega arith
-
-loop-less : tie.Need-loop-less Inv-loop μ-loop Inv-loop2 μ-loop2
-loop-less c = omega arith
-
 loop-again : tie.Need-loop-again Inv-loop μ-loop Inv-loop2 μ-loop2
 loop-again c =
     let b = c .before .before .before .before .before in
@@ -61,15 +46,6 @@ loop-again c =
           (λ v. scan-keeps (a .inv .1) (w .1) (w .2) (omega (arith, link-level p (a .i) L l)) (v .left)) (w .0 .came))
           (c .if1 .came),
     )
-
-cast-t22 : tie.Need-cast-t22 Inv-loop μ-loop Inv-loop2 μ-loop2
-cast-t22 c = omega arith
-
-mul-t23 : tie.Need-mul-t23 Inv-loop μ-loop Inv-loop2 μ-loop2
-mul-t23 c = omega arith
-
-element-copy-out-t26 : tie.Need-element-copy-out-t26 Inv-loop μ-loop Inv-loop2 μ-loop2
-element-copy-out-t26 c = omega arith
 
 returns : tie.Need-returns Inv-loop μ-loop Inv-loop2 μ-loop2
 returns c =
@@ -97,12 +73,6 @@ element-copy-out-if4 c = omega (arith, c .before .before .before .before .before
 element-copy-out-if5 : tie.Need-element-copy-out-if5 Inv-loop μ-loop Inv-loop2 μ-loop2
 element-copy-out-if5 c = omega (arith, c .before .before .before .before .before .before .before .before .pre .0 .few)
 
-add-f : tie.Need-add-f Inv-loop μ-loop Inv-loop2 μ-loop2
-add-f c = omega arith
-
-loop2-less : tie.Need-loop2-less Inv-loop μ-loop Inv-loop2 μ-loop2
-loop2-less c = omega arith
-
 loop2-again : tie.Need-loop2-again Inv-loop μ-loop Inv-loop2 μ-loop2
 loop2-again c =
     let b = c .before .before .before .before .before .before .before .before in
@@ -126,9 +96,6 @@ loop2-again c =
           (λ v. scan-leaves (a .inv .1) (w .1) (w .2) (stay-sets p s t L S (a .f) l (v .left)))) (w .0 .came))
           (c .if4 .came),
     )
-
-cast-t39 : tie.Need-cast-t39 Inv-loop μ-loop Inv-loop2 μ-loop2
-cast-t39 c = omega arith
 
 -- both scans are done, and no link was found
 scanned-stays : (d : tie.After-loop2 Inv-loop μ-loop Inv-loop2 μ-loop2)
@@ -158,24 +125,24 @@ find-blocked-spec =
     Inv-loop2
     μ-loop2
     loop-holds
-    mul-l
-    element-copy-out-l
-    is-blocked-requires
-    add-i
-    loop-less
+    (λ c. omega arith)
+    (λ c. omega arith)
+    (λ c κs. search needs)
+    (λ c. omega arith)
+    (λ c. omega arith)
     loop-again
-    cast-t22
-    mul-t23
-    element-copy-out-t26
+    (λ c. omega arith)
+    (λ c. omega arith)
+    (λ c. omega arith)
     returns
     loop2-holds
     element-copy-out-level
     add-level
     element-copy-out-if4
     element-copy-out-if5
-    add-f
-    loop2-less
+    (λ c. omega arith)
+    (λ c. omega arith)
     loop2-again
-    cast-t39
+    (λ c. omega arith)
     returns-2
     returns-3)

@@ -4,15 +4,6 @@ use borrow.Author.Needs.{needs}
 use Rattle.scanning.proofs.is_blocked.Statement.{statement}
 use Rattle.scanning.proofs.is_blocked.Tie as tie
 
-enum-told : tie.Need-enum-told
-enum-told c = search needs
-
-is-over-requires : tie.Need-is-over-requires
-is-over-requires c κs = search needs
-
-enum-told-2 : tie.Need-enum-told-2
-enum-told-2 c = search needs
-
 returns : tie.Need-returns
 returns c =
     let t = c .before .before in
@@ -31,4 +22,4 @@ returns-3 c =
 
 pub is-blocked-spec : {M : Type 1} → statement M
 is-blocked-spec =
-    tie.close (tie.spec enum-told is-over-requires enum-told-2 returns returns-2 returns-3)
+    tie.close (tie.spec (λ c. search needs) (λ c κs. search needs) (λ c. search needs) returns returns-2 returns-3)

@@ -19,9 +19,6 @@ abbrev μ-loop : tie.MeasureT-loop
 loop-holds : tie.Need-loop-holds Inv-loop μ-loop
 loop-holds c = (omega arith, refl)
 
-lowest-requires : tie.Need-lowest-requires Inv-loop μ-loop
-lowest-requires c κs = search needs
-
 element-copy-out-if1 : tie.Need-element-copy-out-if1 Inv-loop μ-loop
 element-copy-out-if1 c =
     let a = c .before .before .loop in
@@ -32,9 +29,6 @@ returns c =
     let b = c .before .before .before .before .before .args in
     let a = c .before .before .before .before .loop in
     sym (over-lowest (b .table .now) (b .level) (a .rest) (a .inv .0) (omega arith) (rw (← c .before .before .lowest .ensures) (c .if1 .taken))) ∙ a .inv .1
-
-without-lowest-requires : tie.Need-without-lowest-requires Inv-loop μ-loop
-without-lowest-requires c κs = search needs
 
 loop-less : tie.Need-loop-less Inv-loop μ-loop
 loop-less c =
@@ -62,10 +56,10 @@ is-over-spec =
     Inv-loop
     μ-loop
     loop-holds
-    lowest-requires
+    (λ c κs. search needs)
     element-copy-out-if1
     returns
-    without-lowest-requires
+    (λ c κs. search needs)
     loop-less
     loop-again
     returns-2)

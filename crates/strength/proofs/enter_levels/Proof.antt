@@ -20,18 +20,6 @@ loop-holds : tie.Need-loop-holds Inv-loop μ-loop
 unfolding tabulate
 loop-holds c = (omega arith, refl)
 
-element-copy-out-table : tie.Need-element-copy-out-table Inv-loop μ-loop
-element-copy-out-table c = omega arith
-
-element-write-table : tie.Need-element-write-table Inv-loop μ-loop
-element-write-table c = omega arith
-
-add-v : tie.Need-add-v Inv-loop μ-loop
-add-v c = omega arith
-
-loop-less : tie.Need-loop-less Inv-loop μ-loop
-loop-less c = omega arith
-
 loop-again : tie.Need-loop-again Inv-loop μ-loop
 unfolding tabulate
 loop-again c =
@@ -51,4 +39,4 @@ returns c =
 pub enter-levels-spec : {M : Type 1} → statement M
 enter-levels-spec =
     tie.close
-    (tie.spec Inv-loop μ-loop loop-holds element-copy-out-table element-write-table add-v loop-less loop-again returns)
+    (tie.spec Inv-loop μ-loop loop-holds (λ c. omega arith) (λ c. omega arith) (λ c. omega arith) (λ c. omega arith) loop-again returns)

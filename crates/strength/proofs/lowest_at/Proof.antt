@@ -7,14 +7,8 @@ use borrow.Author.Needs.{needs}
 use Rattle.strength.proofs.lowest_at.Statement.{statement}
 use Rattle.strength.proofs.lowest_at.Tie as tie
 
-tied-requires : tie.Need-tied-requires
-tied-requires c κs = search needs
-
-lowest-requires : tie.Need-lowest-requires
-lowest-requires c κs = search needs
-
 returns : tie.Need-returns
 returns c = c .lowest .ensures ∙ ap lowestOf (c .before .tied .ensures) ∙ lowest-ties (at (c .before .before .args .table .now)) (c .before .before .args .s) (c .before .before .args .set)
 
 pub lowest-at-spec : {M : Type 1} → statement M
-lowest-at-spec = tie.close (tie.spec tied-requires lowest-requires returns)
+lowest-at-spec = tie.close (tie.spec (λ c κs. search needs) (λ c κs. search needs) returns)

@@ -18,17 +18,11 @@ abbrev μ-loop : tie.MeasureT-loop
 loop-holds : tie.Need-loop-holds Inv-loop μ-loop
 loop-holds c = filter-start
 
-first-requires : tie.Need-first-requires Inv-loop μ-loop
-first-requires c κs = omega arith
-
 element-copy-out-if1 : tie.Need-element-copy-out-if1 Inv-loop μ-loop
 element-copy-out-if1 c = c .first .ensures .field
 
 with-requires : tie.Need-with-requires Inv-loop μ-loop
 with-requires c κs = c .before .before .first .ensures .field
-
-without-lowest-requires : tie.Need-without-lowest-requires Inv-loop μ-loop
-without-lowest-requires c κs = omega arith
 
 loop-less : tie.Need-loop-less Inv-loop μ-loop
 loop-less c = first-falls (c .before .before .before .first .ensures) (c .without-lowest .ensures)
@@ -49,10 +43,10 @@ tied-spec =
     Inv-loop
     μ-loop
     loop-holds
-    first-requires
+    (λ c κs. omega arith)
     element-copy-out-if1
     with-requires
-    without-lowest-requires
+    (λ c κs. omega arith)
     loop-less
     loop-again
     returns)

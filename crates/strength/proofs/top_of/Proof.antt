@@ -16,17 +16,8 @@ abbrev μ-loop : tie.MeasureT-loop
 loop-holds : tie.Need-loop-holds Inv-loop μ-loop
 loop-holds c = top-start
 
-first-requires : tie.Need-first-requires Inv-loop μ-loop
-first-requires c κs = omega arith
-
 element-copy-out-larger : tie.Need-element-copy-out-larger Inv-loop μ-loop
 element-copy-out-larger c = c .first .ensures .field
-
-larger-requires : tie.Need-larger-requires Inv-loop μ-loop
-larger-requires c κs = search needs
-
-without-lowest-requires : tie.Need-without-lowest-requires Inv-loop μ-loop
-without-lowest-requires c κs = omega arith
 
 loop-less : tie.Need-loop-less Inv-loop μ-loop
 loop-less c = first-falls (c .before .before .before .first .ensures) (c .without-lowest .ensures)
@@ -45,10 +36,10 @@ top-of-spec =
     Inv-loop
     μ-loop
     loop-holds
-    first-requires
+    (λ c κs. omega arith)
     element-copy-out-larger
-    larger-requires
-    without-lowest-requires
+    (λ c κs. search needs)
+    (λ c κs. omega arith)
     loop-less
     loop-again
     returns)

@@ -17,45 +17,9 @@ abbrev μ-loop : tie.MeasureT-loop
 loop-holds : tie.Need-loop-holds Inv-loop μ-loop
 loop-holds c = let s = c .pre in (omega arith, record { levels-full = s .1; others-full = s .2; reads-full = s .3; setting = λ f l. absurd (omega arith) })
 
-element-copy-out-c : tie.Need-element-copy-out-c Inv-loop μ-loop
-element-copy-out-c c = search needs
-
-wide-requires : tie.Need-wide-requires Inv-loop μ-loop
-wide-requires c κs = search needs
-
-mul-setter-entry : tie.Need-mul-setter-entry Inv-loop μ-loop
-mul-setter-entry c = search needs
-
-element-copy-out-setter-entry : tie.Need-element-copy-out-setter-entry Inv-loop μ-loop
-element-copy-out-setter-entry c = search needs
-
-element-copy-out-setter-entry-2 : tie.Need-element-copy-out-setter-entry-2 Inv-loop μ-loop
-element-copy-out-setter-entry-2 c = search needs
-
 setter-entry-requires : tie.Need-setter-entry-requires Inv-loop μ-loop
 setter-entry-requires c κs = let a = c .before .before .before .before .before in
     (places _ (a .before .pre .0) (a .loop .f) (omega (arith, c .before .before .before .before .loop-test .taken)), omega (arith, c .before .before .before .before .loop-test .taken))
-
-element-write-levels : tie.Need-element-write-levels Inv-loop μ-loop
-element-write-levels c = search needs
-
-mul-others : tie.Need-mul-others Inv-loop μ-loop
-mul-others c = search needs
-
-element-write-others : tie.Need-element-write-others Inv-loop μ-loop
-element-write-others c = search needs
-
-mul-reads : tie.Need-mul-reads Inv-loop μ-loop
-mul-reads c = search needs
-
-element-write-reads : tie.Need-element-write-reads Inv-loop μ-loop
-element-write-reads c = search needs
-
-add-f : tie.Need-add-f Inv-loop μ-loop
-add-f c = search needs
-
-loop-less : tie.Need-loop-less Inv-loop μ-loop
-loop-less c = search needs
 
 loop-again : tie.Need-loop-again Inv-loop μ-loop
 loop-again c =
@@ -78,18 +42,18 @@ fill-tables-spec =
     Inv-loop
     μ-loop
     loop-holds
-    element-copy-out-c
-    wide-requires
-    mul-setter-entry
-    element-copy-out-setter-entry
-    element-copy-out-setter-entry-2
+    (λ c. search needs)
+    (λ c κs. search needs)
+    (λ c. search needs)
+    (λ c. search needs)
+    (λ c. search needs)
     setter-entry-requires
-    element-write-levels
-    mul-others
-    element-write-others
-    mul-reads
-    element-write-reads
-    add-f
-    loop-less
+    (λ c. search needs)
+    (λ c. search needs)
+    (λ c. search needs)
+    (λ c. search needs)
+    (λ c. search needs)
+    (λ c. search needs)
+    (λ c. search needs)
     loop-again
     returns)

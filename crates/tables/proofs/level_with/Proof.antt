@@ -4,9 +4,6 @@ use borrow.Author.Tests.{lt-ltb, le-ltb}
 use Rattle.tables.proofs.level_with.Statement.{statement}
 use Rattle.tables.proofs.level_with.Tie as tie
 
-add-result : tie.Need-add-result
-add-result c = search needs
-
 returns : tie.Need-returns
 returns c = rw (lt-ltb _ 128 (c .if1 .taken))
 
@@ -14,4 +11,4 @@ returns-2 : tie.Need-returns-2
 returns-2 c = rw (le-ltb _ 128 (c .if1 .left))
 
 pub level-with-spec : {M : Type 1} → statement M
-level-with-spec = tie.close (tie.spec add-result returns returns-2)
+level-with-spec = tie.close (tie.spec (λ c. search needs) returns returns-2)

@@ -5,15 +5,6 @@ use borrow.Author.Tests.{lt-ltb, le-ltb}
 use Rattle.tables.proofs.setter_entry.Statement.{statement}
 use Rattle.tables.proofs.setter_entry.Tie as tie
 
-without-requires : tie.Need-without-requires
-without-requires c κs = search needs
-
-without-requires-2 : tie.Need-without-requires-2
-without-requires-2 c κs = search needs
-
-add-t9 : tie.Need-add-t9
-add-t9 c = search needs
-
 returns : tie.Need-returns
 returns c =
     let t = lt-ltb _ 128 (c .before .before .if1 .taken) in
@@ -23,4 +14,4 @@ returns-2 : tie.Need-returns-2
 returns-2 c = let t = le-ltb _ 128 (c .if1 .left) in record { level = rw t; others = rw t; reads = rw t }
 
 pub setter-entry-spec : {M : Type 1} → statement M
-setter-entry-spec = tie.close (tie.spec without-requires without-requires-2 add-t9 returns returns-2)
+setter-entry-spec = tie.close (tie.spec (λ c κs. search needs) (λ c κs. search needs) (λ c. search needs) returns returns-2)

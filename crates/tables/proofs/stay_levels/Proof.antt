@@ -24,26 +24,8 @@ abbrev μ-loop : tie.MeasureT-loop
 loop-holds : tie.Need-loop-holds Inv-loop μ-loop
 loop-holds c = (omega arith, c .pre .1, sym (mapped-none (by (c .args .setter .now) (c .args .place .now)) (c .args .levels .now)))
 
-element-copy-out-level-with : tie.Need-element-copy-out-level-with Inv-loop μ-loop
-element-copy-out-level-with c = search needs
-
-element-copy-out-level-with-2 : tie.Need-element-copy-out-level-with-2 Inv-loop μ-loop
-element-copy-out-level-with-2 c = search needs
-
-element-copy-out-level-with-3 : tie.Need-element-copy-out-level-with-3 Inv-loop μ-loop
-element-copy-out-level-with-3 c = search needs
-
 level-with-requires : tie.Need-level-with-requires Inv-loop μ-loop
 level-with-requires c κs = let i = c .before .before .before in i .before .before .pre .0 (i .before .loop .f) (i .loop-test .taken)
-
-element-write-levels : tie.Need-element-write-levels Inv-loop μ-loop
-element-write-levels c = search needs
-
-add-f : tie.Need-add-f Inv-loop μ-loop
-add-f c = search needs
-
-loop-less : tie.Need-loop-less Inv-loop μ-loop
-loop-less c = search needs
 
 loop-again : tie.Need-loop-again Inv-loop μ-loop
 loop-again c =
@@ -70,12 +52,12 @@ stay-levels-spec =
     Inv-loop
     μ-loop
     loop-holds
-    element-copy-out-level-with
-    element-copy-out-level-with-2
-    element-copy-out-level-with-3
+    (λ c. search needs)
+    (λ c. search needs)
+    (λ c. search needs)
     level-with-requires
-    element-write-levels
-    add-f
-    loop-less
+    (λ c. search needs)
+    (λ c. search needs)
+    (λ c. search needs)
     loop-again
     returns)

@@ -29,12 +29,6 @@ next-field c =
     let a = c .before .before in
     omega (arith, a .before .before .before .pre .0 .fields (a .before .loop .i) (a .loop-test .taken), c .wide2 .ensures)
 
-enum-known-held : tie.Need-enum-known-held Inv-loop μ-loop
-enum-known-held c = search needs
-
-wide-requires : tie.Need-wide-requires Inv-loop μ-loop
-wide-requires c κs = search needs
-
 element-write-p : tie.Need-element-write-p Inv-loop μ-loop
 element-write-p c = freed-field c
 
@@ -47,20 +41,11 @@ add-levels c = search (needs, c .before .before .before .before .before .pre .1 
 element-write-levels : tie.Need-element-write-levels Inv-loop μ-loop
 element-write-levels c = freed-field (c .before)
 
-mul-others : tie.Need-mul-others Inv-loop μ-loop
-mul-others c = search needs
-
 element-write-others : tie.Need-element-write-others Inv-loop μ-loop
 element-write-others c = freed-field (c .before)
 
-mul-reads : tie.Need-mul-reads Inv-loop μ-loop
-mul-reads c = search needs
-
 element-write-reads : tie.Need-element-write-reads Inv-loop μ-loop
 element-write-reads c = freed-field (c .before)
-
-enum-told : tie.Need-enum-told Inv-loop μ-loop
-enum-told c = search needs
 
 -- what the loop starts from
 starts : (c : tie.At-match-came Inv-loop μ-loop)
@@ -75,41 +60,14 @@ starts c =
 loop-holds : tie.Need-loop-holds Inv-loop μ-loop
 loop-holds c = starts c .1
 
-element-copy-out-f : tie.Need-element-copy-out-f Inv-loop μ-loop
-element-copy-out-f c = search needs
-
-wide-requires-2 : tie.Need-wide-requires-2 Inv-loop μ-loop
-wide-requires-2 c κs = search needs
-
 element-copy-out-old : tie.Need-element-copy-out-old Inv-loop μ-loop
 element-copy-out-old c = next-field c
-
-wide-requires-3 : tie.Need-wide-requires-3 Inv-loop μ-loop
-wide-requires-3 c κs = search needs
-
-mul-l : tie.Need-mul-l Inv-loop μ-loop
-mul-l c = search needs
-
-element-copy-out-l : tie.Need-element-copy-out-l Inv-loop μ-loop
-element-copy-out-l c = search needs
 
 element-copy-out-setter-entry : tie.Need-element-copy-out-setter-entry Inv-loop μ-loop
 element-copy-out-setter-entry c = next-field (c .before .before .before)
 
 setter-entry-requires : tie.Need-setter-entry-requires Inv-loop μ-loop
 setter-entry-requires c κs = (c .before .before .before .before .before .before .before .loop .inv .placed _ (next-field (c .before .before .before .before)), next-field (c .before .before .before .before))
-
-standing-of-requires : tie.Need-standing-of-requires Inv-loop μ-loop
-standing-of-requires c κs = search needs
-
-mul-t41 : tie.Need-mul-t41 Inv-loop μ-loop
-mul-t41 c = search needs
-
-element-set-from-p : tie.Need-element-set-from-p Inv-loop μ-loop
-element-set-from-p c = search needs
-
-number-of-requires : tie.Need-number-of-requires Inv-loop μ-loop
-number-of-requires c κs = search needs
 
 element-write-p-2 : tie.Need-element-write-p-2 Inv-loop μ-loop
 element-write-p-2 c = next-field (c .before .before .before .before .before .before .before)
@@ -129,12 +87,6 @@ mul-reads-2 c = omega (arith, next-field (c .before .before .before .before .bef
 element-write-reads-2 : tie.Need-element-write-reads-2 Inv-loop μ-loop
 element-write-reads-2 c = next-field (c .before .before .before .before .before .before .before)
 
-add-i : tie.Need-add-i Inv-loop μ-loop
-add-i c = search needs
-
-loop-less : tie.Need-loop-less Inv-loop μ-loop
-loop-less c = search needs
-
 loop-again : tie.Need-loop-again Inv-loop μ-loop
 loop-again c =
     let e = c .before .before in
@@ -142,24 +94,6 @@ loop-again c =
     let a = w .before .before .before in
     let s = a .before .before in
     reversing-next (s .args .step .count) (s .args .path .now) (omega arith) (a .loop .inv) (w .before .before .loop-test .taken) (s .pre .0 .fields (a .loop .i) (w .before .before .loop-test .taken)) (w .wide2 .ensures) (e .before .before .before .wide3 .ensures) (c .before .standing-of .ensures) (c .number-of .ensures) (e .setter-entry .ensures)
-
-wide-requires-4 : tie.Need-wide-requires-4 Inv-loop μ-loop
-wide-requires-4 c κs = search needs
-
-mul-l-2 : tie.Need-mul-l-2 Inv-loop μ-loop
-mul-l-2 c = search needs
-
-element-copy-out-l-2 : tie.Need-element-copy-out-l-2 Inv-loop μ-loop
-element-copy-out-l-2 c = search needs
-
-standing-of-requires-2 : tie.Need-standing-of-requires-2 Inv-loop μ-loop
-standing-of-requires-2 c κs = search needs
-
-mul-t59 : tie.Need-mul-t59 Inv-loop μ-loop
-mul-t59 c = search needs
-
-element-set-from-p-2 : tie.Need-element-set-from-p-2 Inv-loop μ-loop
-element-set-from-p-2 c = search needs
 
 returns : tie.Need-returns Inv-loop μ-loop
 returns c =
@@ -175,43 +109,43 @@ reverse-spec =
     (tie.spec
     Inv-loop
     μ-loop
-    enum-known-held
-    wide-requires
+    (λ c. search needs)
+    (λ c κs. search needs)
     element-write-p
     element-copy-out-levels
     add-levels
     element-write-levels
-    mul-others
+    (λ c. search needs)
     element-write-others
-    mul-reads
+    (λ c. search needs)
     element-write-reads
-    enum-told
+    (λ c. search needs)
     loop-holds
-    element-copy-out-f
-    wide-requires-2
+    (λ c. search needs)
+    (λ c κs. search needs)
     element-copy-out-old
-    wide-requires-3
-    mul-l
-    element-copy-out-l
+    (λ c κs. search needs)
+    (λ c. search needs)
+    (λ c. search needs)
     element-copy-out-setter-entry
     setter-entry-requires
-    standing-of-requires
-    mul-t41
-    element-set-from-p
-    number-of-requires
+    (λ c κs. search needs)
+    (λ c. search needs)
+    (λ c. search needs)
+    (λ c κs. search needs)
     element-write-p-2
     element-write-levels-2
     mul-others-2
     element-write-others-2
     mul-reads-2
     element-write-reads-2
-    add-i
-    loop-less
+    (λ c. search needs)
+    (λ c. search needs)
     loop-again
-    wide-requires-4
-    mul-l-2
-    element-copy-out-l-2
-    standing-of-requires-2
-    mul-t59
-    element-set-from-p-2
+    (λ c κs. search needs)
+    (λ c. search needs)
+    (λ c. search needs)
+    (λ c κs. search needs)
+    (λ c. search needs)
+    (λ c. search needs)
     returns)

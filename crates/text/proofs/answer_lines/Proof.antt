@@ -84,35 +84,14 @@ loop-holds c = (refl, refl, c .fill-tables .ensures, start _ _ _ _ _ _ _ _ (s-of
 sub-if1 : tie.Need-sub-if1 Inv-loop μ-loop
 sub-if1 c = c .before .loop .inv .3 .fits
 
-line-end-requires : tie.Need-line-end-requires Inv-loop μ-loop
-line-end-requires c κs = search needs
-
-sub-read-line : tie.Need-sub-read-line Inv-loop μ-loop
-sub-read-line c = search needs
-
-part-read-line-start : tie.Need-part-read-line-start Inv-loop μ-loop
-part-read-line-start c = search needs
-
 part-read-line-end : tie.Need-part-read-line-end Inv-loop μ-loop
 part-read-line-end c = ends c
-
-read-line-requires : tie.Need-read-line-requires Inv-loop μ-loop
-read-line-requires c κs = search needs
-
-number-of-requires : tie.Need-number-of-requires Inv-loop μ-loop
-number-of-requires c κs = search needs
-
-wide-requires : tie.Need-wide-requires Inv-loop μ-loop
-wide-requires c κs = search needs
 
 mul-old : tie.Need-mul-old Inv-loop μ-loop
 mul-old c = omega (arith, number-small c)
 
 element-copy-out-old : tie.Need-element-copy-out-old Inv-loop μ-loop
 element-copy-out-old c = omega (arith, number-small c)
-
-enum-known-command : tie.Need-enum-known-command Inv-loop μ-loop
-enum-known-command c = search needs
 
 remove-requires : tie.Need-remove-requires Inv-loop μ-loop
 remove-requires c κs =
@@ -204,12 +183,6 @@ rest-short b = let r = b .before in omega (arith, rest-is r, stepped (joined-of 
 rows-fit : (b : tie.After-reply-bytes Inv-loop μ-loop) → b .before .rest-of .result ≤ length (joined-of (b .before .before) .match .rows)
 rows-fit b = omega (arith, rest-short b, stepped (joined-of (b .before .before)) .rows-full)
 
-rest-of-requires : tie.Need-rest-of-requires Inv-loop μ-loop
-rest-of-requires c κs = search needs
-
-reply-bytes-requires : tie.Need-reply-bytes-requires Inv-loop μ-loop
-reply-bytes-requires c κs = search needs
-
 -- ---- what one line does
 
 -- the line, and its reply
@@ -228,12 +201,6 @@ line-does b =
     let t = taken (r .before) in
     did _ (line-of n) _ (fields-at n) (read-of n .read-line .ensures .bytes) _ _ _ _ (stepped m) _ (t .panel) (t .legal) _ (rest-is r) _ (b .reply-bytes .ensures .0) (b .reply-bytes .ensures .1)
 
-array-read-put-line : tie.Need-array-read-put-line Inv-loop μ-loop
-array-read-put-line c = search needs
-
-array-read-put-line-2 : tie.Need-array-read-put-line-2 Inv-loop μ-loop
-array-read-put-line-2 c = search needs
-
 array-share-prefix-rows : tie.Need-array-share-prefix-rows Inv-loop μ-loop
 array-share-prefix-rows c = rows-fit (c .before)
 
@@ -247,21 +214,6 @@ put-line-requires c κs =
     let m = joined-of (r .before) in
     let l = loop-of (m .before) in
     omega (arith, rest-short b, length-take (r .rest-of .result) (m .match .rows), l .loop .inv .3 .fits, s-of (l .before .before) .pre .2)
-
-array-read-refusal-of : tie.Need-array-read-refusal-of Inv-loop μ-loop
-array-read-refusal-of c = search needs
-
-array-read-refusal-of-2 : tie.Need-array-read-refusal-of-2 Inv-loop μ-loop
-array-read-refusal-of-2 c = search needs
-
-refusal-of-requires : tie.Need-refusal-of-requires Inv-loop μ-loop
-refusal-of-requires c κs = search needs
-
-tallied-line-requires : tie.Need-tallied-line-requires Inv-loop μ-loop
-tallied-line-requires c κs = search needs
-
-behind-requires : tie.Need-behind-requires Inv-loop μ-loop
-behind-requires c κs = search needs
 
 abbrev bytes-at : tie.After-behind Inv-loop μ-loop → tie.After-reply-bytes Inv-loop μ-loop
 bytes-at c = c .before .before .before .before .before .before .before .before
@@ -309,34 +261,34 @@ answer-lines-spec =
     fill-tables-requires
     loop-holds
     sub-if1
-    line-end-requires
-    sub-read-line
-    part-read-line-start
+    (λ c κs. search needs)
+    (λ c. search needs)
+    (λ c. search needs)
     part-read-line-end
-    read-line-requires
-    number-of-requires
-    wide-requires
+    (λ c κs. search needs)
+    (λ c κs. search needs)
+    (λ c κs. search needs)
     mul-old
     element-copy-out-old
-    enum-known-command
+    (λ c. search needs)
     remove-requires
     decide-line-requires
     mul-link
     element-set-from-link
     stay-levels-requires
     reverse-requires
-    rest-of-requires
-    reply-bytes-requires
-    array-read-put-line
-    array-read-put-line-2
+    (λ c κs. search needs)
+    (λ c κs. search needs)
+    (λ c. search needs)
+    (λ c. search needs)
     array-share-prefix-rows
     slice-aggregate-put-line
     put-line-requires
-    array-read-refusal-of
-    array-read-refusal-of-2
-    refusal-of-requires
-    tallied-line-requires
-    behind-requires
+    (λ c. search needs)
+    (λ c. search needs)
+    (λ c κs. search needs)
+    (λ c κs. search needs)
+    (λ c κs. search needs)
     loop-less
     loop-again
     same-length

@@ -34,17 +34,8 @@ tail-there c =
     let l = s .args .line in
     omega (arith, s .pre .1 .0 .reaches _ _ (k .command2 .given .1), s .pre .1 .0 .short, s .pre .1 .0 .full, length-take (l .len) (l .frame))
 
-enum-known-command : tie.Need-enum-known-command
-enum-known-command c = search needs
-
 open-requires : tie.Need-open-requires
 open-requires c κs = c .before .before .before .pre .0 .0
-
-enum-known-command-2 : tie.Need-enum-known-command-2
-enum-known-command-2 c = search needs
-
-array-share-prefix-frame : tie.Need-array-share-prefix-frame
-array-share-prefix-frame c = search needs
 
 slice-aggregate-bytes : tie.Need-slice-aggregate-bytes
 slice-aggregate-bytes c =
@@ -57,41 +48,11 @@ sub-add c = tail-there c
 part-add-start : tie.Need-part-add-start
 part-add-start c = tail-there c
 
-part-add-end : tie.Need-part-add-end
-part-add-end c = search needs
-
 add-requires : tie.Need-add-requires
 add-requires c κs =
     let k = c .before .before .before .before .before in
     let s = k .before .before in
     (s .pre .0 .0, s .pre .0 .1, s .pre .0 .2 ∙ ap (λ (x : Command). linkAt (s .args .p .links) (numberOf x)) (k .command2 .given .1), s .pre .1 .1)
-
-enum-told : tie.Need-enum-told
-enum-told c = search needs
-
-keep-requires : tie.Need-keep-requires
-keep-requires c κs = search needs
-
-enum-known-command-3 : tie.Need-enum-known-command-3
-enum-known-command-3 c = search needs
-
-touch-requires : tie.Need-touch-requires
-touch-requires c κs = search needs
-
-enum-told-2 : tie.Need-enum-told-2
-enum-told-2 c = search needs
-
-plan-requires : tie.Need-plan-requires
-plan-requires c κs = search needs
-
-keep-requires-2 : tie.Need-keep-requires-2
-keep-requires-2 c κs = search needs
-
-enum-known-command-4 : tie.Need-enum-known-command-4
-enum-known-command-4 c = search needs
-
-keep-requires-3 : tie.Need-keep-requires-3
-keep-requires-3 c κs = search needs
 
 returns : tie.Need-returns
 returns c =
@@ -141,24 +102,24 @@ pub decide-line-spec : {M : Type 1} → statement M
 decide-line-spec =
     tie.close
     (tie.spec
-    enum-known-command
+    (λ c. search needs)
     open-requires
-    enum-known-command-2
-    array-share-prefix-frame
+    (λ c. search needs)
+    (λ c. search needs)
     slice-aggregate-bytes
     sub-add
     part-add-start
-    part-add-end
+    (λ c. search needs)
     add-requires
-    enum-told
-    keep-requires
-    enum-known-command-3
-    touch-requires
-    enum-told-2
-    plan-requires
-    keep-requires-2
-    enum-known-command-4
-    keep-requires-3
+    (λ c. search needs)
+    (λ c κs. search needs)
+    (λ c. search needs)
+    (λ c κs. search needs)
+    (λ c. search needs)
+    (λ c κs. search needs)
+    (λ c κs. search needs)
+    (λ c. search needs)
+    (λ c κs. search needs)
     returns
     returns-2
     returns-3

@@ -5,16 +5,10 @@ use Rattle.text.proofs.lines_from.Statement.{statement}
 use Rattle.text.proofs.lines_from.Tie as tie
 use Rattle.text.proofs.answer_lines.Reads as answer-lines-reads
 
-answer-lines-requires : tie.Need-answer-lines-requires
-answer-lines-requires c κs = search needs
-
-same-length : tie.Need-same-length
-same-length c = search needs
-
 returns : tie.Need-returns
 returns c =
     let a = c .before .before .answer-lines .ensures in
     (a .0, resumed _ _ _ _ _ _ _ _ _ _ (a .0) (a .1))
 
 pub lines-from-spec : {M : Type 1} → statement M
-lines-from-spec = tie.close (tie.spec answer-lines-requires same-length returns)
+lines-from-spec = tie.close (tie.spec (λ c κs. search needs) (λ c. search needs) returns)

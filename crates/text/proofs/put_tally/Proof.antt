@@ -12,33 +12,6 @@ use Rattle.text.proofs.put_tally.Tie as tie
 use Rattle.hex.proofs.put_line.Reads as put-line-reads
 use Rattle.tally.proofs.tally_bytes.Reads as tally-bytes-reads
 
-tally-bytes-requires : tie.Need-tally-bytes-requires
-tally-bytes-requires c κs = search needs
-
-array-read-first : tie.Need-array-read-first
-array-read-first c = search needs
-
-array-read-second : tie.Need-array-read-second
-array-read-second c = search needs
-
-slice-aggregate-all : tie.Need-slice-aggregate-all
-slice-aggregate-all c = search needs
-
-sub-put-line : tie.Need-sub-put-line
-sub-put-line c = search needs
-
-part-put-line-start : tie.Need-part-put-line-start
-part-put-line-start c = search needs
-
-part-put-line-end : tie.Need-part-put-line-end
-part-put-line-end c = search needs
-
-put-line-requires : tie.Need-put-line-requires
-put-line-requires c κs = search needs
-
-same-length : tie.Need-same-length
-same-length c = search needs
-
 returns : tie.Need-returns
 returns c =
     let w = c .before .before .put-line .ensures in
@@ -50,13 +23,13 @@ pub put-tally-spec : {M : Type 1} → statement M
 put-tally-spec =
     tie.close
     (tie.spec
-    tally-bytes-requires
-    array-read-first
-    array-read-second
-    slice-aggregate-all
-    sub-put-line
-    part-put-line-start
-    part-put-line-end
-    put-line-requires
-    same-length
+    (λ c κs. search needs)
+    (λ c. search needs)
+    (λ c. search needs)
+    (λ c. search needs)
+    (λ c. search needs)
+    (λ c. search needs)
+    (λ c. search needs)
+    (λ c κs. search needs)
+    (λ c. search needs)
     returns)

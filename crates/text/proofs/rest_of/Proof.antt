@@ -6,17 +6,8 @@ use Rattle.text.proofs.Arms.{no-rest}
 use Rattle.text.proofs.rest_of.Statement.{statement}
 use Rattle.text.proofs.rest_of.Tie as tie
 
-enum-told : tie.Need-enum-told
-enum-told c = search needs
-
-rows-of-requires : tie.Need-rows-of-requires
-rows-of-requires c κs = search needs
-
-returns : tie.Need-returns
-returns c = search needs
-
 returns-2 : tie.Need-returns-2
 returns-2 c = sym (no-rest (c .before .args .command) (c .before .args .reply) (c .match .keys2))
 
 pub rest-of-spec : {M : Type 1} → statement M
-rest-of-spec = tie.close (tie.spec enum-told rows-of-requires returns returns-2)
+rest-of-spec = tie.close (tie.spec (λ c. search needs) (λ c κs. search needs) (λ c. search needs) returns-2)

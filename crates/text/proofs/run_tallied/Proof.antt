@@ -17,17 +17,8 @@ use Rattle.text.proofs.put_tally.Reads as put-tally-reads
 returns : tie.Need-returns
 returns c = let s = c .before .before .before .args in too-long lineAnswer (s .text .now) (s .out .now) (opened 0) (s .t) (c .if1 .taken)
 
-unopened-requires : tie.Need-unopened-requires
-unopened-requires c κs = search needs
-
 answer-lines-requires : tie.Need-answer-lines-requires
 answer-lines-requires c κs = (omega arith, c .before .unopened .ensures .1, omega arith)
-
-put-tally-requires : tie.Need-put-tally-requires
-put-tally-requires c κs = search needs
-
-same-length : tie.Need-same-length
-same-length c = search needs
 
 returns-2 : tie.Need-returns-2
 returns-2 c =
@@ -44,8 +35,8 @@ run-tallied-spec =
     tie.close
     (tie.spec
     returns
-    unopened-requires
+    (λ c κs. search needs)
     answer-lines-requires
-    put-tally-requires
-    same-length
+    (λ c κs. search needs)
+    (λ c. search needs)
     returns-2)

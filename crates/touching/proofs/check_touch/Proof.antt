@@ -9,9 +9,6 @@ use Rattle.touching.proofs.check_touch.Tie as tie
 returns : tie.Need-returns
 returns c = rw (eq-eqb _ 0 (c .if1 .taken))
 
-wide-requires : tie.Need-wide-requires
-wide-requires c κs = search needs
-
 returns-2 : tie.Need-returns-2
 returns-2 c = rw (ne-eqb _ 0 (c .before .before .if1 .left), le-leb _ _ (rw (c .before .wide .ensures) at (c .if2 .taken)))
 
@@ -19,4 +16,4 @@ returns-3 : tie.Need-returns-3
 returns-3 c = rw (ne-eqb _ 0 (c .before .before .if1 .left), lt-leb _ _ (rw (c .before .wide .ensures) at (c .if2 .left)))
 
 pub check-touch-spec : {M : Type 1} → statement M
-check-touch-spec = tie.close (tie.spec returns wide-requires returns-2 returns-3)
+check-touch-spec = tie.close (tie.spec returns (λ c κs. search needs) returns-2 returns-3)

@@ -4,9 +4,6 @@ use Rattle.touching.proofs.pushed.Statement.{statement}
 use Rattle.touching.proofs.pushed.Tie as tie
 
 -- src/lib.rt:213:17
-add-result : tie.Need-add-result
-add-result c = search needs
-
 -- src/lib.rt:210:1
 returns : tie.Need-returns
 returns c = simp (lt-ltb _ _ (c .if1 .taken))
@@ -16,4 +13,4 @@ returns-2 : tie.Need-returns-2
 returns-2 c = simp (le-ltb _ _ (c .if1 .left))
 
 pub pushed-spec : {M : Type 1} → statement M
-pushed-spec = tie.close (tie.spec add-result returns returns-2)
+pushed-spec = tie.close (tie.spec (λ c. search needs) returns returns-2)

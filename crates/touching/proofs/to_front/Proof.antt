@@ -15,35 +15,14 @@ Inv-loop place₀ f at g₀ place g = (g ≤ 64) × (place ≡ mapped (pushedAt 
 abbrev μ-loop : tie.MeasureT-loop
 μ-loop place₀ f at g₀ place g = 64 - g
 
-element-copy-out-at : tie.Need-element-copy-out-at Inv-loop μ-loop
-element-copy-out-at c = omega arith
-
 loop-holds : tie.Need-loop-holds Inv-loop μ-loop
 loop-holds c = (omega arith, sym (mapped-none (pushedAt (at (c .before .args .place .now) (c .before .args .f))) (c .before .args .place .now)))
-
-element-copy-out-pushed : tie.Need-element-copy-out-pushed Inv-loop μ-loop
-element-copy-out-pushed c = omega arith
-
-pushed-requires : tie.Need-pushed-requires Inv-loop μ-loop
-pushed-requires c κs = search needs
-
-element-write-place : tie.Need-element-write-place Inv-loop μ-loop
-element-write-place c = omega arith
-
-add-g : tie.Need-add-g Inv-loop μ-loop
-add-g c = omega arith
-
-loop-less : tie.Need-loop-less Inv-loop μ-loop
-loop-less c = omega arith
 
 loop-again : tie.Need-loop-again Inv-loop μ-loop
 loop-again c =
     let l = c .before .before .before in
     let s = l .before .before in
     (omega arith, mapped-more (pushedAt (at (s .args .place .now) (s .args .f))) (s .args .place .now) (l .loop .g) _ _ (omega (arith, s .pre .1)) (l .loop .inv .1) (c .pushed .ensures))
-
-element-write-place-2 : tie.Need-element-write-place-2 Inv-loop μ-loop
-element-write-place-2 c = omega arith
 
 returns : tie.Need-returns Inv-loop μ-loop
 returns c =
@@ -58,13 +37,13 @@ to-front-spec =
     (tie.spec
     Inv-loop
     μ-loop
-    element-copy-out-at
+    (λ c. omega arith)
     loop-holds
-    element-copy-out-pushed
-    pushed-requires
-    element-write-place
-    add-g
-    loop-less
+    (λ c. omega arith)
+    (λ c κs. search needs)
+    (λ c. omega arith)
+    (λ c. omega arith)
+    (λ c. omega arith)
     loop-again
-    element-write-place-2
+    (λ c. omega arith)
     returns)

@@ -74,15 +74,6 @@ then-of c = c .before .before .before .before .before
 abbrev f-of : tie.After-stay-levels → tie.After-to-front
 f-of c = then-of c .before
 
-check-touch-requires : tie.Need-check-touch-requires
-check-touch-requires c κs = search needs
-
-enum-told : tie.Need-enum-told
-enum-told c = search needs
-
-unchanged-requires : tie.Need-unchanged-requires
-unchanged-requires c κs = search needs
-
 returns : tie.Need-returns
 returns c =
     let e = c .before .before in
@@ -92,12 +83,6 @@ returns c =
     decides-refused (s .args .p) n _ _ (touching (s .args .f)) _ (s .pre .2) _ _ same (e .enum-told .given .1)
     (subst (Says (s .args .p) (touching (s .args .f)) (Touchable (s .args .p) (s .args .f))) (sym (k .check-touch .ensures) ∙ e .enum-told .given .1) (touch-checks (s .args .p) (s .args .f)))
     (c .unchanged .ensures)
-
-enum-told-2 : tie.Need-enum-told-2
-enum-told-2 c = search needs
-
-wide-requires : tie.Need-wide-requires
-wide-requires c κs = search needs
 
 to-front-requires : tie.Need-to-front-requires
 to-front-requires c κs =
@@ -123,12 +108,6 @@ resolve-requires c κs =
     let f = f-of l in
     rw (o .only .ensures)
     (front-unresolved (p-of f) (s-of f .pre .0) _ (touchable f) _ (f .to-front .ensures) (then-of l .if1 .taken) (s-of f .pre .1) (l .stay-levels .ensures) _ (s-of f .pre .2))
-
-enum-told-3 : tie.Need-enum-told-3
-enum-told-3 c = search needs
-
-unchanged-requires-2 : tie.Need-unchanged-requires-2
-unchanged-requires-2 c κs = search needs
 
 returns-2 : tie.Need-returns-2
 returns-2 c =
@@ -167,19 +146,19 @@ pub touch-spec : {M : Type 1} → statement M
 touch-spec =
     tie.close
     (tie.spec
-    check-touch-requires
-    enum-told
-    unchanged-requires
+    (λ c κs. search needs)
+    (λ c. search needs)
+    (λ c κs. search needs)
     returns
-    enum-told-2
-    wide-requires
+    (λ c. search needs)
+    (λ c κs. search needs)
     to-front-requires
     array-read-if1
     stay-levels-requires
     only-requires
     resolve-requires
-    enum-told-3
-    unchanged-requires-2
+    (λ c. search needs)
+    (λ c κs. search needs)
     returns-2
     step-of-requires
     returns-3)
