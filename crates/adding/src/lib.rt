@@ -4,6 +4,7 @@ use fieldbytes::read_fields;
 use fieldset::below;
 use fieldset::size;
 use fieldset::within;
+use panel::LAST_LINK;
 use panel::Link;
 use panel::Panel;
 use panel::Refusal;
@@ -30,7 +31,7 @@ ghost use Rattle.adding.specs.Checks.{isBadLink, checkAdd};
 fn is_bad_link(id: u8, level: u8, covered: u64, outputs: u64, rising: bool) -> bool
     ensures { λ r. ⌜ r ≡ isBadLink id level covered outputs rising ⌝ }
 {
-    if 127 < id {
+    if LAST_LINK < id {
         return true;
     }
     if 15 < level {

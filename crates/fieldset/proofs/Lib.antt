@@ -6,3 +6,5 @@ pub mod Emptying
 pub mod Bits
 pub mod Tables
 pub mod Lists
+pub mod Maps
+pub mod Rest

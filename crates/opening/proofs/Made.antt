@@ -11,7 +11,7 @@ use Rattle.panel.specs.Items.{noLink}
 use Rattle.panel.specs.Panels.{opened}
 use Rattle.panel.specs.Legal.{Legal}
 use Rattle.panel.proofs.Changes.{legal-opened}
-use Rattle.tables.proofs.Maps.{mapped, mapped-all}
+use Rattle.fieldset.proofs.Maps.{mapped, mapped-all}
 
 abbrev made : Link → List ℕ → Panel
 made l place = record { size = 0; links = replicate 128 l; place = place; setter = replicate 64 128 }

@@ -1,6 +1,6 @@
 -- Steps: what a step leaves as it was, and the step that leaves the panel as it is.
-use Prim.Native.Nat.{ℕ, _≤_, _<_}
-use mathlib.Core.Path.{_≡_, refl, sym, ap, ap₂, _∙_, subst}
+use Prim.Native.Nat.{ℕ}
+use mathlib.Core.Path.{_≡_, refl, sym, ap, _∙_}
 use mathlib.Core.Bool.{not}
 use mathlib.Core.List.{List}
 use mathlib.Core.Logic.{inl}
@@ -18,7 +18,7 @@ use Rattle.panel.specs.declared.Refusal.{Refusal}
 use Rattle.panel.specs.declared.Reply.{Reply}
 use Rattle.panel.specs.declared.Reply.the-variants.{Refused}
 use Rattle.panel.specs.declared.Step.{Step}
-use Rattle.panel.specs.Items.{noLink, linkAt, itemOf}
+use Rattle.panel.specs.Items.{noLink, linkAt}
 use Rattle.panel.specs.Answers.{Answer, refused, replyBytes}
 use Rattle.panel.specs.Panels.{freed}
 use Rattle.panel.specs.Solution.{reversed}

@@ -1,5 +1,5 @@
 -- What an operation promises: the step that it answers, taken, gives the panel and the reply of the command.
-use Prim.Native.Nat.{ℕ, _^_, _≤_, _<_}
+use Prim.Native.Nat.{ℕ, _≤_, _<_}
 use mathlib.Core.Path.{_≡_}
 use mathlib.Core.Bool.{not}
 use mathlib.Core.Logic.{_⊎_}
@@ -15,7 +15,7 @@ use Rattle.panel.specs.declared.Panel.{Panel}
 use Rattle.panel.specs.declared.Reply.{Reply}
 use Rattle.panel.specs.declared.Step.{Step}
 use Rattle.panel.specs.Items.{itemOf, linkAt}
-use Rattle.panel.specs.Answers.{Answer, replyBytes}
+use Rattle.panel.specs.Answers.{replyBytes}
 use Rattle.panel.specs.Panels.{freed}
 use Rattle.panel.specs.Solution.{reversed}
 use Rattle.panel.specs.Commands.{Command, performed, planning}

@@ -7,6 +7,9 @@ ghost use Rattle.panel.specs.Outcomes.{unchanged};
 // The setter of a field that its stay sets.
 pub const STAY: u8 = 128;
 
+// The largest number of a link: the panel has a place for each of 128 links.
+pub const LAST_LINK: u8 = 127;
+
 // A link's standing: it waits, or it holds one named field.
 pub enum Standing {
     Waiting,

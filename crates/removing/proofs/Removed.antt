@@ -41,7 +41,7 @@ use Rattle.panel.proofs.Reversal.{Blocking, blocking, legal-waits}
 use Rattle.panel.proofs.Checks.{Says}
 use Rattle.panel.proofs.Outcomes.{decides-unchanged}
 use Rattle.tables.specs.Tables.{Tabled, StrengthsOf}
-use Rattle.tables.proofs.Maps.{tableOf}
+use Rattle.fieldset.proofs.Maps.{tableOf}
 use Rattle.tables.proofs.Tables.{greatest-same, panel-acyclic, panel-among, panel-strengths, all-strengths}
 use Rattle.reversal.specs.declared.Verdict.{Verdict}
 use Rattle.reversal.specs.declared.Verdict.the-variants.{Free, Looped, Path}

@@ -2,6 +2,7 @@
 use fieldset::below;
 use fieldset::only;
 use fieldset::wide;
+use panel::LAST_LINK;
 use panel::Link;
 use panel::Panel;
 use panel::Refusal;
@@ -36,7 +37,7 @@ fn check_remove(n: usize, id: u8, used: bool) -> Reply
     if n == 0 {
         return Reply::Refused(Refusal::NotOpen);
     }
-    if 127 < id {
+    if LAST_LINK < id {
         return Reply::Refused(Refusal::BadLink);
     }
     if !used {

@@ -12,7 +12,7 @@ use Rattle.fieldset.specs.Tables.{at}
 use Rattle.fieldset.specs.Fields.{member, setOf, with, without}
 use Rattle.fieldset.proofs.Fields.{setOf-cong, member-setOf-lt}
 use Rattle.panel.specs.Commands.{anyOf}
-use Rattle.tables.proofs.Rest.{rest, rest-next, rest-end}
+use Rattle.fieldset.proofs.Rest.{rest, rest-next, rest-end}
 use Rattle.reversal.specs.Reversals.{reversedReads, fieldsOf}
 
 module _ (n : ℕ) (path : List ℕ) (long : n ≤ length path) where

@@ -1,4 +1,2 @@
-pub mod Maps
-pub mod Rest
 pub mod Settings
 pub mod Tables

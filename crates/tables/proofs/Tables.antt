@@ -3,7 +3,7 @@ use mathlib.Core.Path.{_≡_, refl, sym, ap, ap₂, _∙_}
 use mathlib.Core.Logic.{_≢_}
 use mathlib.Core.Bool.{Bool, true, false, _&&_}
 use mathlib.Core.List.{List, _∷_}
-use Prim.Native.Nat.{ℕ, zero, suc, _≤_, _<_, max}
+use Prim.Native.Nat.{ℕ, zero, suc, _<_, max}
 use native.Mathlib.Nat.{lt-of-lt-of-le}
 use native.Mathlib.Omega.{arith}
 use borrow.Author.Tests.{eqb-false, lt-ltb, ltb-true}
@@ -30,7 +30,7 @@ use Rattle.panel.specs.Legal.{Legal}
 use Rattle.panel.proofs.Legal.{Carrying}
 use Rattle.panel.proofs.Setters.{whole, others-inside, setter-reads-inside, setter-ranked, setter-falls}
 use Rattle.tables.specs.Tables.{Tabled, StrengthsOf}
-use Rattle.tables.proofs.Maps.{tableOf, at-table, length-table}
+use Rattle.fieldset.proofs.Maps.{tableOf, at-table, length-table}
 
 -- ---- functions that agree on the fields below n, whose other outputs are below n too
 

@@ -5,14 +5,14 @@ use mathlib.Core.Bool.{Bool, true, false, cond}
 use mathlib.Core.List.{List, [], _∷_}
 use mathlib.Core.Logic.{_≢_, _⊎_, inl, inr}
 use native.Mathlib.Nat.{mod-eq-of-lt}
-use native.Mathlib.Numerals.{add-one}
 use native.Mathlib.Decide.{ℕ-discrete}
 use native.Mathlib.Omega.{arith}
 use borrow.Author.Tests.{ltb-true}
 use lib.Dec.{ltb}
-use lib.ListN.{length, take, drop, set, length-set, drop-of-length-le}
-use lib.Seq.{drop-cons, getD-take, length-take-le, set-getD, getD-set-same, getD-set-other}
+use lib.ListN.{length, take, set, length-set}
+use lib.Seq.{set-getD, getD-set-same, getD-set-other}
 use Rattle.fieldset.specs.Tables.{at}
+use Rattle.fieldset.proofs.Rest.{rest, rest-next, rest-end}
 use Rattle.panel.specs.declared.Standing.{Standing}
 use Rattle.panel.specs.declared.Standing.the-variants.{Waiting, Holding}
 use Rattle.panel.specs.declared.Link.{Link}
@@ -26,17 +26,6 @@ use Rattle.tables.specs.declared.Entry.{Entry}
 use Rattle.tables.specs.Tables.{EntryOf, Setting, Tabled, Places}
 use Rattle.tables.proofs.Settings.{entry-setting, same-setting, tabled-same}
 use Rattle.taking.specs.Taking.{TabledBut}
-
--- what is left of a path of n fields after i
-abbrev pub rest : ℕ → List ℕ → ℕ → List ℕ
-rest n path i = drop i (take n path)
-
-rest-next : (n i : ℕ) (path : List ℕ) → i < n → n ≤ length path → rest n path i ≡ at path i ∷ rest n path (i + 1)
-rest-next n i path l h =
-    drop-cons (take n path) i 0 (rw (length-take-le n path h) l) ∙ rw (getD-take n path i 0 l, add-one i)
-
-rest-end : (n i : ℕ) (path : List ℕ) → n ≤ i → n ≤ length path → rest n path i ≡ []
-rest-end n i path l h = drop-of-length-le (take n path) {i = i} (rw (length-take-le n path h) l)
 
 -- ---- the panel
 

@@ -1,32 +1,23 @@
 -- The panel and its tables after the step of a command.
 use Prim.Native.Nat.{ℕ, _<_}
 use mathlib.Core.Path.{_≡_, refl, sym, ap, _∙_, subst}
-use mathlib.Core.Bool.{Bool, true, false}
 use mathlib.Core.List.{List}
 use mathlib.Core.Logic.{_⊎_, inl, inr, ⊎-elim}
 use native.Mathlib.Decide.{ℕ-discrete}
 use native.Mathlib.Omega.{arith}
-use borrow.Author.Tests.{ltb-true, ltb-false}
-use lib.Dec.{ltb}
 use lib.ListN.{length, take, set}
 use Rattle.fieldset.specs.Tables.{at, tabulate}
-use Rattle.fieldset.specs.Fields.{without}
 use Rattle.fieldset.proofs.Tables.{length-tabulate, getD-tabulate}
-use Rattle.panel.specs.declared.Standing.the-variants.{Waiting, Holding}
-use Rattle.panel.specs.declared.Link.{Link}
+use Rattle.panel.specs.declared.Standing.the-variants.{Holding}
 use Rattle.panel.specs.declared.Panel.{Panel}
-use Rattle.panel.specs.declared.Reply.{Reply}
 use Rattle.panel.specs.declared.Step.{Step}
 use Rattle.panel.specs.Items.{link, linkAt, itemOf}
 use Rattle.panel.specs.Panels.{freed}
 use Rattle.panel.specs.Solution.{reversed}
-use Rattle.panel.specs.Commands.{Command, performed}
 use Rattle.panel.specs.Outcomes.{altered, taken, Takes}
 use Rattle.panel.specs.Legal.{Legal}
-use Rattle.panel.proofs.Reversed.{setter-link, setter-stay, link-here, link-there}
-use Rattle.panel.proofs.Legal.{holding-not-waiting}
-use Rattle.panel.proofs.Outcomes.{taken-place, taken-still, altered-size}
-use Rattle.panel.proofs.Performed.{legal-performed}
+use Rattle.panel.proofs.Reversed.{link-here, link-there}
+use Rattle.panel.proofs.Outcomes.{taken-place, taken-still}
 use Rattle.tables.specs.Tables.{Setting, Tabled, Places, levelWith}
 use Rattle.tables.proofs.Settings.{places, placed-setting}
 use Rattle.taking.specs.Taking.{TabledBut}

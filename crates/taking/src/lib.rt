@@ -9,7 +9,7 @@ use tables::setter_entry;
 ghost use mathlib.Core.Path.{_≡_};
 ghost use mathlib.Core.Bool.{cond};
 ghost use lib.Dec.{ltb};
-ghost use lib.ListN.{length, take};
+ghost use lib.ListN.{take};
 ghost use Rattle.fieldset.specs.Tables.{at};
 ghost use Rattle.panel.specs.Items.{itemOf};
 ghost use Rattle.panel.specs.Panels.{standing, freed};

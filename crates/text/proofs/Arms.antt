@@ -22,7 +22,6 @@ use Rattle.panel.specs.Legal.{Legal}
 use Rattle.panel.proofs.Outcomes.{takes-size}
 use Rattle.panel.proofs.Performed.{legal-performed}
 use Rattle.planning.proofs.Replies.{plan-keeps, plan-length, plan-rest}
-use Rattle.hex.specs.Hex.{lineOf}
 use Rattle.hex.proofs.Bytes.{length-line}
 use Rattle.frames.specs.declared.Command.{Command}
 use Rattle.frames.specs.declared.Command.the-variants.{Open, Add, Remove, Touch, Plan, Refused}
@@ -32,7 +31,6 @@ use Rattle.frames.specs.Texts.{Answered}
 use Rattle.frames.specs.Frames.{frameOf, commandBytes, commandOf, answerTo, answered, commandAnswer, lineAnswer}
 use Rattle.frames.specs.Reading.{LineRead}
 use Rattle.frames.proofs.Reading.{add-reaches}
-use Rattle.text.specs.Runs.{longest}
 use Rattle.text.specs.Lines.{rowsLength, restOf, Framed, LineStep, Decided}
 use Rattle.text.proofs.Going.{Did}
 

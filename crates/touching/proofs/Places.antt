@@ -12,7 +12,7 @@ use lib.Seq.{ext-getD, getD-set-same, getD-set-other}
 use Rattle.fieldset.specs.Tables.{at, tabulate}
 use Rattle.fieldset.proofs.Tables.{length-tabulate, getD-tabulate}
 use Rattle.panel.specs.Panels.{placeAfter}
-use Rattle.tables.proofs.Maps.{mapped, mapped-all}
+use Rattle.fieldset.proofs.Maps.{mapped, mapped-all}
 
 -- a place before `front` moves down one
 abbrev pub pushedAt : ℕ → ℕ → ℕ → ℕ

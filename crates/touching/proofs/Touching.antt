@@ -5,7 +5,7 @@ use mathlib.Core.Logic.{_≢_, inl}
 use mathlib.Core.List.{List}
 use Prim.Native.Nat.{ℕ, zero, suc, _≤_, _<_}
 use native.Mathlib.Omega.{arith}
-use borrow.Author.Tests.{lt-ltb, le-ltb, le-leb, lt-leb, eq-eqb, eqb-true, eqb-false, leb-true, leb-false}
+use borrow.Author.Tests.{lt-ltb, le-ltb, eq-eqb, eqb-true, eqb-false, leb-false}
 use lib.Dec.{eqb, ltb, leb}
 use lib.ListN.{length, set}
 use lib.Seq.{set-getD}
@@ -15,7 +15,7 @@ use Rattle.fieldset.proofs.Tables.{length-tabulate, getD-tabulate}
 use Rattle.fieldset.proofs.Fields.{member-only, member-below, member-empty}
 use Rattle.fieldset.proofs.Numbers.{clash}
 use Rattle.strength.specs.Filling.{Within}
-use Rattle.panel.specs.declared.Standing.the-variants.{Waiting, Holding}
+use Rattle.panel.specs.declared.Standing.the-variants.{Waiting}
 use Rattle.panel.specs.declared.Link.{Link}
 use Rattle.panel.specs.declared.Panel.{Panel}
 use Rattle.panel.specs.declared.Refusal.the-variants.{NotOpen, NoSuchField, Loop}
@@ -31,7 +31,7 @@ use Rattle.panel.proofs.Legal.{Carrying, LegalBut, holding-not-waiting}
 use Rattle.panel.proofs.Changes.{legal-front}
 use Rattle.panel.proofs.Checks.{Says, says, applies, passes, none-left}
 use Rattle.panel.proofs.Reversal.{legal-waits}
-use Rattle.tables.specs.Tables.{Tabled, Setting, levelWith}
+use Rattle.tables.specs.Tables.{Tabled, levelWith}
 use Rattle.tables.proofs.Settings.{placed-setting}
 use Rattle.reversal.specs.declared.Verdict.{Verdict}
 use Rattle.reversal.specs.declared.Verdict.the-variants.{Free, Looped}

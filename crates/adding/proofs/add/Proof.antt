@@ -1,20 +1,16 @@
 -- `adding::add` meets its contract.
-use mathlib.Core.Path.{_≡_, refl, sym, ap, _∙_, subst}
-use mathlib.Core.Logic.{_≢_, ⊎-elim}
+use mathlib.Core.Path.{refl, sym, ap, _∙_, subst}
+use mathlib.Core.Logic.{⊎-elim}
 use Prim.Native.Nat.{ℕ, _%_}
-use native.Mathlib.Omega.{arith}
 use borrow.Author.Needs.{needs}
 use mathlib.Core.List.{List}
 use Rattle.panel.specs.declared.Link.{Link}
-use Rattle.panel.specs.declared.Reply.{Reply}
 use Rattle.panel.specs.declared.Refusal.the-variants.{Conflict, Loop}
 use Rattle.panel.specs.declared.Standing.the-variants.{Waiting}
 use Rattle.panel.specs.Commands.{Command, adding}
 use Rattle.panel.specs.Outcomes.{Decides}
 use Rattle.panel.proofs.Checks.{Says}
 use Rattle.panel.proofs.Outcomes.{decides-refused}
-use Rattle.reversal.specs.declared.Verdict.{Verdict}
-use Rattle.reversal.specs.declared.Verdict.the-variants.{Free}
 use Rattle.reversal.specs.Reversals.{Resolved, stepOf}
 use Rattle.reversal.proofs.Verdicts.{no-loop, no-free}
 use Rattle.adding.specs.Checks.{checkAdd}

@@ -7,7 +7,7 @@ use mathlib.Core.List.{_∷_}
 use lib.Dec.{eqb}
 use lib.ListN.{take, drop}
 use Rattle.panel.specs.Commands.{hasBit6, anyOf}
-use Prim.Native.Nat.{ℕ, _≤_}
+use Prim.Native.Nat.{ℕ}
 use native.Mathlib.Omega.{arith}
 use Rattle.fieldset.specs.Tables.{at}
 use Rattle.frames.specs.Frames.{fitsKind, checkedFrame}

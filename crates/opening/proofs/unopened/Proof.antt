@@ -3,7 +3,7 @@ use Prim.Native.Nat.{_≤_, _-_}
 use mathlib.Core.Path.{_≡_, refl, sym}
 use borrow.Author.Needs.{needs}
 use native.Mathlib.Omega.{arith}
-use Rattle.tables.proofs.Maps.{mapped, mapped-none, mapped-more}
+use Rattle.fieldset.proofs.Maps.{mapped, mapped-none, mapped-more}
 use Rattle.opening.proofs.Made.{made-unopened}
 use Rattle.opening.proofs.unopened.Statement.{statement}
 use Rattle.opening.proofs.unopened.Tie as tie

@@ -2,7 +2,6 @@
 use mathlib.Core.Path.{ap, _∙_, subst, sym}
 use native.Mathlib.Omega.{arith}
 use borrow.Author.Needs.{needs}
-use Rattle.panel.specs.declared.Standing.{Standing}
 use Rattle.fieldset.specs.Fields.{only}
 use Rattle.reversal.specs.Reversals.{HeldField, heldField}
 use Rattle.reversal.proofs.held_field.Statement.{statement}

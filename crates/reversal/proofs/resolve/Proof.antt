@@ -1,9 +1,7 @@
 -- `reversal::resolve` meets its contract.
-use mathlib.Core.Path.{refl, ap, _∙_}
+use mathlib.Core.Path.{refl}
 use native.Mathlib.Omega.{arith}
-use borrow.Author.Needs.{needs}
 use borrow.Author.Tests.{le-ltb}
-use lib.Dec.{ltb}
 use Rattle.reversal.proofs.Deciding.{resolved}
 use Rattle.reversal.proofs.resolve.Statement.{statement}
 use Rattle.reversal.proofs.resolve.Tie as tie

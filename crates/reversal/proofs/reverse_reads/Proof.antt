@@ -5,7 +5,7 @@ use native.Mathlib.Omega.{arith}
 use borrow.Author.Needs.{needs}
 use Rattle.reversal.specs.Reversals.{reversedReads}
 use lib.ListN.{take}
-use Rattle.tables.proofs.Rest.{rest}
+use Rattle.fieldset.proofs.Rest.{rest}
 use Rattle.reversal.proofs.Fields.{reads-next, reads-end}
 use Rattle.reversal.proofs.reverse_reads.Statement.{statement}
 use Rattle.reversal.proofs.reverse_reads.Tie as tie

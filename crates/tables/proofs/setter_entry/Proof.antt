@@ -1,5 +1,4 @@
 -- `tables::setter_entry` meets its contract.
-use mathlib.Core.Path.{refl}
 use borrow.Author.Needs.{needs}
 use borrow.Author.Tests.{lt-ltb, le-ltb}
 use Rattle.tables.proofs.setter_entry.Statement.{statement}

@@ -7,7 +7,7 @@ use borrow.Author.Needs.{needs}
 use lib.ListN.{length, length-set}
 use Rattle.fieldset.specs.Tables.{at}
 use Rattle.tables.specs.Tables.{levelWith}
-use Rattle.tables.proofs.Maps.{mapped, mapped-none, mapped-more, mapped-all}
+use Rattle.fieldset.proofs.Maps.{mapped, mapped-none, mapped-more, mapped-all}
 use Rattle.tables.proofs.stay_levels.Statement.{statement}
 use Rattle.tables.proofs.stay_levels.Tie as tie
 

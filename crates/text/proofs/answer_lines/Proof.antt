@@ -9,10 +9,8 @@ use native.Mathlib.Omega.{arith}
 use lib.ListN.{length, getD, take, drop, length-take}
 use lib.Seq.{length-sets, length-take-le}
 use Rattle.panel.specs.declared.Panel.{Panel}
-use Rattle.panel.specs.declared.Step.{Step}
 use Rattle.panel.specs.Items.{linkAt}
 use Rattle.panel.specs.Commands.{removing}
-use Rattle.panel.specs.Outcomes.{altered}
 use Rattle.panel.specs.Legal.{Legal}
 use Rattle.tables.specs.Tables.{Tabled}
 use Rattle.taking.proofs.Taking.{Taken, places-taken, taken-reversed, tabled-altered, taken-unmoved}

@@ -1,21 +1,16 @@
 -- `text::decide_line` meets its contract, an arm by one law.
-use mathlib.Core.Path.{_≡_, refl, sym, ap, _∙_, subst}
-use mathlib.Core.List.{List}
-use Prim.Native.Nat.{ℕ, _%_, _≤_}
+use mathlib.Core.Path.{_≡_, refl, sym, ap, _∙_}
+use Prim.Native.Nat.{_≤_}
 use native.Mathlib.Omega.{arith}
 use borrow.Author.Needs.{needs}
-use lib.ListN.{length, take, drop, length-take}
+use lib.ListN.{length, take, length-take}
 use lib.Seq.{length-take-le}
-use Rattle.panel.specs.declared.Link.{Link}
-use Rattle.panel.specs.declared.Panel.{Panel}
-use Rattle.panel.specs.declared.Step.{Step}
 use Rattle.panel.specs.Items.{linkAt}
 use Rattle.panel.specs.Commands.{opening, adding, touching}
-use Rattle.panel.specs.Outcomes.{Decides}
 use Rattle.frames.specs.declared.Command.{Command}
-use Rattle.frames.specs.declared.Command.the-variants.{Open, Add, Touch, Plan, Refused}
+use Rattle.frames.specs.declared.Command.the-variants.{Open, Add, Touch}
 use Rattle.frames.specs.Frames.{numberOf}
-use Rattle.text.specs.Lines.{fieldsOf, Decided, LineStep}
+use Rattle.text.specs.Lines.{fieldsOf}
 use Rattle.text.proofs.Arms.{performed-step, refused-step, plan-step, add-tail}
 use Rattle.text.proofs.decide_line.Statement.{statement}
 use Rattle.text.proofs.decide_line.Tie as tie

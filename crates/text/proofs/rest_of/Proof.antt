@@ -1,6 +1,5 @@
 -- `text::rest_of` meets its contract.
-use mathlib.Core.Path.{_∙_, sym, ap}
-use native.Mathlib.Omega.{arith}
+use mathlib.Core.Path.{sym}
 use borrow.Author.Needs.{needs}
 use Rattle.text.proofs.Arms.{no-rest}
 use Rattle.text.proofs.rest_of.Statement.{statement}

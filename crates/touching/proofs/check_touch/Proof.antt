@@ -1,6 +1,4 @@
 -- `touching::check_touch` meets its contract.
-use mathlib.Core.Path.{_≡_, refl, ap}
-use native.Mathlib.Omega.{arith}
 use borrow.Author.Needs.{needs}
 use borrow.Author.Tests.{eq-eqb, ne-eqb, le-leb, lt-leb}
 use Rattle.touching.proofs.check_touch.Statement.{statement}

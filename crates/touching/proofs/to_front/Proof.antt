@@ -1,10 +1,10 @@
 -- `touching::to_front` meets its contract: the places passed are pushed down.
-use Prim.Native.Nat.{ℕ, _≤_, _-_}
+use Prim.Native.Nat.{_≤_, _-_}
 use mathlib.Core.Path.{_≡_, sym, ap, _∙_}
 use borrow.Author.Needs.{needs}
 use native.Mathlib.Omega.{arith}
 use Rattle.fieldset.specs.Tables.{at}
-use Rattle.tables.proofs.Maps.{mapped, mapped-none, mapped-more}
+use Rattle.fieldset.proofs.Maps.{mapped, mapped-none, mapped-more}
 use Rattle.touching.proofs.Places.{pushedAt, front-set}
 use Rattle.touching.proofs.to_front.Statement.{statement}
 use Rattle.touching.proofs.to_front.Tie as tie

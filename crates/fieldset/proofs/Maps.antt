@@ -1,30 +1,25 @@
 -- Tables that are written from the front: the first entries are a function's, the rest is as it was.
-use Prim.Native.Nat.{ℕ, suc, _+_, _-_, _≤_, _<_}
+use Prim.Native.Nat.{ℕ, suc, _+_, _≤_, _<_}
 use mathlib.Core.Path.{_≡_, refl, sym, ap, _∙_}
 use mathlib.Core.List.{List, [], _∷_, _++_, append-assoc, append-nil}
 use native.Mathlib.Nat.{le-refl}
 use native.Mathlib.Numerals.{add-one}
 use native.Mathlib.Omega.{arith}
-use lib.ListN.{length, drop, set, length-append, length-drop, drop-of-length-le, List·getD-append}
-use lib.Seq.{drop-cons, set-at, getD-append-add, getD-drop}
+use borrow.Author.Tests.{lt-ltb, le-ltb}
+use lib.ListN.{length, drop, set, length-append, length-drop, drop-of-length-le}
+use lib.Seq.{drop-cons, set-at}
 use Rattle.fieldset.specs.Tables.{at, tabulate}
-use Rattle.fieldset.proofs.Tables.{length-tabulate, getD-tabulate}
+use Rattle.fieldset.proofs.Tables.{length-tabulate, getD-tabulated}
 
 abbrev pub tableOf : (ℕ → ℕ) → ℕ → List ℕ → List ℕ
 tableOf g n before = tabulate g n ++ drop n before
 
 module _ (g : ℕ → ℕ) (before : List ℕ) where
   pub at-table : (n f : ℕ) → f < n → at (tableOf g n before) f ≡ g f
-  at-table n f l =
-      List·getD-append (tabulate g n) (drop n before) 0 f (rw (length-tabulate g n) l) ∙ getD-tabulate g n f 0 l
+  at-table n f l = getD-tabulated g n before f ∙ rw (lt-ltb f n l)
 
   pub at-rest : (n f : ℕ) → n ≤ f → at (tableOf g n before) f ≡ at before f
-  at-rest n f l =
-      let split : f ≡ length (tabulate g n) + (f - n) = omega (arith, length-tabulate g n) in
-      ap (λ (x : ℕ). at (tableOf g n before) x) split
-      ∙ getD-append-add (tabulate g n) (drop n before) (f - n) 0
-      ∙ getD-drop n before (f - n) 0
-      ∙ ap (at before) (omega arith)
+  at-rest n f l = getD-tabulated g n before f ∙ rw (le-ltb f n l)
 
   pub length-table : (n : ℕ) → n ≤ length before → length (tableOf g n before) ≡ length before
   length-table n l = simp (length-append, length-drop) (omega (arith, length-tabulate g n))
