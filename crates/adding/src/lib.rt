@@ -85,8 +85,8 @@ fn waiting_link(level: u8, fields: Fields) -> Link
 }
 
 // Decides on adding a link; `old` is the link that stands under its number.
-// The contract rules out, for instance, counting an equal strength as blocked and setters that never change (must-fail: equal_is_blocked,
-// setters_never_change).
+// The contract rules out, for instance, a link that a field blocks which it only reads and setters that never change (must-fail:
+// blocked_by_a_read_field, setters_never_change).
 pub fn add(
     p: Panel,
     old: Link,
