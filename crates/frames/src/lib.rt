@@ -58,7 +58,7 @@ fn has_bit6(frame: &[u8; hex::FRAME_ROOM], n: usize) -> bool
     false
 }
 
-// The command of the first n bytes of a buffer; as many as the buffer has are no frame.
+// The command of the first n bytes of a buffer. A frame is shorter than the buffer: where n is its whole length, they are no frame.
 pub fn read_frame(frame: &[u8; hex::FRAME_ROOM], n: usize) -> Command
     requires { ⌜ length (now frame) ≡ frameRoom ⌝ }
     ensures { λ r. ⌜ commandBytes r (drop 3 (take n (now (frame .entry)))) ≡ checkedFrame (take n (now (frame .entry))) ⌝ }

@@ -35,6 +35,10 @@ abbrev pub planRest : Reply → ℕ
 planRest (Accepted n) = 3 * n
 planRest (Refused r) = 0
 
+-- at most: three bytes for each of 64 fields
+abbrev pub rowsLength : ℕ
+rowsLength = 192
+
 -- a reply that is a refusal
 abbrev pub isRefusal : List ℕ → Bool
 isRefusal reply = eqb (getD reply 0 0) 0xFF

@@ -1,4 +1,4 @@
--- What a legal panel is: what every operation may rely on, and shows again for the panel that it hands back.
+-- What a legal panel is: what every operation may rely on. Every command keeps its panel legal (`proofs/Performed.antt`).
 use Prim.Native.Nat.{ℕ, _^_, _≤_, _<_}
 use mathlib.Core.Path.{_≡_}
 use mathlib.Core.Logic.{_≢_}

@@ -34,7 +34,7 @@ strengthOf p f = strength (setterLevel p) (setterOthers p) (p .size) f
 unfoldable pub isBlocked : Panel → Item → Bool
 isBlocked p c = waits (p .size) (p .links) (p .setter) c && any (λ u. member (outputsOf (p .links) c) u && ltb (level p c) (strengthOf p u)) 64
 
--- the walk for c, from its output of greatest strength
+-- the reversible path for c, from its output of greatest strength
 unfoldable pub pathFor : Panel → Item → List ℕ
 pathFor p c =
     let v = strongest (strengthOf p) (outputsOf (p .links) c) in

@@ -7,8 +7,14 @@ ghost use Rattle.panel.specs.Outcomes.{unchanged};
 // The setter of a field that its stay sets.
 pub const STAY: u8 = 128;
 
+// The level of the stay at place 0, behind every link's level, which is at most 15.
+pub const STAY_LEVEL: u8 = 16;
+
 // The largest number of a link: the panel has a place for each of 128 links.
 pub const LAST_LINK: u8 = 127;
+
+// The bytes of the rows of a largest plan: three for each of 64 fields.
+pub const ROWS: usize = 192;
 
 // A link's standing: it waits, or it holds one named field.
 pub enum Standing {

@@ -1,6 +1,7 @@
 // The plan.
 use fieldset::wide;
 use panel::Panel;
+use panel::ROWS;
 use panel::Refusal;
 use panel::Reply;
 use strength::strengths;
@@ -9,13 +10,14 @@ ghost use Prim.Native.Nat.{_<_, _*_};
 ghost use mathlib.Core.List.{[], _∷_};
 ghost use lib.ListN.{length};
 ghost use lib.Seq.{sets};
+ghost use Rattle.panel.specs.Answers.{rowsLength};
 ghost use Rattle.panel.specs.Legal.{Legal};
 ghost use Rattle.panel.specs.Outcomes.{Plans};
 ghost use Rattle.tables.specs.Tables.{Tabled};
 
 // Writes the row of a field: the field, its setter and its strength.
-fn put_row(rows: &mut [u8; 192], i: usize, f: u8, c: u8, s: u8)
-    requires { ⌜ (i < 64) × (length (now rows) ≡ 192) ⌝ }
+fn put_row(rows: &mut [u8; ROWS], i: usize, f: u8, c: u8, s: u8)
+    requires { ⌜ (i < 64) × (length (now rows) ≡ rowsLength) ⌝ }
     ensures { λ r. ⌜ now (rows .exit) ≡ sets (now (rows .entry)) (3 * i) (f ∷ c ∷ s ∷ []) ⌝ }
 {
     rows[3 * i] = f;
@@ -31,9 +33,9 @@ pub fn plan(
     levels: &[u8; 64],
     others: &[u64; 64],
     reads: &[u64; 64],
-    rows: &mut [u8; 192],
+    rows: &mut [u8; ROWS],
 ) -> Reply
-    requires { ⌜ Legal p × Tabled p (now levels) (now others) (now reads) × (length (now rows) ≡ 192) ⌝ }
+    requires { ⌜ Legal p × Tabled p (now levels) (now others) (now reads) × (length (now rows) ≡ rowsLength) ⌝ }
     ensures { λ r. ⌜ Plans p r (now (rows .entry)) (now (rows .exit)) ⌝ }
 {
     let n = p.size;

@@ -8,6 +8,7 @@ use panel::Panel;
 use panel::Refusal;
 use panel::Reply;
 use panel::STAY;
+use panel::STAY_LEVEL;
 use panel::Standing;
 use panel::Step;
 use panel::no_link;
@@ -105,14 +106,14 @@ pub fn remove(
     let Standing::Holding(h) = s else {
         return step_of(Verdict::Free, n, &place, no_link(), s, STAY);
     };
-    // its stay steps in
+    // its stay sets the field
     let v = wide(h);
     let mut setter = p.setter;
     let mut fresh = *levels;
     let mut outs = *others;
     let mut reading = *reads;
     setter[v] = STAY;
-    fresh[v] = 16 + place[v];
+    fresh[v] = STAY_LEVEL + place[v];
     outs[v] = 0;
     reading[v] = 0;
     let mut table = [0u8; 64];

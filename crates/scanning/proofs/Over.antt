@@ -1,5 +1,5 @@
 -- Laws of what is blocked, by a table of the strengths.
-use Prim.Native.Nat.{ℕ, _^_, _≤_, _<_}
+use Prim.Native.Nat.{ℕ, _≤_, _<_}
 use mathlib.Core.Path.{_≡_, refl, sym, ap, _∙_}
 use mathlib.Core.Bool.{Bool, true, false, _&&_, and-false}
 use mathlib.Core.List.{List}
@@ -10,9 +10,10 @@ use borrow.Author.Tests.{lt-ltb, le-ltb, eq-eqb, ne-eqb}
 use lib.Dec.{eqb, ltb}
 use Rattle.fieldset.specs.Numbers.{any}
 use Rattle.fieldset.specs.Tables.{at}
-use Rattle.fieldset.specs.Fields.{member, only, without, lowestOf}
+use Rattle.fieldset.specs.Fields.{member, only, without, lowestOf, First}
 use Rattle.fieldset.proofs.Numbers.{any-here, any-none, any-cong}
-use Rattle.fieldset.proofs.Fields.{member-empty, member-only, member-without-other, lowestOf-lt, lowestOf-member}
+use Rattle.fieldset.proofs.Fields.{member-only}
+use Rattle.fieldset.proofs.Emptying.{Emptying, empty-start, empty-step, empty-end, taken-in}
 use Rattle.panel.specs.declared.Standing.{Standing}
 use Rattle.panel.specs.declared.Standing.the-variants.{Waiting, Holding}
 use Rattle.panel.specs.declared.Link.{Link}
@@ -25,28 +26,25 @@ use Rattle.panel.proofs.Legal.{filled, force-formed}
 use Rattle.tables.specs.Tables.{StrengthsOf}
 use Rattle.scanning.specs.Scan.{isOver, isBlockedLink, withSetters}
 
-module _ (table : List ℕ) (level : ℕ) where
-  pub over-none : isOver table level 0 ≡ false
+-- the fields of a set that are done have no entry above a level
+pub record NoneOver (table : List ℕ) (level set rest : ℕ) : Type 0 where
+  pub loop : Emptying set (λ b u. (b && ltb level (at table u)) ≡ false) rest
+
+module _ {table : List ℕ} {level set : ℕ} where
+  pub over-start : NoneOver table level set set
+  over-start = record { loop = empty-start (λ u l. refl) }
+
+  pub over-end : {rest : ℕ} → NoneOver table level set rest → rest ≡ 0 → isOver table level set ≡ false
   unfolding isOver
-  over-none = any-none (λ u. member 0 u && ltb level (at table u)) 64 (λ i l. rw (member-empty i))
+  over-end e z = any-none (λ u. member set u && ltb level (at table u)) 64 (empty-end (e .loop) z)
 
-  module _ (m : ℕ) (small : m < 2 ^ 64) (pos : 0 < m) where
-    pub over-lowest : level < at table (lowestOf m) → isOver table level m ≡ true
-    unfolding isOver
-    over-lowest h =
-        any-here (λ u. member m u && ltb level (at table u)) 64 (lowestOf m) (lowestOf-lt m small pos)
-        (rw (lowestOf-member m small pos) (lt-ltb level (at table (lowestOf m)) h))
+  module _ {rest u : ℕ} (e : NoneOver table level set rest) (U : First rest u) where
+    pub over-step : {rest′ : ℕ} → at table u ≤ level → rest′ ≡ without rest (lowestOf rest) → NoneOver table level set rest′
+    over-step h r = record { loop = empty-step (e .loop) U r (λ b j l d o. o) (le-ltb level (at table u) h) }
 
-    -- a field whose entry is not above the level may go
-    pub over-rest : at table (lowestOf m) ≤ level → isOver table level (without m (lowestOf m)) ≡ isOver table level m
+    pub over-found : level < at table u → isOver table level set ≡ true
     unfolding isOver
-    over-rest h =
-        any-cong (λ u. member (without m (lowestOf m)) u && ltb level (at table u)) (λ u. member m u && ltb level (at table u)) 64
-        (λ u l. go u l (ℕ-discrete u (lowestOf m)))
-      where
-        go : (u : ℕ) → u < 64 → Dec (u ≡ lowestOf m) → (member (without m (lowestOf m)) u && ltb level (at table u)) ≡ (member m u && ltb level (at table u))
-        go u l (yes e) = rw (e, le-ltb level (at table (lowestOf m)) h) (and-false (member (without m (lowestOf m)) (lowestOf m)) ∙ sym (and-false (member m (lowestOf m))))
-        go u l (no e) = rw (member-without-other m (lowestOf m) u l e)
+    over-found h = any-here (λ u. member set u && ltb level (at table u)) 64 u (U .field) (rw (taken-in (e .loop) U) (lt-ltb level (at table u) h))
 
 -- of a set of one field
 pub any-only : (q : ℕ → Bool) (f : ℕ) → f < 64 → any (λ u. member (only f) u && q u) 64 ≡ q f

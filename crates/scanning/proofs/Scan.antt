@@ -2,24 +2,25 @@
 use Prim.Native.Nat.{ℕ, _+_, _≤_, _<_}
 use mathlib.Core.Path.{_≡_, refl, _∙_}
 use mathlib.Core.Bool.{Bool, true, false, cond}
-use mathlib.Core.List.{List, [], _∷_, _++_, map, map-append}
+use mathlib.Core.List.{List, [], _∷_, _++_, map, map-append, append-assoc, append-nil}
 use mathlib.Core.Option.{Option, none, some}
 use native.Mathlib.Numerals.{add-one}
 use native.Mathlib.Omega.{arith}
-use borrow.Author.Tests.{lt-ltb, le-ltb, le-leb, lt-leb, leb-true, leb-false}
-use lib.Dec.{leb, ltb}
+use borrow.Author.Tests.{le-leb, lt-leb, leb-true, leb-false}
+use lib.Dec.{leb}
 use Rattle.fieldset.specs.Tables.{tabulate}
+use Rattle.panel.specs.declared.Link.{Link}
 use Rattle.panel.specs.declared.Panel.{Panel}
-use Rattle.panel.specs.Items.{Item, link, stay, itemsOf}
+use Rattle.panel.specs.Items.{Item, link, stay, linkAt, itemsOf}
 use Rattle.panel.specs.Solution.{level, isBlocked, lesser, least, leastBlocked}
+use Rattle.scanning.specs.declared.Blocked.{Blocked}
+use Rattle.scanning.specs.declared.Blocked.the-variants.{Nothing, Link as ALink, Stay as AStay}
+use Rattle.scanning.specs.Scan.{Finds}
 
--- the first of least level among the blocked of the first n links, or of the first n stays
-abbrev pub leastOf : Panel → (ℕ → Item) → ℕ → Option Item
-leastOf p kind n = least (isBlocked p) (level p) (map kind (tabulate (λ i. i) n))
-
--- the link or stay of a number, none from top on
-abbrev pub numbered : (ℕ → Item) → ℕ → ℕ → Option Item
-numbered kind top i = cond (ltb i top) (some (kind i)) none
+-- the level of what may be; 255 where there is none
+abbrev pub levelOr : (Item → ℕ) → Option Item → ℕ
+levelOr lev none = 255
+levelOr lev (some c) = lev c
 
 module _ (q : Item → Bool) (lev : Item → ℕ) where
   -- of two that may be, the first among equals
@@ -55,74 +56,90 @@ module _ (q : Item → Bool) (lev : Item → ℕ) where
       go true = lesser-joined c (least q lev xs) (least q lev ys)
       go false = refl
 
-  -- what has no greater level than any of a list stands before it
-  pub least-low : (c : Item) (kind : ℕ → Item) (xs : List ℕ) → ((i : ℕ) → lev c ≤ lev (kind i)) → lesser lev c (least q lev (map kind xs)) ≡ some c
+-- ---- the scan
+
+-- what is found, as an item
+abbrev pub foundOf : Blocked → Option Item
+foundOf Nothing = none
+foundOf (ALink i l) = some (link i)
+foundOf (AStay f) = some (stay f)
+
+-- a link that is found comes with its record
+abbrev pub Recorded : List Link → Blocked → Type 0
+Recorded links Nothing = Unit {0}
+Recorded links (ALink i l) = l ≡ linkAt links i
+Recorded links (AStay f) = Unit {0}
+
+-- a list is scanned: what is found is the first blocked of least level, and low is its level
+pub record Scanned (p : Panel) (xs : List Item) (found : Blocked) (low : ℕ) : Type 0 where
+  pub result : least (isBlocked p) (level p) xs ≡ foundOf found
+  pub low-is : low ≡ levelOr (level p) (foundOf found)
+  pub recorded : Recorded (p .links) found
+
+-- the next is c
+module _ {p : Panel} {xs ys : List Item} {found : Blocked} {low : ℕ} (s : Scanned p xs found low) (c : Item) (e : ys ≡ xs ++ c ∷ []) where
+  behind : least (isBlocked p) (level p) ys ≡ joined (isBlocked p) (level p) (foundOf found) (cond (isBlocked p c) (some c) none)
   unfolding least
-  least-low c kind [] h = refl
-  least-low c kind (x ∷ xs) h = go (q (kind x)) (least q lev (map kind xs)) (least-low c kind xs h)
-    where
-      go : (b : Bool) (o : Option Item) → lesser lev c o ≡ some c → lesser lev c (cond b (lesser lev (kind x) o) o) ≡ some c
-      go false o ih = ih
-      go true none ih = rw (le-leb (lev c) (lev (kind x)) (h x))
-      go true (some d) ih = here (leb (lev (kind x)) (lev d))
-        where
-          here : (b : Bool) → lesser lev c (cond b (some (kind x)) (some d)) ≡ some c
-          here true = rw (le-leb (lev c) (lev (kind x)) (h x))
-          here false = ih
+  behind = rw (e, least-append (isBlocked p) (level p) xs (c ∷ []), s .result)
 
--- the first n items of a kind are scanned: what was found, if its number is below top, is the first of least level, and that is its level
-pub record Scanned (q : Item → Bool) (lev : Item → ℕ) (kind : ℕ → Item) (top n found low : ℕ) : Type 0 where
-  pub result : least q lev (map kind (tabulate (λ i. i) n)) ≡ numbered kind top found
-  pub level : low ≡ cond (ltb found top) (lev (kind found)) 255
+  module _ {found′ : Blocked} {low′ : ℕ} where
+    -- it is blocked and has a lesser level
+    pub scan-takes : foundOf found′ ≡ some c → Recorded (p .links) found′ → low′ ≡ level p c → isBlocked p c ≡ true → level p c < low
+        → Scanned p ys found′ low′
+    scan-takes is r el t h =
+        record { result = behind ∙ rw (t, is) (go (foundOf found) (s .low-is)); low-is = el ∙ rw is refl; recorded = r }
+      where
+        go : (o : Option Item) → low ≡ levelOr (level p) o → joined (isBlocked p) (level p) o (some c) ≡ some c
+        go (some d) k = rw (lt-leb (level p d) (level p c) (omega arith))
+        go none k = refl
 
-pub scan-none : (q : Item → Bool) (lev : Item → ℕ) (kind : ℕ → Item) (top : ℕ) → Scanned q lev kind top 0 top 255
+    -- it is not blocked
+    pub scan-leaves : found′ ≡ found → low′ ≡ low → isBlocked p c ≡ false → Scanned p ys found′ low′
+    scan-leaves ef el t = rw (ef, el) (record { result = behind ∙ rw t (go (foundOf found)); low-is = s .low-is; recorded = s .recorded })
+      where
+        go : (o : Option Item) → joined (isBlocked p) (level p) o none ≡ o
+        go (some d) = refl
+        go none = refl
+
+    -- it has no lesser level
+    pub scan-keeps : found′ ≡ found → low′ ≡ low → level p c < 255 → low ≤ level p c → Scanned p ys found′ low′
+    scan-keeps ef el k h = rw (ef, el) (record { result = behind ∙ go (foundOf found) (s .low-is) (isBlocked p c); low-is = s .low-is; recorded = s .recorded })
+      where
+        go : (o : Option Item) → low ≡ levelOr (level p) o → (t : Bool) → joined (isBlocked p) (level p) o (cond t (some c) none) ≡ o
+        go (some d) m true = rw (le-leb (level p d) (level p c) (omega arith))
+        go (some d) m false = refl
+        go none m true = absurd (omega arith)
+        go none m false = refl
+
+-- ---- the items in their order, links before stays
+
+abbrev pub firstLinks : ℕ → List Item
+firstLinks i = map link (tabulate (λ i. i) i)
+
+abbrev pub firstStays : ℕ → List Item
+firstStays f = firstLinks 128 ++ map stay (tabulate (λ f. f) f)
+
+pub next-link : (i : ℕ) → firstLinks (i + 1) ≡ firstLinks i ++ link i ∷ []
+unfolding tabulate
+next-link i = rw (add-one i, map-append link (tabulate (λ i. i) i) (i ∷ []))
+
+pub next-stay : (f : ℕ) → firstStays (f + 1) ≡ firstStays f ++ stay f ∷ []
+unfolding tabulate
+next-stay f = rw (add-one f, map-append stay (tabulate (λ f. f) f) (f ∷ []), append-assoc (firstLinks 128) (map stay (tabulate (λ f. f) f)) (stay f ∷ []))
+
+-- nothing is scanned
+pub scan-none : (p : Panel) → Scanned p (firstLinks 0) Nothing 255
 unfolding least tabulate
-scan-none q lev kind top = record { result = rw (le-ltb top top (omega arith)); level = rw (le-ltb top top (omega arith)) }
+scan-none p = record { result = refl; low-is = refl; recorded = tt }
 
-module _ {q : Item → Bool} {lev : Item → ℕ} {kind : ℕ → Item} {top n found low : ℕ} (s : Scanned q lev kind top n found low) where
-  next : least q lev (map kind (tabulate (λ i. i) (n + 1))) ≡ joined q lev (numbered kind top found) (cond (q (kind n)) (some (kind n)) none)
-  unfolding least tabulate
-  next =
-      rw (add-one n, map-append kind (tabulate (λ i. i) n) (n ∷ []), least-append q lev (map kind (tabulate (λ i. i) n)) (kind n ∷ []), s .result)
+-- the links are scanned, and no stay
+pub stays-start : {p : Panel} {found : Blocked} {low i : ℕ} → i ≡ 128 → Scanned p (firstLinks i) found low → Scanned p (firstStays 0) found low
+unfolding tabulate
+stays-start {p} {found} {low} e s = rw (append-nil (firstLinks 128)) (rw e at s)
 
-  module _ {found′ low′ : ℕ} where
-    -- the next passes and has a lesser level
-    pub scan-takes : found′ ≡ n → low′ ≡ lev (kind n) → n < top → q (kind n) ≡ true → lev (kind n) < low → Scanned q lev kind top (n + 1) found′ low′
-    scan-takes ef el l t h = record { result = next ∙ rw (t, ef, lt-ltb n top l) (go (ltb found top) (s .level)); level = el ∙ rw (ef, lt-ltb n top l) }
-      where
-        go : (b : Bool) → low ≡ cond b (lev (kind found)) 255 → joined q lev (cond b (some (kind found)) none) (some (kind n)) ≡ some (kind n)
-        go true e = rw (lt-leb (lev (kind found)) (lev (kind n)) (omega arith))
-        go false e = refl
-
-    -- the next does not pass
-    pub scan-leaves : found′ ≡ found → low′ ≡ low → q (kind n) ≡ false → Scanned q lev kind top (n + 1) found′ low′
-    scan-leaves ef el t = record { result = next ∙ rw (t, ef) (go (ltb found top)); level = el ∙ rw ef (s .level) }
-      where
-        go : (b : Bool) → joined q lev (cond b (some (kind found)) none) none ≡ cond b (some (kind found)) none
-        go true = refl
-        go false = refl
-
-    -- the next has no lesser level
-    pub scan-keeps : found′ ≡ found → low′ ≡ low → lev (kind n) < 255 → low ≤ lev (kind n) → Scanned q lev kind top (n + 1) found′ low′
-    scan-keeps ef el k h = record { result = next ∙ rw ef (go (ltb found top) (s .level) (q (kind n))); level = el ∙ rw ef (s .level) }
-      where
-        go : (b : Bool) → low ≡ cond b (lev (kind found)) 255 → (t : Bool)
-            → joined q lev (cond b (some (kind found)) none) (cond t (some (kind n)) none) ≡ cond b (some (kind found)) none
-        go true e true = rw (le-leb (lev (kind found)) (lev (kind n)) (omega arith))
-        go true e false = refl
-        go false e true = absurd (omega arith)
-        go false e false = refl
-
-module _ (p : Panel) where
-  items : leastBlocked p ≡ joined (isBlocked p) (level p) (leastOf p link 128) (leastOf p stay (p .size))
-  unfolding leastBlocked itemsOf
-  items = least-append (isBlocked p) (level p) (map link (tabulate (λ i. i) 128)) (map stay (tabulate (λ f. f) (p .size)))
-
-  -- a blocked link has a lesser level than every stay
-  pub blocked-link-first : (i : ℕ) → level p (link i) ≤ 15 → leastOf p link 128 ≡ numbered link 128 i → i < 128 → leastBlocked p ≡ some (link i)
-  blocked-link-first i low e l =
-      items ∙ rw (e, lt-ltb i 128 l) (least-low (isBlocked p) (level p) (link i) stay (tabulate (λ f. f) (p .size)) (λ f. omega (arith, low)))
-
-  pub no-blocked-link : (i f : ℕ) → leastOf p link 128 ≡ numbered link 128 i → 128 ≤ i → leastOf p stay (p .size) ≡ numbered stay 64 f
-      → leastBlocked p ≡ numbered stay 64 f
-  no-blocked-link i f e l s = items ∙ rw (e, le-ltb i 128 l) s
+-- all are scanned
+pub scan-done : {p : Panel} {low f : ℕ} (found : Blocked) → f ≡ p .size → Scanned p (firstStays f) found low → Finds p found
+unfolding leastBlocked itemsOf
+scan-done Nothing e s = rw e at (s .result)
+scan-done (ALink i l) e s = (rw e at (s .result), s .recorded)
+scan-done (AStay f) e s = rw e at (s .result)

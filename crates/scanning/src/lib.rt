@@ -1,9 +1,10 @@
 // The scan for blocked links and stays, over a table of strengths.
-use fieldset::lowest;
+use fieldset::first;
 use fieldset::without_lowest;
 use panel::Link;
 use panel::Panel;
 use panel::STAY;
+use panel::STAY_LEVEL;
 use panel::Standing;
 ghost use mathlib.Core.Path.{_≡_};
 ghost use Rattle.panel.specs.Legal.{Legal};
@@ -16,7 +17,7 @@ fn is_over(set: u64, level: u8, table: &[u8; 64]) -> bool
 {
     let mut rest = set;
     while rest != 0 {
-        let f = lowest(rest);
+        let f = first(rest);
         if level < table[f] {
             return true;
         }
@@ -55,36 +56,27 @@ pub fn find_blocked(p: Panel, setter: &[u8; 64], table: &[u8; 64]) -> Blocked
     requires { ⌜ Legal p × StrengthsOf (withSetters p (now setter)) (now table) ⌝ }
     ensures { λ r. ⌜ Finds (withSetters p (now (setter .entry))) r ⌝ }
 {
-    // 128: none
-    let mut found: usize = 128;
+    let mut found = Blocked::Nothing;
+    // the level of what is found; at first above every level
     let mut least: u8 = 255;
     let mut i: usize = 0;
     while i < 128 {
         let l = p.links[i];
         if l.level < least && is_blocked(l, table) {
-            found = i;
+            found = Blocked::Link(i as u8, l);
             least = l.level;
         }
         i += 1;
     }
-    if found < 128 {
-        return Blocked::Link(found as u8, p.links[found]);
-    }
     let n = p.size;
-    // 64: none
-    let mut stay: usize = 64;
-    let mut low: u8 = 255;
     let mut f: usize = 0;
     while f < n {
-        let level = 16 + p.place[f];
-        if setter[f] < STAY && level < table[f] && level < low {
-            stay = f;
-            low = level;
+        let level = STAY_LEVEL + p.place[f];
+        if level < least && setter[f] < STAY && level < table[f] {
+            found = Blocked::Stay(f as u8);
+            least = level;
         }
         f += 1;
     }
-    if stay < 64 {
-        return Blocked::Stay(stay as u8);
-    }
-    Blocked::Nothing
+    found
 }

@@ -4,6 +4,7 @@ use fieldset::without;
 use panel::Link;
 use panel::Panel;
 use panel::STAY;
+use panel::STAY_LEVEL;
 ghost use mathlib.Core.Path.{_≡_};
 ghost use Prim.Native.Nat.{_<_};
 ghost use lib.ListN.{length};
@@ -31,7 +32,7 @@ pub fn setter_entry(c: u8, l: Link, place: u8, f: usize) -> Entry
         }
     } else {
         Entry {
-            level: 16 + place,
+            level: STAY_LEVEL + place,
             others: 0,
             reads: 0,
         }
@@ -59,7 +60,7 @@ fn level_with(c: u8, place: u8, level: u8) -> u8
     requires { ⌜ place < 64 ⌝ }
     ensures { λ r. ⌜ r ≡ levelWith c place level ⌝ }
 {
-    if c < STAY { level } else { 16 + place }
+    if c < STAY { level } else { STAY_LEVEL + place }
 }
 
 // The levels after the stays' places have changed.

@@ -1,8 +1,9 @@
-// Taking a step: the panel and its tables after it.
+// The part of a step that changes setters: what is freed and the path that is reversed, in the panel and in its tables.
 use fieldset::wide;
 use panel::Link;
 use panel::Panel;
 use panel::STAY;
+use panel::STAY_LEVEL;
 use panel::Standing;
 use panel::Step;
 use tables::setter_entry;
@@ -58,7 +59,7 @@ pub fn reverse(
     if let Standing::Holding(v) = held {
         let f = wide(v);
         p.setter[f] = STAY;
-        levels[f] = 16 + p.place[f];
+        levels[f] = STAY_LEVEL + p.place[f];
         others[f] = 0;
         reads[f] = 0;
     }

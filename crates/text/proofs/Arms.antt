@@ -14,7 +14,7 @@ use Rattle.panel.specs.declared.Reply.{Reply}
 use Rattle.panel.specs.declared.Reply.the-variants.{Refused as Refusing}
 use Rattle.panel.specs.declared.Step.{Step}
 use Rattle.panel.specs.Items.{linkAt}
-use Rattle.panel.specs.Answers.{replyBytes, planRest}
+use Rattle.panel.specs.Answers.{replyBytes, planRest, rowsLength}
 use Rattle.panel.specs.Commands as panel
 use Rattle.panel.specs.Commands.{opening, adding, removing, touching, planning, performed}
 use Rattle.panel.specs.Outcomes.{unchanged, Takes, Decides, Plans}
@@ -31,7 +31,7 @@ use Rattle.frames.specs.Texts.{Answered}
 use Rattle.frames.specs.Frames.{frameOf, commandBytes, commandOf, answerTo, answered, commandAnswer, lineAnswer}
 use Rattle.frames.specs.Reading.{LineRead}
 use Rattle.frames.proofs.Reading.{add-reaches}
-use Rattle.text.specs.Lines.{rowsLength, restOf, Framed, LineStep, Decided}
+use Rattle.text.specs.Lines.{restOf, Framed, LineStep, DecidedLine}
 use Rattle.text.proofs.Going.{Did}
 
 -- what its command is answered is what a line is answered
@@ -136,7 +136,7 @@ framed s r h = record { short = h .short; full = h .full; reaches = λ id level 
 -- the step of a line that is no removal, by its command's tag
 pub decided-step : (p : Panel) (k : ℕ) (named : Link) (fields path rows : List ℕ) (s : Step) (c : Command)
     → (tagOf the-type c ≡ 0) ⊎ ((tagOf the-type c ≡ 1) ⊎ ((tagOf the-type c ≡ 3) ⊎ ((tagOf the-type c ≡ 4) ⊎ (tagOf the-type c ≡ 5))))
-    → Decided p k named fields path rows s c → LineStep p k c fields path rows s
+    → DecidedLine p k named fields path rows s c → LineStep p k c fields path rows s
 decided-step p k named fields path rows s (Open n) h d = d
 decided-step p k named fields path rows s (Add id level) h d = d
 decided-step p k named fields path rows s (Remove id) h d =

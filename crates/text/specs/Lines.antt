@@ -8,17 +8,13 @@ use Rattle.panel.specs.declared.Panel.{Panel}
 use Rattle.panel.specs.declared.Reply.{Reply}
 use Rattle.panel.specs.declared.Reply.the-variants.{Accepted}
 use Rattle.panel.specs.declared.Step.{Step}
-use Rattle.panel.specs.Answers.{replyBytes, planRest}
+use Rattle.panel.specs.Answers.{replyBytes, rowsLength, planRest}
 use Rattle.panel.specs.Outcomes.{unchanged, Takes}
 use Rattle.hex.specs.Hex.{frameRoom}
 use Rattle.frames.specs.declared.Command.{Command}
 use Rattle.frames.specs.declared.Command.the-variants.{Open, Add, Remove, Touch, Plan, Refused}
 use Rattle.frames.specs.declared.Line.{Line}
 use Rattle.frames.specs.Frames.{commandAnswer}
-
--- the bytes of a plan's rows, three for each of 64 fields
-abbrev pub rowsLength : ℕ
-rowsLength = 192
 
 -- how many bytes the reply to a command has behind its first two
 abbrev pub restOf : Command → Reply → ℕ
@@ -30,8 +26,8 @@ restOf Plan reply = planRest reply
 restOf (Refused r) reply = 0
 
 -- the field bytes of an add, beside its command
-abbrev pub fieldsOf : Line → List ℕ
-fieldsOf line = drop 3 (take (line .len) (line .frame))
+abbrev pub fieldBytesOf : Line → List ℕ
+fieldBytesOf line = drop 3 (take (line .len) (line .frame))
 
 -- a line that was read: its frame's bytes, and that an add's field bytes start behind the third
 pub record Framed (line : Line) : Type 0 where
@@ -48,10 +44,10 @@ pub record LineStep (p : Panel) (k : ℕ) (command : Command) (fields path rows 
   pub rows-full : length rows ≡ rowsLength
 
 -- the step of a line but for a removal, for which it leaves the panel as it is
-abbrev pub Decided : Panel → ℕ → Link → List ℕ → List ℕ → List ℕ → Step → Command → Type 0
-Decided p k named fields path rows s (Remove id) = s ≡ unchanged (p .size) (p .place) named (Accepted 0)
-Decided p k named fields path rows s (Open n) = LineStep p k (Open n) fields path rows s
-Decided p k named fields path rows s (Add id level) = LineStep p k (Add id level) fields path rows s
-Decided p k named fields path rows s (Touch f) = LineStep p k (Touch f) fields path rows s
-Decided p k named fields path rows s Plan = LineStep p k Plan fields path rows s
-Decided p k named fields path rows s (Refused r) = LineStep p k (Refused r) fields path rows s
+abbrev pub DecidedLine : Panel → ℕ → Link → List ℕ → List ℕ → List ℕ → Step → Command → Type 0
+DecidedLine p k named fields path rows s (Remove id) = s ≡ unchanged (p .size) (p .place) named (Accepted 0)
+DecidedLine p k named fields path rows s (Open n) = LineStep p k (Open n) fields path rows s
+DecidedLine p k named fields path rows s (Add id level) = LineStep p k (Add id level) fields path rows s
+DecidedLine p k named fields path rows s (Touch f) = LineStep p k (Touch f) fields path rows s
+DecidedLine p k named fields path rows s Plan = LineStep p k Plan fields path rows s
+DecidedLine p k named fields path rows s (Refused r) = LineStep p k (Refused r) fields path rows s

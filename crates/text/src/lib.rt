@@ -1,9 +1,10 @@
-// The two operations on a text of lines.
+// The operations on a text of lines.
 use fieldset::wide;
 use frames::Command;
 use frames::Line;
 use panel::Link;
 use panel::Panel;
+use panel::ROWS;
 use panel::Reply;
 use panel::Step;
 use panel::unchanged;
@@ -18,7 +19,7 @@ ghost use lib.ListN.{length, drop};
 ghost use lib.Seq.{sets};
 ghost use Rattle.panel.specs.Panels.{opened};
 ghost use Rattle.panel.specs.Items.{linkAt};
-ghost use Rattle.panel.specs.Answers.{planRest};
+ghost use Rattle.panel.specs.Answers.{rowsLength, planRest};
 ghost use Rattle.panel.specs.Outcomes.{unchanged};
 ghost use Rattle.panel.specs.Legal.{Legal};
 ghost use Rattle.tables.specs.Tables.{Tabled};
@@ -26,7 +27,7 @@ ghost use Rattle.hex.specs.Hex.{lineOf};
 ghost use Rattle.tally.specs.Tallies.{tallyBytes};
 ghost use Rattle.frames.specs.Texts.{linesOf};
 ghost use Rattle.frames.specs.Frames.{numberOf, lineAnswer};
-ghost use Rattle.text.specs.Lines.{rowsLength, restOf, fieldsOf, Framed, Decided};
+ghost use Rattle.text.specs.Lines.{restOf, fieldBytesOf, Framed, DecidedLine};
 ghost use Rattle.text.specs.Runs.{tallyLength, reached, fitting, RanFrom, Paced, Resumed, Told};
 
 // The characters of the longest reply's line: a plan of 64 fields has 2 + 3 * 64 bytes, and the line an LF.
@@ -37,9 +38,6 @@ pub const TEXT_LIMIT: usize = 65535;
 
 // Room for a longest reply to each line of a text.
 const ROOM: usize = LONGEST * TEXT_LIMIT;
-
-// The bytes of a plan's rows, three for each of 64 fields.
-const ROWS: usize = 192;
 
 // Where a run over a text stands: the position of the next line, the panel, the tally, and how many bytes were written.
 pub struct Progress {
@@ -65,7 +63,7 @@ fn rows_of(reply: Reply) -> usize
     }
 }
 
-// How many bytes the reply to a command has behind its head: three for each field of a plan.
+// How many bytes the reply to a command has behind its first two: three for each field of a plan.
 fn rest_of(command: Command, reply: Reply) -> usize
     ensures { λ r. ⌜ r ≡ restOf command reply ⌝ }
 {
@@ -96,7 +94,7 @@ fn decide_line(
 ) -> Step
     requires { ⌜ Legal p × Tabled p (now levels) (now others) (now reads) × (named ≡ linkAt (p .links) (numberOf (line .command))) ⌝ }
     requires { ⌜ Framed line × (length (now path) ≡ 64) × (length (now rows) ≡ rowsLength) ⌝ }
-    ensures { λ r. ⌜ Decided p (numberOf (line .command)) named (fieldsOf line) (now (path .exit)) (now (rows .exit)) r (line .command) ⌝ }
+    ensures { λ r. ⌜ DecidedLine p (numberOf (line .command)) named (fieldBytesOf line) (now (path .exit)) (now (rows .exit)) r (line .command) ⌝ }
 {
     let command = line.command;
     match command {

@@ -6,6 +6,7 @@ use panel::Panel;
 use panel::Refusal;
 use panel::Reply;
 use panel::STAY;
+use panel::STAY_LEVEL;
 use panel::Standing;
 use panel::Step;
 use panel::unchanged;
@@ -91,7 +92,7 @@ pub fn touch(
         let mut fresh = *levels;
         stay_levels(&mut fresh, &setter, &place);
         let set = only(v);
-        verdict = resolve(&fresh, others, reads, n, 16, set, set, path);
+        verdict = resolve(&fresh, others, reads, n, STAY_LEVEL, set, set, path);
     }
     if let Verdict::Looped = verdict {
         return unchanged(n, &order, named, Reply::Refused(Refusal::Loop));

@@ -4,32 +4,30 @@ use mathlib.Core.Path.{_≡_, refl, sym, ap, _∙_}
 use mathlib.Core.Logic.{⊎-elim}
 use native.Mathlib.Omega.{arith}
 use borrow.Author.Needs.{needs}
-use borrow.Author.Tests.{lt-ltb, le-ltb, ltb-true, ltb-false}
+use borrow.Author.Tests.{ltb-true, ltb-false}
 use Rattle.fieldset.specs.Tables.{at}
 use Rattle.panel.specs.Items.{link, stay}
-use Rattle.panel.specs.Solution.{isBlocked, level, leastBlocked}
+use Rattle.panel.specs.Solution.{level}
 use Rattle.scanning.specs.Scan.{withSetters}
 use Rattle.scanning.proofs.Over.{link-blocked, link-level, stay-over, stay-under, stay-sets}
-use Rattle.scanning.proofs.Scan.{leastOf, numbered, Scanned, scan-none, scan-takes, scan-leaves, scan-keeps, blocked-link-first, no-blocked-link}
+use Rattle.scanning.proofs.Scan.{Scanned, scan-none, scan-takes, scan-leaves, scan-keeps, firstLinks, firstStays, next-link, next-stay, stays-start, scan-done}
 use Rattle.scanning.proofs.find_blocked.Statement.{statement}
 use Rattle.scanning.proofs.find_blocked.Tie as tie
 
 abbrev Inv-loop : tie.InvT-loop
-Inv-loop setter table p found₀ least₀ i₀ found least i =
-    (i ≤ 128) × Scanned (isBlocked (withSetters p setter)) (level (withSetters p setter)) link 128 i found least
+Inv-loop setter table p found₀ least₀ i₀ found least i = (i ≤ 128) × Scanned (withSetters p setter) (firstLinks i) found least
 
 abbrev μ-loop : tie.MeasureT-loop
 μ-loop setter table p found₀ least₀ i₀ found least i = 128 - i
 
 abbrev Inv-loop2 : tie.InvT-loop2
-Inv-loop2 setter table p found least i n stay₀ low₀ f₀ stay′ low f =
-    (f ≤ n) × Scanned (isBlocked (withSetters p setter)) (level (withSetters p setter)) stay 64 f stay′ low
+Inv-loop2 setter table p found₀ least₀ i n f₀ found least f = (f ≤ n) × Scanned (withSetters p setter) (firstStays f) found least
 
 abbrev μ-loop2 : tie.MeasureT-loop2
-μ-loop2 setter table p found least i n stay₀ low₀ f₀ stay′ low f = n - f
+μ-loop2 setter table p found₀ least₀ i n f₀ found least f = n - f
 
 loop-holds : tie.Need-loop-holds Inv-loop μ-loop Inv-loop2 μ-loop2
-loop-holds c = (omega arith, scan-none _ _ link 128)
+loop-holds c = (omega arith, scan-none _)
 
 loop-again : tie.Need-loop-again Inv-loop μ-loop Inv-loop2 μ-loop2
 loop-again c =
@@ -38,33 +36,25 @@ loop-again c =
     let p = b .args .t1 in
     let L = b .pre .0 in
     let l : a .i < 128 = omega arith in
-    let q = link-blocked p (b .args .setter .now) (b .args .table .now) L (b .pre .1) (a .i) l in (
+    let q = link-blocked p (b .args .setter .now) (b .args .table .now) L (b .pre .1) (a .i) l in
+    let e = next-link (a .i) in (
       omega arith,
-      ⊎-elim (λ w. scan-takes (a .inv .1) (w .3) (w .4) l (q ∙ sym (w .1 .ensures) ∙ w .2 .taken) (w .0 .taken))
+      ⊎-elim (λ w. scan-takes (a .inv .1) (link (a .i)) e (rw (w .3) refl) (rw (w .3) refl) (w .4) (q ∙ sym (w .1 .ensures) ∙ w .2 .taken) (w .0 .taken))
           (λ w.
-          ⊎-elim (λ v. scan-leaves (a .inv .1) (w .1) (w .2) (q ∙ sym (v .1 .ensures) ∙ v .2 .left))
-          (λ v. scan-keeps (a .inv .1) (w .1) (w .2) (omega (arith, link-level p (a .i) L l)) (v .left)) (w .0 .came))
+          ⊎-elim (λ v. scan-leaves (a .inv .1) (link (a .i)) e (w .1) (w .2) (q ∙ sym (v .1 .ensures) ∙ v .2 .left))
+          (λ v. scan-keeps (a .inv .1) (link (a .i)) e (w .1) (w .2) (omega (arith, link-level p (a .i) L l)) (v .left)) (w .0 .came))
           (c .if1 .came),
     )
 
-returns : tie.Need-returns Inv-loop μ-loop Inv-loop2 μ-loop2
-returns c =
-    let s = c .before .before .before .before in
-    let a = c .before .before .before .loop in
-    let q = withSetters (s .args .t1) (s .args .setter .now) in
-    let e : a .i ≡ 128 = omega arith in
-    let l : a .found < 128 = c .before .if3 .taken in
-    (blocked-link-first q (a .found) (link-level (s .args .t1) (a .found) (s .pre .0) l) (ap (leastOf q link) (sym e) ∙ a .inv .1 .result) l, refl)
-
 loop2-holds : tie.Need-loop2-holds Inv-loop μ-loop Inv-loop2 μ-loop2
-loop2-holds c = (omega arith, scan-none _ _ stay 64)
+loop2-holds c = (omega arith, stays-start (omega arith) (c .before .loop .inv .1))
 
 element-copy-out-level : tie.Need-element-copy-out-level Inv-loop μ-loop Inv-loop2 μ-loop2
-element-copy-out-level c = omega (arith, c .before .before .before .before .before .pre .0 .few)
+element-copy-out-level c = omega (arith, c .before .before .before .before .pre .0 .few)
 
 add-level : tie.Need-add-level Inv-loop μ-loop Inv-loop2 μ-loop2
 add-level c =
-    let L = c .before .before .before .before .before .before .pre .0 in
+    let L = c .before .before .before .before .before .pre .0 in
     omega (arith, L .place-small (c .before .before .loop2 .f) (omega arith), L .few)
 
 element-copy-out-if4 : tie.Need-element-copy-out-if4 Inv-loop μ-loop Inv-loop2 μ-loop2
@@ -75,8 +65,8 @@ element-copy-out-if5 c = omega (arith, c .before .before .before .before .before
 
 loop2-again : tie.Need-loop2-again Inv-loop μ-loop Inv-loop2 μ-loop2
 loop2-again c =
-    let b = c .before .before .before .before .before .before .before .before in
-    let a = c .before .before .before .before .loop2 in
+    let b = c .before .before .before .before .before .before in
+    let a = c .before .before .before .loop2 in
     let p = b .args .t1 in
     let s = b .args .setter .now in
     let t = b .args .table .now in
@@ -84,37 +74,22 @@ loop2-again c =
     let S = b .pre .1 in
     let lev = level p (stay (a .f)) in
     let l : a .f < p .size = omega arith in
-    let few : a .f < 64 = omega (arith, L .few) in (
+    let e = next-stay (a .f) in (
       omega arith,
       ⊎-elim
           (λ w.
-          scan-takes (a .inv .1) (w .4) (w .5) few (stay-over p s t L S (a .f) l (w .0 .taken) (ltb-true lev (at t (a .f)) (w .2 .taken)))
-          (ltb-true lev (a .low) (w .3 .taken)))
+          scan-takes (a .inv .1) (stay (a .f)) e (rw (w .5) refl) (rw (w .5) tt) (w .6)
+          (stay-over p s t L S (a .f) l (ltb-true (at s (a .f)) 128 (w .2 .taken)) (ltb-true lev (at t (a .f)) (w .4 .taken)))
+          (w .0 .taken))
           (λ w.
-          ⊎-elim (λ v. scan-keeps (a .inv .1) (w .1) (w .2) (omega (arith, L .place-small (a .f) l)) (ltb-false lev (a .low) (v .3 .left)))
-          (⊎-elim (λ v. scan-leaves (a .inv .1) (w .1) (w .2) (stay-under p s t L S (a .f) l (ltb-false lev (at t (a .f)) (v .2 .left))))
-          (λ v. scan-leaves (a .inv .1) (w .1) (w .2) (stay-sets p s t L S (a .f) l (v .left)))) (w .0 .came))
-          (c .if4 .came),
+          ⊎-elim (λ v. scan-leaves (a .inv .1) (stay (a .f)) e (w .1) (w .2) (stay-under p s t L S (a .f) l (ltb-false lev (at t (a .f)) (v .4 .left))))
+          (⊎-elim (λ v. scan-leaves (a .inv .1) (stay (a .f)) e (w .1) (w .2) (stay-sets p s t L S (a .f) l (ltb-false (at s (a .f)) 128 (v .2 .left))))
+          (λ v. scan-keeps (a .inv .1) (stay (a .f)) e (w .1) (w .2) (omega (arith, L .place-small (a .f) l)) (v .left))) (w .0 .came))
+          (c .if3 .came),
     )
 
--- both scans are done, and no link was found
-scanned-stays : (d : tie.After-loop2 Inv-loop μ-loop Inv-loop2 μ-loop2)
-    → let s = d .before .before .before .before .before in
-    leastBlocked (withSetters (s .args .t1) (s .args .setter .now)) ≡ numbered stay 64 (d .before .loop2 .stay)
-scanned-stays d =
-    let s = d .before .before .before .before .before in
-    let a = d .before .before .before .before .loop in
-    let q = withSetters (s .args .t1) (s .args .setter .now) in
-    let e : a .i ≡ 128 = omega arith in
-    let n : d .before .loop2 .f ≡ q .size = omega arith in
-    no-blocked-link q (a .found) (d .before .loop2 .stay) (ap (leastOf q link) (sym e) ∙ a .inv .1 .result) (d .before .before .if3 .left)
-    (ap (leastOf q stay) (sym n) ∙ d .before .loop2 .inv .1 .result)
-
-returns-2 : tie.Need-returns-2 Inv-loop μ-loop Inv-loop2 μ-loop2
-returns-2 c = scanned-stays (c .before) ∙ rw (lt-ltb (c .before .before .loop2 .stay) 64 (c .if7 .taken)) refl
-
-returns-3 : tie.Need-returns-3 Inv-loop μ-loop Inv-loop2 μ-loop2
-returns-3 c = scanned-stays (c .before) ∙ rw (le-ltb (c .before .before .loop2 .stay) 64 (c .if7 .left)) refl
+returns : tie.Need-returns Inv-loop μ-loop Inv-loop2 μ-loop2
+returns c = scan-done _ (omega arith) (c .before .loop2 .inv .1)
 
 pub find-blocked-spec : {M : Type 1} → statement M
 find-blocked-spec =
@@ -130,11 +105,8 @@ find-blocked-spec =
     (λ c κs. search needs)
     (λ c. omega arith)
     (λ c. omega arith)
+    (λ c. omega arith)
     loop-again
-    (λ c. omega arith)
-    (λ c. omega arith)
-    (λ c. omega arith)
-    returns
     loop2-holds
     element-copy-out-level
     add-level
@@ -142,7 +114,6 @@ find-blocked-spec =
     element-copy-out-if5
     (λ c. omega arith)
     (λ c. omega arith)
-    loop2-again
     (λ c. omega arith)
-    returns-2
-    returns-3)
+    loop2-again
+    returns)

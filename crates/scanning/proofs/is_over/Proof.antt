@@ -1,53 +1,35 @@
--- `scanning::is_over` meets its contract: what is left of the set has the answer of the whole. Assumes nothing.
-use Prim.Native.Nat.{_^_, _<_}
-use mathlib.Core.Path.{_≡_, refl, sym, ap, _∙_}
+-- `scanning::is_over` meets its contract: the fields that are done have no entry above the level. Assumes nothing.
+use mathlib.Core.Path.{sym}
 use native.Mathlib.Omega.{arith}
-use borrow.Author.Needs.{needs}
-use Rattle.fieldset.specs.Fields.{lowestOf}
-use Rattle.fieldset.proofs.Fields.{lowestOf-lt, lowestOf-falls, without-lt}
-use Rattle.scanning.specs.Scan.{isOver}
-use Rattle.scanning.proofs.Over.{over-none, over-lowest, over-rest}
+use Rattle.fieldset.proofs.Emptying.{first-falls}
+use Rattle.scanning.proofs.Over.{NoneOver, over-start, over-step, over-found, over-end}
 use Rattle.scanning.proofs.is_over.Statement.{statement}
 use Rattle.scanning.proofs.is_over.Tie as tie
 
 abbrev Inv-loop : tie.InvT-loop
-Inv-loop set level table rest₀ rest = (rest < 2 ^ 64) × (isOver table level rest ≡ isOver table level set)
+Inv-loop set level table rest₀ rest = NoneOver table level set rest
 
 abbrev μ-loop : tie.MeasureT-loop
 μ-loop set level table rest₀ rest = rest
 
 loop-holds : tie.Need-loop-holds Inv-loop μ-loop
-loop-holds c = (omega arith, refl)
+loop-holds c = over-start
 
 element-copy-out-if1 : tie.Need-element-copy-out-if1 Inv-loop μ-loop
-element-copy-out-if1 c =
-    let a = c .before .before .loop in
-    omega (arith, lowestOf-lt (a .rest) (a .inv .0) (omega arith))
+element-copy-out-if1 c = c .first .ensures .field
 
 returns : tie.Need-returns Inv-loop μ-loop
-returns c =
-    let b = c .before .before .before .before .before .args in
-    let a = c .before .before .before .before .loop in
-    sym (over-lowest (b .table .now) (b .level) (a .rest) (a .inv .0) (omega arith) (rw (← c .before .before .lowest .ensures) (c .if1 .taken))) ∙ a .inv .1
+returns c = sym (over-found (c .before .before .before .before .loop .inv) (c .before .before .first .ensures) (c .if1 .taken))
 
 loop-less : tie.Need-loop-less Inv-loop μ-loop
-loop-less c =
-    let a = c .before .before .before .before .before .loop in
-    rw (c .without-lowest .ensures) (lowestOf-falls (a .rest) (a .inv .0) (omega arith))
+loop-less c = first-falls (c .before .before .before .first .ensures) (c .without-lowest .ensures)
 
 loop-again : tie.Need-loop-again Inv-loop μ-loop
 loop-again c =
-    let b = c .before .before .before .before .before .before .args in
-    let a = c .before .before .before .before .before .loop in (
-      rw (c .without-lowest .ensures) (without-lt (a .rest) (lowestOf (a .rest))),
-      rw (c .without-lowest .ensures)
-          (over-rest (b .table .now) (b .level) (a .rest) (a .inv .0) (omega arith) (rw (← c .before .before .before .lowest .ensures) (c .before .if1 .left)) ∙ a .inv .1),
-    )
+    over-step (c .before .before .before .before .before .loop .inv) (c .before .before .before .first .ensures) (c .before .if1 .left) (c .without-lowest .ensures)
 
 returns-2 : tie.Need-returns-2 Inv-loop μ-loop
-returns-2 c =
-    let b = c .before .before .args in
-    sym (over-none (b .table .now) (b .level)) ∙ ap (isOver (b .table .now) (b .level)) (sym (c .loop-test .left)) ∙ c .before .loop .inv .1
+returns-2 c = sym (over-end (c .before .loop .inv) (c .loop-test .left))
 
 pub is-over-spec : {M : Type 1} → statement M
 is-over-spec =
@@ -56,10 +38,10 @@ is-over-spec =
     Inv-loop
     μ-loop
     loop-holds
-    (λ c κs. search needs)
+    (λ c κs. omega arith)
     element-copy-out-if1
     returns
-    (λ c κs. search needs)
+    (λ c κs. omega arith)
     loop-less
     loop-again
     returns-2)

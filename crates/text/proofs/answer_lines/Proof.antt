@@ -20,7 +20,8 @@ use Rattle.frames.specs.declared.Command.the-variants.{Remove}
 use Rattle.frames.specs.Frames.{numberOf, commandAnswer, lineAnswer}
 use Rattle.frames.proofs.Lines.{end-within, behind-on}
 use Rattle.frames.proofs.Outputs.{refusal-rows}
-use Rattle.text.specs.Lines.{rowsLength, restOf, fieldsOf, LineStep}
+use Rattle.panel.specs.Answers.{rowsLength}
+use Rattle.text.specs.Lines.{restOf, fieldBytesOf, LineStep}
 use Rattle.text.proofs.Arms.{answer-legal, performed-step, decided-step, framed, did}
 use Rattle.text.proofs.Going.{Did, Going, start, line-done, finish-end, finish-full}
 use Rattle.text.proofs.answer_lines.Statement.{statement}
@@ -114,7 +115,7 @@ abbrev met-of : tie.After-stay-levels Inv-loop μ-loop → tie.At-match-came Inv
 met-of c = c .before .before .before .before .before .before .before
 
 abbrev fields-at : tie.After-old Inv-loop μ-loop → List ℕ
-fields-at c = fieldsOf (read-of c .read-line .result)
+fields-at c = fieldBytesOf (read-of c .read-line .result)
 
 same-command : (c : tie.At-match-came Inv-loop μ-loop) → c .match .command ≡ command-of (c .before)
 same-command c = ⊎-elim (λ w. w .10 ∙ sym (w .1 .given .1)) (λ w. w .9) (c .match .came)

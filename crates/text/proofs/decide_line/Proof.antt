@@ -10,7 +10,7 @@ use Rattle.panel.specs.Commands.{opening, adding, touching}
 use Rattle.frames.specs.declared.Command.{Command}
 use Rattle.frames.specs.declared.Command.the-variants.{Open, Add, Touch}
 use Rattle.frames.specs.Frames.{numberOf}
-use Rattle.text.specs.Lines.{fieldsOf}
+use Rattle.text.specs.Lines.{fieldBytesOf}
 use Rattle.text.proofs.Arms.{performed-step, refused-step, plan-step, add-tail}
 use Rattle.text.proofs.decide_line.Statement.{statement}
 use Rattle.text.proofs.decide_line.Tie as tie
@@ -63,7 +63,7 @@ returns-2 c =
     let l = s .args .line in
     let e = k .command2 .given .1 in
     rw e
-    (performed-step _ _ _ _ _ (s .pre .1 .2) (Add _ _) (adding _ _ (fieldsOf l)) _ refl refl
+    (performed-step _ _ _ _ _ (s .pre .1 .2) (Add _ _) (adding _ _ (fieldBytesOf l)) _ refl refl
     (add-tail _ _ _ _ (take (l .len) (l .frame)) _ _ (c .add .ensures)))
 
 returns-3 : tie.Need-returns-3
