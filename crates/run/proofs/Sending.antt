@@ -11,7 +11,8 @@ use Rattle.tally.specs.declared.Tally.{Tally}
 use Rattle.tally.specs.Tallies.{noTally, threeBytes, tallyBytes}
 use Rattle.frames.specs.Texts.{LineAnswer, linesOf, replies, tallyAfter, written, output}
 use Rattle.frames.proofs.Lines.{lines-end}
-use Rattle.text.specs.Runs.{tallyLength, Reached, Ran, Resumed}
+use Rattle.answering.specs.Runs.{Reached, Ran, Resumed}
+use Rattle.text.specs.Outcomes.{tallyLength}
 
 -- the length of io's large buffer
 abbrev bufferLength : ℕ
