@@ -11,8 +11,9 @@ use Rattle.hex.specs.Hex.{lineOf}
 use Rattle.fieldset.proofs.Tables.{sets-append}
 use Rattle.tally.specs.declared.Tally.{Tally}
 use Rattle.tally.specs.Tallies.{threeBytes, tallyBytes}
-use Rattle.frames.specs.Texts.{LineAnswer, linesOf, stateAfter, replies, tallyAfter, written, output, textLimit}
-use Rattle.frames.proofs.Lines.{lines-on, lines-end}
+use Rattle.lines.specs.Lines.{linesOf}
+use Rattle.lines.proofs.Lines.{lines-on, lines-end}
+use Rattle.frames.specs.Texts.{LineAnswer, stateAfter, replies, tallyAfter, written, output, textLimit}
 use Rattle.frames.proofs.Outputs.{output-append}
 use Rattle.text.specs.declared.Outcome.the-variants.{Length, TextTooLong}
 use Rattle.text.specs.Runs.{longest, Reached, Ran, Paced, Resumed, wholeOutput, outcomeOf, bufferAfter, tallyAtEnd, Told}

@@ -11,7 +11,8 @@ use Rattle.panel.specs.declared.Refusal.the-variants.{TextTooLong as TooLong}
 use Rattle.panel.specs.Answers.{refusalBytes}
 use Rattle.hex.specs.Hex.{lineOf}
 use Rattle.tally.specs.declared.Tally.{Tally}
-use Rattle.frames.specs.Texts.{LineAnswer, linesOf, stateAfter, replies, tallyAfter, written, output, isTooLong}
+use Rattle.lines.specs.Lines.{linesOf}
+use Rattle.frames.specs.Texts.{LineAnswer, stateAfter, replies, tallyAfter, written, output, isTooLong}
 use Rattle.text.specs.declared.Outcome.{Outcome}
 use Rattle.text.specs.declared.Outcome.the-variants.{Length, TextTooLong}
 use Rattle.text.specs.declared.Progress.{Progress}

@@ -25,7 +25,7 @@ ghost use Rattle.panel.specs.Legal.{Legal};
 ghost use Rattle.tables.specs.Tables.{Tabled};
 ghost use Rattle.hex.specs.Hex.{lineOf};
 ghost use Rattle.tally.specs.Tallies.{tallyBytes};
-ghost use Rattle.frames.specs.Texts.{linesOf};
+ghost use Rattle.lines.specs.Lines.{linesOf};
 ghost use Rattle.frames.specs.Frames.{numberOf, lineAnswer};
 ghost use Rattle.text.specs.Lines.{restOf, fieldBytesOf, Framed, DecidedLine};
 ghost use Rattle.text.specs.Runs.{tallyLength, reached, fitting, RanFrom, Paced, Resumed, Told};
@@ -149,7 +149,7 @@ fn answer_lines(
     let mut reads = [0u64; 64];
     fill_tables(q, &mut levels, &mut others, &mut reads);
     while at < text.len() && LONGEST <= room - n {
-        let end = frames::line_end(text, at);
+        let end = lines::line_end(text, at);
         let line = frames::read_line(&text[at..end]);
         let command = line.command;
         let k = wide(frames::number_of(command));
@@ -173,9 +173,9 @@ fn answer_lines(
         let reply = step.reply;
         let count = rest_of(command, reply);
         let b = frames::reply_bytes(reply);
-        n = hex::put_line(out, n, b[0], b[1], &rows[..count]);
+        n = writing::put_line(out, n, b[0], b[1], &rows[..count]);
         u = tally::tallied_line(u, frames::refusal_of(b[0], b[1]));
-        at = frames::behind(text, end);
+        at = lines::behind(text, end);
     }
     Progress {
         next: at,
@@ -205,7 +205,7 @@ pub fn put_tally(out: &mut [u8], at: usize, t: Tally) -> usize
     let first = bytes[0];
     let second = bytes[1];
     let all = &bytes[..tally::TALLY_BYTES];
-    hex::put_line(out, at, first, second, &all[2..])
+    writing::put_line(out, at, first, second, &all[2..])
 }
 
 // A text's outcome, and the tally after it.

@@ -18,7 +18,7 @@ use Rattle.tally.specs.Tallies.{tallied}
 use Rattle.frames.specs.declared.Command.{Command}
 use Rattle.frames.specs.declared.Command.the-variants.{Remove}
 use Rattle.frames.specs.Frames.{numberOf, commandAnswer, lineAnswer}
-use Rattle.frames.proofs.Lines.{end-within, behind-on}
+use Rattle.lines.proofs.Lines.{end-within, behind-on}
 use Rattle.frames.proofs.Outputs.{refusal-rows}
 use Rattle.panel.specs.Answers.{rowsLength}
 use Rattle.text.specs.Lines.{restOf, fieldBytesOf, LineStep}
