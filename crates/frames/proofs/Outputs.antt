@@ -2,26 +2,12 @@
 use mathlib.Core.Path.{_≡_, refl, sym, ap, ap₂, _∙_}
 use mathlib.Core.List.{List, [], _∷_, _++_, append-assoc, append-nil}
 use Prim.Native.Nat.{ℕ}
-use borrow.Author.Tests.{eq-eqb, ne-eqb}
 use Rattle.tally.specs.declared.Tally.{Tally}
 use Rattle.tally.specs.Tallies.{tallied, tallyBytes}
 use Rattle.hex.specs.Hex.{lineOf}
 use Rattle.frames.specs.Texts.{LineAnswer, refusalOf, stateAfter, replies, tallyAfter, written, output}
 
 -- ---- replies
-
--- the refusal of a reply stands in its first two bytes
-pub refused-by : (a b : ℕ) (rest : List ℕ) → a ≡ 0xFF → b ≡ refusalOf (a ∷ b ∷ rest)
-unfolding refusalOf
-refused-by a b rest e = simp (eq-eqb a 0xFF e)
-
-pub not-refused : (a b : ℕ) (rest : List ℕ) → (a ≡ 0xFF → ⊥) → 0 ≡ refusalOf (a ∷ b ∷ rest)
-unfolding refusalOf
-not-refused a b rest n = simp (ne-eqb a 0xFF n)
-
-pub refusal-rows : (a b : ℕ) (rest : List ℕ) → refusalOf (a ∷ b ∷ []) ≡ refusalOf (a ∷ b ∷ rest)
-unfolding refusalOf
-refusal-rows a b rest = refl
 
 tally-append : (rs ss : List (List ℕ)) (t : Tally) → tallyAfter t (rs ++ ss) ≡ tallyAfter (tallyAfter t rs) ss
 unfolding tallyAfter

@@ -1,15 +1,11 @@
-// Lines of hexadecimal, one frame a line, and the bytes of replies.
+// Lines of hexadecimal, one frame a line.
 use panel::Refusal;
-use panel::Reply;
 ghost use mathlib.Core.Path.{_≡_};
-ghost use mathlib.Core.List.{[], _∷_};
 ghost use Prim.Native.Nat.{_≤_, _<_, min};
 ghost use lib.ListN.{length, take, drop};
-ghost use Rattle.panel.specs.Answers.{refusalBytes, replyBytes};
 ghost use Rattle.panel.specs.Commands.{hasBit6, anyOf};
 ghost use Rattle.hex.specs.Hex.{frameRoom};
 ghost use Rattle.frames.specs.Frames.{fitsKind, checkedFrame, commandBytes, numberOf};
-ghost use Rattle.frames.specs.Texts.{refusalOf};
 ghost use Rattle.frames.specs.Reading.{LineRead};
 
 // What a line asks. The field bytes of an add stand beside it, in the frame.
@@ -118,43 +114,6 @@ pub fn read_line(line: &[u8]) -> Line
             }
         }
     }
-}
-
-// The number of a refusal.
-pub fn refusal_number(r: Refusal) -> u8
-    ensures { λ n. ⌜ n ∷ [] ≡ refusalBytes r ⌝ }
-{
-    match r {
-        Refusal::BadHex => 1,
-        Refusal::BadFrame => 2,
-        Refusal::AlreadyOpen => 3,
-        Refusal::NotOpen => 4,
-        Refusal::BadSize => 5,
-        Refusal::BadLink => 6,
-        Refusal::NoSuchField => 7,
-        Refusal::LinkTaken => 8,
-        Refusal::NoSuchLink => 9,
-        Refusal::Conflict => 10,
-        Refusal::Loop => 11,
-        Refusal::TextTooLong => 12,
-    }
-}
-
-// The bytes of a reply: 00 and the count, or FF and the refusal's number.
-pub fn reply_bytes(reply: Reply) -> [u8; 2]
-    ensures { λ b. ⌜ (b ≡ replyBytes reply) × (length b ≡ 2) ⌝ }
-{
-    match reply {
-        Reply::Accepted(m) => [0x00, m],
-        Reply::Refused(r) => [0xFF, refusal_number(r)],
-    }
-}
-
-// The number of the refusal that a reply's first two bytes tell; 0 for none.
-pub fn refusal_of(first: u8, second: u8) -> u8
-    ensures { λ n. ⌜ n ≡ refusalOf (first ∷ second ∷ []) ⌝ }
-{
-    if first == 0xFF { second } else { 0 }
 }
 
 // The number of the link that a command names; 0 where it names none.

@@ -1,9 +1,9 @@
--- The numbers and values of an answer tell its cases apart. Assumes nothing.
+-- The numbers and values of an answer: how many there are, and that they tell its cases apart. Assumes nothing.
 use mathlib.Core.Path.{_≡_, refl, sym, ap, _∙_}
 use mathlib.Core.List.{List, [], _∷_}
-use Prim.Native.Nat.{ℕ}
+use Prim.Native.Nat.{ℕ, suc}
 use native.Mathlib.Omega.{arith}
-use lib.ListN.{getD, drop}
+use lib.ListN.{length, getD, drop}
 use Rattle.panel.specs.declared.Refusal.{Refusal}
 use Rattle.panel.specs.declared.Refusal.the-variants.{BadHex, BadFrame, AlreadyOpen, NotOpen, BadSize, BadLink, NoSuchField, LinkTaken, NoSuchLink, Conflict, Loop, TextTooLong}
 use Rattle.panel.specs.declared.Reply.{Reply}
@@ -28,6 +28,25 @@ refusal-at NoSuchLink = refl
 refusal-at Conflict = refl
 refusal-at Loop = refl
 refusal-at TextTooLong = refl
+
+-- a refusal has its number and no values
+pub refusal-one : (r : Refusal) → length (refusalBytes r) ≡ 1
+refusal-one BadHex = refl
+refusal-one BadFrame = refl
+refusal-one AlreadyOpen = refl
+refusal-one NotOpen = refl
+refusal-one BadSize = refl
+refusal-one BadLink = refl
+refusal-one NoSuchField = refl
+refusal-one LinkTaken = refl
+refusal-one NoSuchLink = refl
+refusal-one Conflict = refl
+refusal-one Loop = refl
+refusal-one TextTooLong = refl
+
+pub reply-two : (r : Reply) → length (replyBytes r) ≡ 2
+reply-two (Accepted m) = refl
+reply-two (Refused r) = ap suc (refusal-one r)
 
 pub refusals-apart : (r s : Refusal) → refusalBytes r ≡ refusalBytes s → r ≡ s
 refusals-apart r s e = sym (refusal-at r) ∙ ap (λ (b : List ℕ). refusalAt (getD b 0 0)) e ∙ refusal-at s

@@ -12,7 +12,7 @@ use Rattle.tally.specs.declared.Tally.{Tally}
 use Rattle.frames.specs.Texts.{LineAnswer, isTooLong}
 use Rattle.text.specs.declared.Outcome.{Outcome}
 use Rattle.text.specs.declared.Outcome.the-variants.{Length, TextTooLong}
-use Rattle.text.specs.Runs.{wholeOutput, outcomeNumbers, outcomeOf}
+use Rattle.text.specs.Outcomes.{wholeOutput, outcomeNumbers, outcomeOf}
 
 -- what the outcome's numbers say of the length
 told : (b : Bool) (n : ℕ) (r : Outcome) → outcomeNumbers r ≡ cond b (0xFF ∷ refusalBytes TooLong) (0x00 ∷ n ∷ []) → cond (eqb (at (outcomeNumbers r) 0) 0) (at (outcomeNumbers r) 1) 0 ≡ cond b 0 n

@@ -8,7 +8,7 @@ ghost use Rattle.tally.specs.Tallies.{noTally};
 ghost use Rattle.panel.specs.Panels.{opened};
 ghost use Rattle.frames.specs.Texts.{isTooLong};
 ghost use Rattle.frames.specs.Frames.{lineAnswer};
-ghost use Rattle.text.specs.Runs.{wholeOutput, bufferAfter};
+ghost use Rattle.text.specs.Outcomes.{wholeOutput, bufferAfter};
 
 // The length of the whole output, of which the buffer holds as many first bytes as fit; 0 where the text is too long.
 #[no_mangle]

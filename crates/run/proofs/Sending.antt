@@ -12,7 +12,8 @@ use Rattle.lines.proofs.Lines.{lines-end}
 use Rattle.tally.specs.declared.Tally.{Tally}
 use Rattle.tally.specs.Tallies.{noTally, threeBytes, tallyBytes}
 use Rattle.frames.specs.Texts.{LineAnswer, replies, tallyAfter, written, output}
-use Rattle.text.specs.Runs.{tallyLength, Reached, Ran, Resumed}
+use Rattle.answering.specs.Runs.{Reached, Ran, Resumed}
+use Rattle.text.specs.Outcomes.{tallyLength}
 
 -- the length of io's large buffer
 abbrev bufferLength : ℕ

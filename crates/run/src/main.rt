@@ -18,7 +18,7 @@ fn answer(text: &[u8]) {
         last: 0,
     };
     while next < text.len() {
-        let r = text::lines_from(text, next, p, t, &mut out);
+        let r = answering::lines_from(text, next, p, t, &mut out);
         next = r.next;
         p = r.panel;
         t = r.tally;

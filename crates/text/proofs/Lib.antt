@@ -1,4 +1,2 @@
 pub mod Outcomes
-pub mod Going
-pub mod Arms
 pub mod Whole

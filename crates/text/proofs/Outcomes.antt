@@ -6,7 +6,7 @@ use native.Mathlib.Omega.{arith}
 use Rattle.fieldset.specs.Tables.{at}
 use Rattle.text.specs.declared.Outcome.{Outcome}
 use Rattle.text.specs.declared.Outcome.the-variants.{Length, TextTooLong}
-use Rattle.text.specs.Runs.{outcomeNumbers}
+use Rattle.text.specs.Outcomes.{outcomeNumbers}
 
 pub outcomes-apart : (a b : Outcome) → outcomeNumbers a ≡ outcomeNumbers b → a ≡ b
 outcomes-apart (Length m) (Length n) e = cc

@@ -1,22 +1,23 @@
--- A run, and the whole output, whatever answers the lines. Assumes nothing.
+-- A run over all lines, and the whole output, whatever answers the lines. Assumes nothing.
 use mathlib.Core.Path.{_≡_, refl, sym, ap, ap₂, _∙_}
 use mathlib.Core.List.{List, [], _∷_, _++_}
 use native.Mathlib.Decide.{decLt}
 use Prim.Native.Nat.{ℕ, _+_, _-_, _*_, _≤_, _<_}
 use native.Mathlib.Omega.{arith}
 use borrow.Author.Tests.{lt-ltb, le-ltb}
-use lib.ListN.{length, getD, take, drop, length-append, length-drop, take-append-drop}
-use lib.Seq.{sets, sets-eq, take-at, drop-at, take-all}
+use lib.ListN.{length, getD, take, drop, length-append, length-drop}
+use lib.Seq.{sets, take-all}
 use Rattle.hex.specs.Hex.{lineOf}
 use Rattle.fieldset.proofs.Tables.{sets-append}
 use Rattle.tally.specs.declared.Tally.{Tally}
 use Rattle.tally.specs.Tallies.{threeBytes, tallyBytes}
 use Rattle.lines.specs.Lines.{linesOf}
 use Rattle.lines.proofs.Lines.{lines-on, lines-end}
-use Rattle.frames.specs.Texts.{LineAnswer, stateAfter, replies, tallyAfter, written, output, textLimit}
-use Rattle.frames.proofs.Outputs.{output-append}
+use Rattle.frames.specs.Texts.{LineAnswer, replies, tallyAfter, written, output, textLimit}
+use Rattle.replies.specs.Replies.{longest}
+use Rattle.answering.specs.Runs.{Reached, Ran, Paced}
 use Rattle.text.specs.declared.Outcome.the-variants.{Length, TextTooLong}
-use Rattle.text.specs.Runs.{longest, Reached, Ran, Paced, Resumed, wholeOutput, outcomeOf, bufferAfter, tallyAtEnd, Told}
+use Rattle.text.specs.Outcomes.{wholeOutput, outcomeOf, bufferAfter, tallyAtEnd, Told}
 
 -- the tally's bytes in the parts that are written
 pub tally-parts : (b : List ℕ) (t : Tally) → b ≡ tallyBytes t → getD b 0 0 ∷ getD b 1 0 ∷ take (length b - 2) (drop 2 b) ≡ tallyBytes t
@@ -24,33 +25,6 @@ unfolding tallyBytes threeBytes
 tally-parts b t e = ap (λ (x : List ℕ). getD x 0 0 ∷ getD x 1 0 ∷ take (length x - 2) (drop 2 x)) e
 
 module _ {S : Type 0} (answer : LineAnswer S) (Legal : S → Type 0) where
-  -- ---- a run that goes on
-
-  pub resumed : (text : List ℕ) (from n : ℕ) (s : S) (t : Tally) (before after : List ℕ) (r : Reached S)
-      → Ran answer Legal text (linesOf (drop from text)) n s t before after r → Paced text from (length before) n r → Resumed answer text from s t before after r
-  resumed text from n s t before after r ran paced =
-      let ls : List (List ℕ) = linesOf (drop from text) in
-      let bytes : List ℕ = written (replies answer s (take n ls)) in
-      let size : length bytes ≡ r .written = sym (ran .count) in
-      let fits : 0 + length bytes ≤ length before = omega (arith, paced .fits) in
-      let stored : after ≡ bytes ++ drop (0 + length bytes) before = ran .buffer ∙ sets-eq bytes before 0 fits in
-      let end : 0 + length bytes ≡ r .written = omega arith in
-      record {
-        resumes =
-            ap₂ (λ (w : List ℕ) (o : List ℕ). w ++ o)
-            (ap (take (r .written)) stored ∙ take-at bytes (drop (0 + length bytes) before) (r .written) size)
-            (ap (λ (q : S). output answer q (r .tally) (linesOf (drop (r .next) text))) (ran .state)
-            ∙ ap₂ (output answer (stateAfter answer s (take n ls))) (ran .tally) (ran .rest))
-            ∙ sym (output-append answer (take n ls) (drop n ls) s t) ∙ ap (output answer s t) (take-append-drop n ls);
-        behind =
-            ap (drop (r .written)) stored ∙ drop-at bytes (drop (0 + length bytes) before) (r .written) size
-            ∙ ap (λ (k : ℕ). drop k before) end;
-        fits = paced .fits;
-        progress = paced .progress;
-      }
-
-  -- ---- a whole text
-
   -- with room for all of the lines none is left
   none-left : (text : List ℕ) (room n : ℕ) (s : S) (t : Tally) (before after : List ℕ) (r : Reached S)
       → Ran answer Legal text (linesOf text) n s t before after r → Paced text 0 room n r → longest * length (linesOf text) ≤ room → length text ≤ r .next

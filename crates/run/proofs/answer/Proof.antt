@@ -14,7 +14,7 @@ use Rattle.run.proofs.answer.Tie as tie
 use Rattle.io.proofs.large_buffer.Reads as large-buffer-reads
 use Rattle.io.proofs.write_all.Reads as write-all-reads
 use Rattle.opening.proofs.unopened.Reads as unopened-reads
-use Rattle.text.proofs.lines_from.Reads as lines-from-reads
+use Rattle.answering.proofs.lines_from.Reads as lines-from-reads
 use Rattle.text.proofs.put_tally.Reads as put-tally-reads
 
 abbrev Inv-loop : tie.InvT-loop

@@ -6,12 +6,12 @@ use Rattle.panel.specs.Panels.{opened}
 use Rattle.frames.specs.Texts.{textLimit}
 use Rattle.frames.specs.Frames.{lineAnswer}
 use Rattle.lines.proofs.Lines.{lines-few}
-use Rattle.text.specs.Runs.{longest}
+use Rattle.replies.specs.Replies.{longest}
 use Rattle.text.proofs.Whole.{too-long, whole-text}
 use Rattle.text.proofs.run_tallied.Statement.{statement}
 use Rattle.text.proofs.run_tallied.Tie as tie
 use Rattle.opening.proofs.unopened.Reads as unopened-reads
-use Rattle.text.proofs.answer_lines.Reads as answer-lines-reads
+use Rattle.answering.proofs.answer_lines.Reads as answer-lines-reads
 use Rattle.text.proofs.put_tally.Reads as put-tally-reads
 
 returns : tie.Need-returns

@@ -50,7 +50,7 @@ use Rattle.text.proofs.Outcome as O
 use Rattle.text.proofs.Outcome.Laws as O′
 use Rattle.panel.specs.Panels.{opened}
 use Rattle.frames.specs.Frames.{lineAnswer}
-use Rattle.text.specs.Runs.{Told}
+use Rattle.text.specs.Outcomes.{Told}
 use Rattle.text.proofs.Ending as S
 use Rattle.text.proofs.Ending.Laws as S′
 use Rattle.text.proofs.run_tallied as run-tallied

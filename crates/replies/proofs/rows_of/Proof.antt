@@ -1,11 +1,11 @@
--- `text::rows_of` meets its contract.
+-- `replies::rows_of` meets its contract.
 use mathlib.Core.Path.{_≡_, _∙_, sym, ap}
 use Prim.Native.Nat.{_*_}
 use native.Mathlib.Omega.{arith}
 use borrow.Author.Needs.{needs}
 use Rattle.panel.specs.Answers.{planRest}
-use Rattle.text.proofs.rows_of.Statement.{statement}
-use Rattle.text.proofs.rows_of.Tie as tie
+use Rattle.replies.proofs.rows_of.Statement.{statement}
+use Rattle.replies.proofs.rows_of.Tie as tie
 
 returns : tie.Need-returns
 returns c = let e : 3 * c .wide .result ≡ 3 * c .before .before .reply .given .0 .0 = omega (arith, c .wide .ensures) in e ∙ sym (ap planRest (c .before .before .reply .given .1))

@@ -1,9 +1,9 @@
--- `text::rest_of` meets its contract.
+-- `replies::rest_of` meets its contract.
 use mathlib.Core.Path.{sym}
 use borrow.Author.Needs.{needs}
-use Rattle.text.proofs.Arms.{no-rest}
-use Rattle.text.proofs.rest_of.Statement.{statement}
-use Rattle.text.proofs.rest_of.Tie as tie
+use Rattle.replies.proofs.Replies.{no-rest}
+use Rattle.replies.proofs.rest_of.Statement.{statement}
+use Rattle.replies.proofs.rest_of.Tie as tie
 
 returns-2 : tie.Need-returns-2
 returns-2 c = sym (no-rest (c .before .args .command) (c .before .args .reply) (c .match .keys2))

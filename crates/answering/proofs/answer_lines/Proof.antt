@@ -1,31 +1,34 @@
--- `text::answer_lines` meets its contract. What one line does is the law `line-does`; the loop knows of a line's answer no more.
+-- `answering::answer_lines` meets its contract. What one line does is the law `line-does`; the loop knows of a line's answer no more.
 use borrow.Author.Needs.{needs}
 use borrow.Author.Tests.{leb-true, leb-false}
 use mathlib.Core.Path.{_≡_, refl, sym, ap, _∙_, subst}
 use mathlib.Core.Logic.{⊎-elim}
-use mathlib.Core.List.{List, _∷_}
-use Prim.Native.Nat.{ℕ, _-_, _≤_, _<_}
+use mathlib.Core.List.{List}
+use Prim.Native.Nat.{ℕ, _+_, _-_, _≤_, _<_}
 use native.Mathlib.Omega.{arith}
-use lib.ListN.{length, getD, take, drop, length-take}
-use lib.Seq.{length-sets, length-take-le}
+use lib.ListN.{length, take, drop}
+use lib.Seq.{sets, length-sets}
 use Rattle.panel.specs.declared.Panel.{Panel}
 use Rattle.panel.specs.Items.{linkAt}
 use Rattle.panel.specs.Commands.{removing}
 use Rattle.panel.specs.Legal.{Legal}
 use Rattle.tables.specs.Tables.{Tabled}
 use Rattle.taking.proofs.Taking.{Taken, places-taken, taken-reversed, tabled-altered, taken-unmoved}
+use Rattle.hex.specs.Hex.{lineOf}
 use Rattle.tally.specs.Tallies.{tallied}
 use Rattle.frames.specs.declared.Command.{Command}
 use Rattle.frames.specs.declared.Command.the-variants.{Remove}
 use Rattle.frames.specs.Frames.{numberOf, commandAnswer, lineAnswer}
 use Rattle.lines.proofs.Lines.{end-within, behind-on}
-use Rattle.frames.proofs.Outputs.{refusal-rows}
 use Rattle.panel.specs.Answers.{rowsLength}
-use Rattle.text.specs.Lines.{restOf, fieldBytesOf, LineStep}
-use Rattle.text.proofs.Arms.{answer-legal, performed-step, decided-step, framed, did}
-use Rattle.text.proofs.Going.{Did, Going, start, line-done, finish-end, finish-full}
-use Rattle.text.proofs.answer_lines.Statement.{statement}
-use Rattle.text.proofs.answer_lines.Tie as tie
+use Rattle.replies.specs.Replies.{restOf, wholeReply}
+use Rattle.replies.proofs.Replies.{rows-tell-none}
+use Rattle.deciding.specs.Lines.{fieldBytesOf, LineStep}
+use Rattle.deciding.proofs.Arms.{performed-step, decided-step, framed}
+use Rattle.answering.proofs.Answers.{answer-legal, did}
+use Rattle.answering.proofs.Going.{Did, Going, start, line-done, finish-end, finish-full}
+use Rattle.answering.proofs.answer_lines.Statement.{statement}
+use Rattle.answering.proofs.answer_lines.Tie as tie
 
 abbrev Inv-loop : tie.InvT-loop
 Inv-loop text from out₀ room at₀ q₀ u₀ n₀ rows₀ path₀ levels₀ others₀ reads₀ out at q u n rows path levels others reads =
@@ -172,71 +175,61 @@ taken j =
     (taken-unmoved (stepped m .takes) (legal-after m) (is-legal (m .before)) (number-small (m .before .before)) (loop-of (m .before) .loop .inv .2) l (w .0 .left)))
     (j .if2 .came)
 
--- the rows that are written
-rest-is : (r : tie.After-rest-of Inv-loop μ-loop) → let m = joined-of (r .before) in r .rest-of .result ≡ restOf (command-of (m .before)) (m .match .step .reply)
-rest-is r = let m = joined-of (r .before) in r .rest-of .ensures ∙ ap (λ (x : Command). restOf x (m .match .step .reply)) (same-command m)
-
-rest-short : (r : tie.After-reply-bytes Inv-loop μ-loop) → r .before .rest-of .result ≤ rowsLength
-rest-short b = let r = b .before in omega (arith, rest-is r, stepped (joined-of (r .before)) .rest)
-
-rows-fit : (b : tie.After-reply-bytes Inv-loop μ-loop) → b .before .rest-of .result ≤ length (joined-of (b .before .before) .match .rows)
-rows-fit b = omega (arith, rest-short b, stepped (joined-of (b .before .before)) .rows-full)
-
 -- ---- what one line does
 
 -- the line, and its reply
 abbrev line-of : tie.After-old Inv-loop μ-loop → List ℕ
 line-of c = let l = loop-of c in take (end-of c .line-end .result - l .loop .at) (drop (l .loop .at) (text-of l))
 
-abbrev reply-of : tie.After-reply-bytes Inv-loop μ-loop → List ℕ
-reply-of b = getD (b .reply-bytes .result) 0 0 ∷ getD (b .reply-bytes .result) 1 0 ∷ take (b .before .rest-of .result) (joined-of (b .before .before) .match .rows)
+abbrev reply-of : tie.Joined2 Inv-loop μ-loop → List ℕ
+reply-of j = let m = joined-of j in wholeReply (command-of (m .before)) (m .match .step .reply) (m .match .rows)
 
-line-does : (b : tie.After-reply-bytes Inv-loop μ-loop)
-    → let n = joined-of (b .before .before) .before in Did lineAnswer Legal (loop-of n .loop .q) (line-of n) (b .before .before .if2 .q) (reply-of b)
-line-does b =
-    let r = b .before in
-    let m = joined-of (r .before) in
+line-does : (j : tie.Joined2 Inv-loop μ-loop)
+    → let n = joined-of j .before in Did lineAnswer Legal (loop-of n .loop .q) (line-of n) (j .if2 .q) (reply-of j)
+line-does j =
+    let m = joined-of j in
     let n = m .before in
-    let t = taken (r .before) in
-    did _ (line-of n) _ (fields-at n) (read-of n .read-line .ensures .bytes) _ _ _ _ (stepped m) _ (t .panel) (t .legal) _ (rest-is r) _ (b .reply-bytes .ensures .0) (b .reply-bytes .ensures .1)
+    let t = taken j in
+    did _ (line-of n) _ (fields-at n) (read-of n .read-line .ensures .bytes) _ _ _ _ (stepped m) _ (t .panel) (t .legal)
 
-array-share-prefix-rows : tie.Need-array-share-prefix-rows Inv-loop μ-loop
-array-share-prefix-rows c = rows-fit (c .before)
+is-written : (j : tie.Joined2 Inv-loop μ-loop) → let m = joined-of j in wholeReply (m .match .command) (m .match .step .reply) (m .match .rows) ≡ reply-of j
+is-written j = let m = joined-of j in ap (λ (k : Command). wholeReply k (m .match .step .reply) (m .match .rows)) (same-command m)
 
-slice-aggregate-put-line : tie.Need-slice-aggregate-put-line Inv-loop μ-loop
-slice-aggregate-put-line c = sym (length-take-le _ _ (rows-fit (c .before .before)))
+slice-aggregate-put-reply : tie.Need-slice-aggregate-put-reply Inv-loop μ-loop
+slice-aggregate-put-reply c = sym (stepped (joined-of (c .before .before)) .rows-full)
 
-put-line-requires : tie.Need-put-line-requires Inv-loop μ-loop
-put-line-requires c κs =
-    let b = c .before .before in
-    let r = b .before in
-    let m = joined-of (r .before) in
+put-reply-requires : tie.Need-put-reply-requires Inv-loop μ-loop
+put-reply-requires c κs =
+    let m = joined-of (c .before .before) in
     let l = loop-of (m .before) in
-    omega (arith, rest-short b, length-take (r .rest-of .result) (m .match .rows), l .loop .inv .3 .fits, s-of (l .before .before) .pre .2)
+    let few = ap (λ (k : Command). restOf k (m .match .step .reply)) (same-command m) in
+    let short = stepped m .rest in
+    (omega (arith, few, short, stepped m .rows-full), omega (arith, few, short), omega (arith, l .loop .inv .3 .fits, s-of (l .before .before) .pre .2))
 
-abbrev bytes-at : tie.After-behind Inv-loop μ-loop → tie.After-reply-bytes Inv-loop μ-loop
-bytes-at c = c .before .before .before .before .before .before .before .before
+abbrev taken-of : tie.After-behind Inv-loop μ-loop → tie.Joined2 Inv-loop μ-loop
+taken-of c = c .before .before .before .before .before .before .before .before
 
 loop-less : tie.Need-loop-less Inv-loop μ-loop
 loop-less c =
-    let e = end-of (joined-of (bytes-at c .before .before) .before) in
+    let e = end-of (joined-of (taken-of c) .before) in
     let l = e .before .before .before in
     omega (arith, c .behind .ensures, behind-on (text-of l) (l .loop .at) (e .line-end .result) (e .before .before .loop-test .taken) (e .line-end .ensures), ends e)
 
 loop-again : tie.Need-loop-again Inv-loop μ-loop
 loop-again c =
-    let b = bytes-at c in
-    let r = b .before in
-    let m = joined-of (r .before) in
+    let j = taken-of c in
+    let m = joined-of j in
     let n = m .before in
+    let l = loop-of n .loop in
     let e = end-of n in
-    let w = c .before .before .before .before .before .put-line .ensures in (
+    let w = c .before .before .before .before .before .put-reply .ensures in (
       stepped m .rows-full,
       stepped m .takes .path-of .full,
-      taken (r .before) .tabled,
-      line-done _ _ _ _ _ _ _ _ _ _ (loop-of n .loop .inv .3) (e .before .before .loop-test .taken) (leb-true _ _ (e .before .if1 .taken)) (e .line-end .result) (e .line-end .ensures)
-          (line-of n) refl _ _ (reply-of b) (line-does b) (w .0) (w .1)
-          (c .before .tallied-line .ensures ∙ ap (tallied (loop-of n .loop .u)) (c .before .before .refusal-of .ensures ∙ refusal-rows _ _ _)) (c .behind .ensures),
+      taken j .tabled,
+      line-done _ _ _ _ _ _ _ _ _ _ (l .inv .3) (e .before .before .loop-test .taken) (leb-true _ _ (e .before .if1 .taken)) (e .line-end .result) (e .line-end .ensures)
+          (line-of n) refl _ _ (reply-of j) (line-does j)
+          (w .0 ∙ ap (λ (b : List ℕ). sets (l .out) (l .n) (lineOf b)) (is-written j)) (w .1 ∙ ap (λ (b : List ℕ). l .n + length (lineOf b)) (is-written j))
+          (c .before .tallied-line .ensures ∙ ap (tallied (l .u)) (c .before .before .refusal-of .ensures ∙ rows-tell-none (command-of n) (m .match .step .reply) (m .match .rows))) (c .behind .ensures),
     )
 
 same-length : tie.Need-same-length Inv-loop μ-loop
@@ -276,15 +269,8 @@ answer-lines-spec =
     element-set-from-link
     stay-levels-requires
     reverse-requires
-    (λ c κs. search needs)
-    (λ c κs. search needs)
-    (λ c. search needs)
-    (λ c. search needs)
-    array-share-prefix-rows
-    slice-aggregate-put-line
-    put-line-requires
-    (λ c. search needs)
-    (λ c. search needs)
+    slice-aggregate-put-reply
+    put-reply-requires
     (λ c κs. search needs)
     (λ c κs. search needs)
     (λ c κs. search needs)

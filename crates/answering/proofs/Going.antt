@@ -15,7 +15,8 @@ use Rattle.lines.specs.Lines.{linesOf, lineLength, behindOf}
 use Rattle.lines.proofs.Lines.{behind-within, behind-on, lines-on, lines-end}
 use Rattle.frames.specs.Texts.{Answered, LineAnswer, refusalOf, stateAfter, replies, tallyAfter, written}
 use Rattle.frames.proofs.Outputs.{state-more, replies-more, tally-more, written-more}
-use Rattle.text.specs.Runs.{longest, Reached, Paced, fitting, RanFrom}
+use Rattle.replies.specs.Replies.{longest}
+use Rattle.answering.specs.Runs.{Reached, Paced, fitting, RanFrom}
 
 -- ---- how many lines fit
 

@@ -1,29 +1,20 @@
 -- The step of one line.
 use Prim.Native.Nat.{ℕ, _≤_}
 use mathlib.Core.Path.{_≡_}
-use mathlib.Core.List.{List, _++_}
+use mathlib.Core.List.{List}
 use lib.ListN.{length, take, drop}
 use Rattle.panel.specs.declared.Link.{Link}
 use Rattle.panel.specs.declared.Panel.{Panel}
-use Rattle.panel.specs.declared.Reply.{Reply}
 use Rattle.panel.specs.declared.Reply.the-variants.{Accepted}
 use Rattle.panel.specs.declared.Step.{Step}
-use Rattle.panel.specs.Answers.{replyBytes, rowsLength, planRest}
+use Rattle.panel.specs.Answers.{rowsLength}
 use Rattle.panel.specs.Outcomes.{unchanged, Takes}
 use Rattle.hex.specs.Hex.{frameRoom}
 use Rattle.frames.specs.declared.Command.{Command}
 use Rattle.frames.specs.declared.Command.the-variants.{Open, Add, Remove, Touch, Plan, Refused}
 use Rattle.frames.specs.declared.Line.{Line}
 use Rattle.frames.specs.Frames.{commandAnswer}
-
--- how many bytes the reply to a command has behind its first two
-abbrev pub restOf : Command → Reply → ℕ
-restOf (Open n) reply = 0
-restOf (Add id level) reply = 0
-restOf (Remove id) reply = 0
-restOf (Touch f) reply = 0
-restOf Plan reply = planRest reply
-restOf (Refused r) reply = 0
+use Rattle.replies.specs.Replies.{restOf, wholeReply}
 
 -- the field bytes of an add, beside its command
 abbrev pub fieldBytesOf : Line → List ℕ
@@ -39,7 +30,7 @@ pub record Framed (line : Line) : Type 0 where
 -- the first rows of the buffer
 pub record LineStep (p : Panel) (k : ℕ) (command : Command) (fields path rows : List ℕ) (s : Step) : Type 0 where
   pub takes : Takes p k path s (commandAnswer p command fields .state)
-  pub reply : replyBytes (s .reply) ++ take (restOf command (s .reply)) rows ≡ commandAnswer p command fields .reply
+  pub reply : wholeReply command (s .reply) rows ≡ commandAnswer p command fields .reply
   pub rest : restOf command (s .reply) ≤ rowsLength
   pub rows-full : length rows ≡ rowsLength
 

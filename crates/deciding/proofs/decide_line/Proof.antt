@@ -1,4 +1,4 @@
--- `text::decide_line` meets its contract, an arm by one law.
+-- `deciding::decide_line` meets its contract, an arm by one law.
 use mathlib.Core.Path.{_≡_, refl, sym, ap, _∙_}
 use Prim.Native.Nat.{_≤_}
 use native.Mathlib.Omega.{arith}
@@ -10,10 +10,10 @@ use Rattle.panel.specs.Commands.{opening, adding, touching}
 use Rattle.frames.specs.declared.Command.{Command}
 use Rattle.frames.specs.declared.Command.the-variants.{Open, Add, Touch}
 use Rattle.frames.specs.Frames.{numberOf}
-use Rattle.text.specs.Lines.{fieldBytesOf}
-use Rattle.text.proofs.Arms.{performed-step, refused-step, plan-step, add-tail}
-use Rattle.text.proofs.decide_line.Statement.{statement}
-use Rattle.text.proofs.decide_line.Tie as tie
+use Rattle.deciding.specs.Lines.{fieldBytesOf}
+use Rattle.deciding.proofs.Arms.{performed-step, refused-step, plan-step, add-tail}
+use Rattle.deciding.proofs.decide_line.Statement.{statement}
+use Rattle.deciding.proofs.decide_line.Tie as tie
 
 -- ---- what is known on the way
 

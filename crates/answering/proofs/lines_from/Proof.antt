@@ -1,9 +1,9 @@
--- `text::lines_from` meets its contract.
+-- `answering::lines_from` meets its contract.
 use borrow.Author.Needs.{needs}
-use Rattle.text.proofs.Whole.{resumed}
-use Rattle.text.proofs.lines_from.Statement.{statement}
-use Rattle.text.proofs.lines_from.Tie as tie
-use Rattle.text.proofs.answer_lines.Reads as answer-lines-reads
+use Rattle.answering.proofs.Resuming.{resumed}
+use Rattle.answering.proofs.lines_from.Statement.{statement}
+use Rattle.answering.proofs.lines_from.Tie as tie
+use Rattle.answering.proofs.answer_lines.Reads as answer-lines-reads
 
 returns : tie.Need-returns
 returns c =

@@ -7,25 +7,12 @@ use lib.Dec.{leb}
 use lib.ListN.{length, take, drop}
 use lib.Seq.{sets}
 use Rattle.panel.specs.declared.Panel.{Panel}
-use Rattle.panel.specs.declared.Refusal.the-variants.{TextTooLong as TooLong}
-use Rattle.panel.specs.Answers.{refusalBytes}
 use Rattle.hex.specs.Hex.{lineOf}
 use Rattle.tally.specs.declared.Tally.{Tally}
 use Rattle.lines.specs.Lines.{linesOf}
-use Rattle.frames.specs.Texts.{LineAnswer, stateAfter, replies, tallyAfter, written, output, isTooLong}
-use Rattle.text.specs.declared.Outcome.{Outcome}
-use Rattle.text.specs.declared.Outcome.the-variants.{Length, TextTooLong}
-use Rattle.text.specs.declared.Progress.{Progress}
-
--- the characters of the longest reply's line: a plan of 64 fields has 2 + 3 * 64 bytes, and the line an LF
-abbrev pub longest : ℕ
-longest = 389
-
--- the characters of the tally's line: 11 bytes and an LF
-abbrev pub tallyLength : ℕ
-tallyLength = 23
-
--- ---- some lines of a text
+use Rattle.frames.specs.Texts.{LineAnswer, stateAfter, replies, tallyAfter, written, output}
+use Rattle.replies.specs.Replies.{longest}
+use Rattle.answering.specs.declared.Progress.{Progress}
 
 -- where a run over a text stands: the position of the next line, the state, the tally, and how many bytes were written
 pub record Reached (S : Type 0) : Type 0 where
@@ -79,32 +66,3 @@ module _ {S : Type 0} (answer : LineAnswer S) where
     pub fits : r .written ≤ length before
     -- where a line is left and a longest reply fits, a line is answered
     pub progress : from < length text → longest ≤ length before → from < r .next
-
--- ---- a whole text
-
--- a text's answer by its number and values: 00 and the length of the whole output, or FF and the refusal's number
-abbrev pub outcomeNumbers : Outcome → List ℕ
-outcomeNumbers (Length n) = 0x00 ∷ n ∷ []
-outcomeNumbers TextTooLong = 0xFF ∷ refusalBytes TooLong
-
--- from a state and a tally on
-module _ {S : Type 0} (answer : LineAnswer S) (s : S) (t : Tally) where
-  abbrev pub wholeOutput : List ℕ → List ℕ
-  wholeOutput text = output answer s t (linesOf text)
-
-  -- "TextTooLong, over 65,535 bytes"
-  unfoldable pub outcomeOf : List ℕ → List ℕ
-  outcomeOf text = cond (isTooLong text) (0xFF ∷ refusalBytes TooLong) (0x00 ∷ length (wholeOutput text) ∷ [])
-
-  -- as many of its first bytes as fit; TextTooLong "changes nothing"
-  unfoldable pub bufferAfter : List ℕ → List ℕ → List ℕ
-  bufferAfter text before = cond (isTooLong text) before (sets before 0 (wholeOutput text))
-
-  unfoldable pub tallyAtEnd : List ℕ → Tally
-  tallyAtEnd text = cond (isTooLong text) t (tallyAfter t (replies answer s (linesOf text)))
-
-  -- all that a text is answered: the outcome, the buffer and the tally u afterwards
-  pub record Told (text : List ℕ) (u : Tally) (before after : List ℕ) (r : Outcome) : Type 0 where
-    pub outcome : outcomeNumbers r ≡ outcomeOf text
-    pub buffer : after ≡ bufferAfter text before
-    pub tally : u ≡ tallyAtEnd text

@@ -1,10 +1,10 @@
--- What document 01's panel answers one line: the step of its command, and what the line does once the step is taken. Assumes nothing.
+-- The step of a line, by its command. Assumes nothing.
 use mathlib.Core.Path.{_≡_, refl, sym, ap, ap₂, _∙_, subst}
 use mathlib.Core.Logic.{_⊎_, ⊎-elim}
-use mathlib.Core.List.{List, [], _∷_, _++_, append-nil}
+use mathlib.Core.List.{List, _++_, append-nil}
 use Prim.Native.Nat.{ℕ, _+_, _-_, _≤_}
 use native.Mathlib.Omega.{arith}
-use lib.ListN.{length, getD, take, drop, length-take, length-drop, take-append-drop}
+use lib.ListN.{length, take, drop, length-drop, take-append-drop}
 use lib.Seq.{sets-eq, length-sets, take-at, take-all}
 use denote.Enum.Declared.{tagOf}
 use Rattle.panel.specs.declared.Link.{Link}
@@ -16,56 +16,21 @@ use Rattle.panel.specs.declared.Step.{Step}
 use Rattle.panel.specs.Items.{linkAt}
 use Rattle.panel.specs.Answers.{replyBytes, planRest, rowsLength}
 use Rattle.panel.specs.Commands as panel
-use Rattle.panel.specs.Commands.{opening, adding, removing, touching, planning, performed}
+use Rattle.panel.specs.Commands.{adding, planning, performed}
 use Rattle.panel.specs.Outcomes.{unchanged, Takes, Decides, Plans}
 use Rattle.panel.specs.Legal.{Legal}
 use Rattle.panel.proofs.Outcomes.{takes-size}
-use Rattle.panel.proofs.Performed.{legal-performed}
 use Rattle.planning.proofs.Replies.{plan-keeps, plan-length, plan-rest}
-use Rattle.hex.proofs.Bytes.{length-line}
 use Rattle.frames.specs.declared.Command.{Command}
 use Rattle.frames.specs.declared.Command.the-variants.{Open, Add, Remove, Touch, Plan, Refused}
 use Rattle.frames.specs.declared.Line.{Line}
 use Rattle.frames.proofs.Command.{the-type}
 use Rattle.frames.specs.Texts.{Answered}
-use Rattle.frames.specs.Frames.{frameOf, commandBytes, commandOf, answerTo, answered, commandAnswer, lineAnswer}
+use Rattle.frames.specs.Frames.{answerTo, commandAnswer}
 use Rattle.frames.specs.Reading.{LineRead}
 use Rattle.frames.proofs.Reading.{add-reaches}
-use Rattle.text.specs.Lines.{restOf, Framed, LineStep, DecidedLine}
-use Rattle.text.proofs.Going.{Did}
-
--- what its command is answered is what a line is answered
-line-answer : (q : Panel) (line : List ℕ) (k : Command) (fields : List ℕ) → commandBytes k fields ≡ frameOf line → commandAnswer q k fields ≡ lineAnswer q line
-unfolding lineAnswer commandOf
-line-answer q line k fields read = go k ∙ ap (λ (x : List ℕ). answered q x (commandOf x)) read where
-  go : (c : Command) → commandAnswer q c fields ≡ answered q (commandBytes c fields) (commandOf (commandBytes c fields))
-  go (Open n) = refl
-  go (Add id level) = refl
-  go (Remove id) = refl
-  go (Touch f) = refl
-  go Plan = refl
-  go (Refused r) = refl
-
-pub answer-legal : (q : Panel) (k : Command) (fields : List ℕ) → Legal q → Legal (commandAnswer q k fields .state)
-answer-legal q (Open n) fields h = legal-performed q (opening n) h
-answer-legal q (Add id level) fields h = legal-performed q (adding id level fields) h
-answer-legal q (Remove id) fields h = legal-performed q (removing id) h
-answer-legal q (Touch f) fields h = legal-performed q (touching f) h
-answer-legal q Plan fields h = legal-performed q planning h
-answer-legal q (Refused r) fields h = h
-
--- a command that is no plan, by its tag
-pub no-rest : (c : Command) (r : Reply)
-    → (tagOf the-type c ≡ 0) ⊎ ((tagOf the-type c ≡ 1) ⊎ ((tagOf the-type c ≡ 2) ⊎ ((tagOf the-type c ≡ 3) ⊎ (tagOf the-type c ≡ 5)))) → restOf c r ≡ 0
-no-rest (Open n) r h = refl
-no-rest (Add id level) r h = refl
-no-rest (Remove id) r h = refl
-no-rest (Touch f) r h = refl
-no-rest Plan r h =
-    absurd (⊎-elim (λ e. omega arith) (⊎-elim (λ e. omega arith) (⊎-elim (λ e. omega arith) (⊎-elim (λ e. omega arith) (λ e. omega arith)))) h)
-no-rest (Refused x) r h = refl
-
--- ---- the arms
+use Rattle.replies.specs.Replies.{restOf}
+use Rattle.deciding.specs.Lines.{Framed, LineStep, DecidedLine}
 
 module _ (p : Panel) (k : ℕ) (fields path rows : List ℕ) where
   -- a command that the panel performs, and whose reply has no rows
@@ -102,28 +67,6 @@ module _ (p : Panel) (k : ℕ) (fields path rows : List ℕ) where
           rest = omega (arith, plan-rest p r h (g .reply), h .few);
           rows-full = ap length (g .rows) ∙ simp length-sets size;
         }
-
--- ---- what the line does; its reply is two bytes and the rows
-
-both : (b : List ℕ) → length b ≡ 2 → getD b 0 0 ∷ getD b 1 0 ∷ [] ≡ b
-both [] e = absurd (omega arith)
-both (x ∷ []) e = absurd (omega arith)
-both (x ∷ y ∷ []) e = refl
-both (x ∷ y ∷ z ∷ b) e = absurd (omega arith)
-
-pub did : (q : Panel) (line : List ℕ) (c : Command) (fields : List ℕ) → commandBytes c fields ≡ frameOf line → (k : ℕ) (path rows : List ℕ) (s : Step)
-    → LineStep q k c fields path rows s → (p : Panel) → p ≡ commandAnswer q c fields .state → Legal p → (count : ℕ) → count ≡ restOf c (s .reply)
-    → (b : List ℕ) → b ≡ replyBytes (s .reply) → length b ≡ 2 → Did lineAnswer Legal q line p (getD b 0 0 ∷ getD b 1 0 ∷ take count rows)
-did q line c fields read k path rows s d p ep h count ec b is two =
-    let r : List ℕ = getD b 0 0 ∷ getD b 1 0 ∷ take count rows in
-    record {
-      is =
-          ap₂ (λ (x : Panel) (y : List ℕ). record { state = x; reply = y }) ep
-          (ap₂ (λ (x : List ℕ) (n : ℕ). x ++ take n rows) (both b two ∙ is) ec ∙ d .reply)
-          ∙ line-answer q line c fields read;
-      legal = h;
-      short = omega (arith, length-line r, length-take count rows, d .rest);
-    }
 
 -- a tail that goes to the end: the field bytes of an add
 pub add-tail : (p : Panel) (k id level : ℕ) (b path : List ℕ) (s : Step) → Decides p k (adding id level (take (length b - 3) (drop 3 b))) path s

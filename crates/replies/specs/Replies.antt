@@ -1,0 +1,25 @@
+-- The bytes of a reply to a command.
+use Prim.Native.Nat.{ℕ}
+use mathlib.Core.List.{List, _++_}
+use lib.ListN.{take}
+use Rattle.panel.specs.declared.Reply.{Reply}
+use Rattle.panel.specs.Answers.{replyBytes, planRest}
+use Rattle.frames.specs.declared.Command.{Command}
+use Rattle.frames.specs.declared.Command.the-variants.{Open, Add, Remove, Touch, Plan, Refused}
+
+-- the characters of the longest reply's line: a plan of 64 fields has 2 + 3 * 64 bytes, and the line an LF
+abbrev pub longest : ℕ
+longest = 389
+
+-- how many bytes the reply to a command has behind its first two
+abbrev pub restOf : Command → Reply → ℕ
+restOf (Open n) reply = 0
+restOf (Add id level) reply = 0
+restOf (Remove id) reply = 0
+restOf (Touch f) reply = 0
+restOf Plan reply = planRest reply
+restOf (Refused r) reply = 0
+
+-- the reply to a command, for a plan with the first rows of the buffer
+abbrev pub wholeReply : Command → Reply → List ℕ → List ℕ
+wholeReply command reply rows = replyBytes reply ++ take (restOf command reply) rows
