@@ -10,7 +10,8 @@ use Rattle.panel.specs.Commands.{Command}
 use Rattle.optimality.specs.Condition3.{Store, empty, stepped, after, panels}
 use Rattle.optimality.proofs.Answers.{refused-unchanged}
 use Rattle.optimality.proofs.Runs.{condition-3}
-use Rattle.frames.specs.Texts.{linesOf, stateAfter}
+use Rattle.lines.specs.Lines.{linesOf}
+use Rattle.frames.specs.Texts.{stateAfter}
 use Rattle.frames.specs.Frames.{lineAnswer, answered, frameOf, commandOf, panelAfter}
 use Rattle.acceptance.specs.Lines.{commandsOf, LinesAsCommands, AfterEveryText, RefusedLineUnchanged}
 

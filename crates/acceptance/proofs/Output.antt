@@ -8,7 +8,8 @@ use lib.Dec.{ltb, eqb}
 use lib.ListN.{length-append, length-map}
 use borrow.Author.Tests.{ne-eqb}
 use Rattle.hex.specs.Hex.{lf, charOf, hexOf, lineOf}
-use Rattle.frames.specs.Texts.{linesOf, replies, written, output, isTooLong, outputOf}
+use Rattle.lines.specs.Lines.{linesOf}
+use Rattle.frames.specs.Texts.{replies, written, output, isTooLong, outputOf}
 use Rattle.frames.specs.Frames.{panelOutput}
 use Rattle.items.specs.Characters.{characters}
 use Rattle.acceptance.specs.Lines.{OneReplyEach, repliesTo, tallyTo, OutputLines, OutputTooLong}

@@ -17,7 +17,8 @@ use Rattle.panel.specs.Solution.{strengthOf, isBlocked, pathFor, reversed, plan
 use Rattle.panel.specs.Steps.{reverseStep, enterStep, touchStep, planStep}
 use Rattle.panel.specs.Commands.{anyOf, fieldsIn, isRising, areFieldBytes, checked}
 use Rattle.hex.specs.Hex.{isDigit, digitOf, charOf, areDigits, isHex, bytesOf, hexOf, lineOf}
-use Rattle.frames.specs.Texts.{linesOf, replies, written, output, outputOf}
+use Rattle.lines.specs.Lines.{linesOf}
+use Rattle.frames.specs.Texts.{replies, written, output, outputOf}
 use Rattle.frames.specs.Frames.{fitsKind, isFrame, checkedFrame, frameOf, commandOf, lineAnswer}
 use Rattle.items.specs.Characters.{characters}
 use Rattle.acceptance.specs.ShamPanels.{refusesAll, repliesZeros, keepsSetters, solvesFirstLinkOnly, inventsMoved, shamPanels, ShamPanelsDiffer}

@@ -10,8 +10,9 @@ use Rattle.panel.specs.Panels.{opened}
 use Rattle.panel.specs.Commands.{Command}
 use Rattle.optimality.specs.Condition3.{Store, Optimal, Run, after, panels, start}
 use Rattle.hex.specs.Hex.{hexOf}
+use Rattle.lines.specs.Lines.{linesOf}
 use Rattle.tally.specs.Tallies.{noTally, tallyBytes}
-use Rattle.frames.specs.Texts.{LineAnswer, linesOf, replies, tallyAfter, isTooLong}
+use Rattle.frames.specs.Texts.{LineAnswer, replies, tallyAfter, isTooLong}
 use Rattle.frames.specs.Frames.{frameOf, commandOf, lineAnswer, panelAfter, panelOutput}
 use Rattle.items.specs.Characters.{characters}
 

@@ -11,9 +11,9 @@ use Rattle.hex.specs.Hex.{lineOf}
 use Rattle.fieldset.proofs.Tables.{sets-append}
 use Rattle.tally.specs.declared.Tally.{Tally}
 use Rattle.tally.specs.Tallies.{tallied}
-use Rattle.frames.specs.Texts.{Answered, LineAnswer, linesOf, refusalOf, stateAfter, replies, tallyAfter, written}
-use Rattle.frames.specs.Reading.{lineLength, behindOf}
-use Rattle.frames.proofs.Lines.{behind-within, behind-on, lines-on, lines-end}
+use Rattle.lines.specs.Lines.{linesOf, lineLength, behindOf}
+use Rattle.lines.proofs.Lines.{behind-within, behind-on, lines-on, lines-end}
+use Rattle.frames.specs.Texts.{Answered, LineAnswer, refusalOf, stateAfter, replies, tallyAfter, written}
 use Rattle.frames.proofs.Outputs.{state-more, replies-more, tally-more, written-more}
 use Rattle.replies.specs.Replies.{longest}
 use Rattle.answering.specs.Runs.{Reached, Paced, fitting, RanFrom}

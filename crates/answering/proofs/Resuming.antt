@@ -6,7 +6,8 @@ use native.Mathlib.Omega.{arith}
 use lib.ListN.{length, take, drop, take-append-drop}
 use lib.Seq.{sets-eq, take-at, drop-at}
 use Rattle.tally.specs.declared.Tally.{Tally}
-use Rattle.frames.specs.Texts.{LineAnswer, linesOf, stateAfter, replies, written, output}
+use Rattle.lines.specs.Lines.{linesOf}
+use Rattle.frames.specs.Texts.{LineAnswer, stateAfter, replies, written, output}
 use Rattle.frames.proofs.Outputs.{output-append}
 use Rattle.answering.specs.Runs.{Reached, Ran, Paced, Resumed}
 

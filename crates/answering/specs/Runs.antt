@@ -9,7 +9,8 @@ use lib.Seq.{sets}
 use Rattle.panel.specs.declared.Panel.{Panel}
 use Rattle.hex.specs.Hex.{lineOf}
 use Rattle.tally.specs.declared.Tally.{Tally}
-use Rattle.frames.specs.Texts.{LineAnswer, linesOf, stateAfter, replies, tallyAfter, written, output}
+use Rattle.lines.specs.Lines.{linesOf}
+use Rattle.frames.specs.Texts.{LineAnswer, stateAfter, replies, tallyAfter, written, output}
 use Rattle.replies.specs.Replies.{longest}
 use Rattle.answering.specs.declared.Progress.{Progress}
 

@@ -17,7 +17,7 @@ ghost use mathlib.Core.Path.{_≡_};
 ghost use Prim.Native.Nat.{_^_, _≤_, _<_};
 ghost use lib.ListN.{length, drop};
 ghost use Rattle.panel.specs.Legal.{Legal};
-ghost use Rattle.frames.specs.Texts.{linesOf};
+ghost use Rattle.lines.specs.Lines.{linesOf};
 ghost use Rattle.frames.specs.Frames.{lineAnswer};
 ghost use Rattle.answering.specs.Runs.{reached, fitting, RanFrom, Paced, Resumed};
 
@@ -53,7 +53,7 @@ pub fn answer_lines(
     let mut reads = [0u64; 64];
     fill_tables(q, &mut levels, &mut others, &mut reads);
     while at < text.len() && LONGEST <= room - n {
-        let end = frames::line_end(text, at);
+        let end = lines::line_end(text, at);
         let line = frames::read_line(&text[at..end]);
         let command = line.command;
         let k = wide(frames::number_of(command));
@@ -77,7 +77,7 @@ pub fn answer_lines(
         let reply = step.reply;
         n = put_reply(out, n, command, reply, &rows[..ROWS]);
         u = tallied_line(u, refusal_of(reply));
-        at = frames::behind(text, end);
+        at = lines::behind(text, end);
     }
     Progress {
         next: at,

@@ -1,27 +1,18 @@
--- A text, its lines, and the whole output, whatever answers the lines.
+-- The greatest length of a text, and the whole output, whatever answers the lines.
 use Prim.Native.Nat.{ℕ}
 use mathlib.Core.Bool.{Bool, true, false, cond}
 use mathlib.Core.List.{List, [], _∷_, _++_}
-use lib.Dec.{eqb, ltb}
+use lib.Dec.{ltb}
 use lib.ListN.{length}
 use Rattle.panel.specs.declared.Refusal.the-variants.{TextTooLong}
 use Rattle.fieldset.specs.Tables.{at}
 use Rattle.panel.specs.Answers.{refusalBytes, isRefusal}
-use Rattle.hex.specs.Hex.{lf, lineOf}
+use Rattle.hex.specs.Hex.{lineOf}
+use Rattle.lines.specs.Lines.{linesOf}
 use Rattle.tally.specs.declared.Tally.{Tally}
 use Rattle.tally.specs.Tallies.{noTally, tallied, tallyBytes}
 
--- ---- the lines of a text
-
--- a character in front of the first line; where there is no line, it is one
-abbrev pub before : ℕ → List (List ℕ) → List (List ℕ)
-before c [] = (c ∷ []) ∷ []
-before c (l ∷ ls) = (c ∷ l) ∷ ls
-
--- "A line ends at LF or at the end of the text; a text that ends in LF has no further line, and an empty text has none"
-unfoldable pub linesOf : List ℕ → List (List ℕ)
-linesOf [] = []
-linesOf (c ∷ s) = cond (eqb c lf) ([] ∷ linesOf s) (before c (linesOf s))
+-- ---- the length of a text
 
 -- the greatest length of a text
 abbrev pub textLimit : ℕ

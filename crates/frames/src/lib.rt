@@ -1,12 +1,12 @@
-// Lines of hexadecimal, one frame a line, and the text that they are in.
+// Lines of hexadecimal, one frame a line.
 use panel::Refusal;
 ghost use mathlib.Core.Path.{_≡_};
-ghost use Prim.Native.Nat.{_+_, _≤_, _<_, min};
+ghost use Prim.Native.Nat.{_≤_, _<_, min};
 ghost use lib.ListN.{length, take, drop};
 ghost use Rattle.panel.specs.Commands.{hasBit6, anyOf};
 ghost use Rattle.hex.specs.Hex.{frameRoom};
 ghost use Rattle.frames.specs.Frames.{fitsKind, checkedFrame, commandBytes, numberOf};
-ghost use Rattle.frames.specs.Reading.{LineRead, lineLength, behindOf};
+ghost use Rattle.frames.specs.Reading.{LineRead};
 
 // What a line asks. The field bytes of an add stand beside it, in the frame.
 pub enum Command {
@@ -114,27 +114,6 @@ pub fn read_line(line: &[u8]) -> Line
             }
         }
     }
-}
-
-// The position of the first LF from a position on, or the text's end.
-pub fn line_end(text: &[u8], from: usize) -> usize
-    ensures { λ r. ⌜ r ≡ from + lineLength (drop from (now (text .entry))) ⌝ }
-{
-    let mut i = from;
-    while i < text.len() {
-        if text[i] == b'\n' {
-            return i;
-        }
-        i += 1;
-    }
-    i
-}
-
-// The position of the next line: behind an LF, or the text's end.
-pub fn behind(text: &[u8], end: usize) -> usize
-    ensures { λ r. ⌜ r ≡ behindOf end (length (now (text .entry))) ⌝ }
-{
-    if end < text.len() { end + 1 } else { end }
 }
 
 // The number of the link that a command names; 0 where it names none.

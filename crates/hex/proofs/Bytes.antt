@@ -1,11 +1,11 @@
 -- Lengths and bounds of digits, lines and frames. Assumes nothing.
-use mathlib.Core.Path.{_≡_, refl, sym, ap, ap₂, _∙_}
-use mathlib.Core.List.{List, [], _∷_, _++_}
-use Prim.Native.Nat.{ℕ, zero, suc, _+_, _*_, _/_, _%_, _<_}
+use mathlib.Core.Path.{_≡_, refl, sym, ap₂, _∙_}
+use mathlib.Core.List.{List, [], _∷_}
+use Prim.Native.Nat.{ℕ, zero, suc, _+_, _*_, _/_, _<_}
 use native.Mathlib.Nat.{not-suc-le-zero}
 use native.Mathlib.Omega.{arith}
 use lib.ListN.{length, getD, length-append}
-use Rattle.hex.specs.Hex.{digitOf, charOf, bytesOf, hexOf, lineOf}
+use Rattle.hex.specs.Hex.{digitOf, bytesOf, hexOf, lineOf}
 
 pub length-hex : (a : List ℕ) → length (hexOf a) ≡ 2 * length a
 unfolding hexOf
@@ -21,11 +21,6 @@ unfolding bytesOf
 length-bytes [] = refl
 length-bytes (a ∷ []) = refl
 length-bytes (a ∷ b ∷ s) = omega (arith, length-bytes s)
-
-pub hex-append : (a b : List ℕ) → hexOf (a ++ b) ≡ hexOf a ++ hexOf b
-unfolding hexOf
-hex-append [] b = refl
-hex-append (x ∷ a) b = ap (λ (t : List ℕ). charOf (x / 16) ∷ charOf (x % 16) ∷ t) (hex-append a b)
 
 pub byte-at : (s : List ℕ) (k : ℕ) → 2 * k + 1 < length s → getD (bytesOf s) k 0 ≡ digitOf (getD s (2 * k) 0) * 16 + digitOf (getD s (2 * k + 1) 0)
 unfolding bytesOf

@@ -12,8 +12,9 @@ use Rattle.panel.specs.Solution.{strengthOf, isBlocked, pathFor, reversed, leas
 use Rattle.panel.specs.Steps.{reverseStep, enterStep, removeStep, touchStep, planStep}
 use Rattle.panel.specs.Commands.{anyOf, fieldsIn, isRising, areFieldBytes, checked}
 use Rattle.hex.specs.Hex.{isDigit, digitOf, charOf, areDigits, isHex, bytesOf, hexOf, lineOf}
+use Rattle.lines.specs.Lines.{linesOf}
 use Rattle.tally.specs.Tallies.{more, tallied, threeBytes, tallyBytes}
-use Rattle.frames.specs.Texts.{linesOf, refusalOf, replies, tallyAfter, written, output, outputOf}
+use Rattle.frames.specs.Texts.{refusalOf, replies, tallyAfter, written, output, outputOf}
 use Rattle.frames.specs.Frames.{fitsKind, isFrame, checkedFrame, frameOf, commandOf, lineAnswer, panelOutput}
 use Rattle.items.specs.Characters.{characters}
 use Rattle.items.specs.Items.{items}

@@ -84,5 +84,5 @@ pub fn put_reply(out: &mut [u8], at: usize, command: Command, reply: Reply, rows
 {
     let count = rest_of(command, reply);
     let b = reply_bytes(reply);
-    hex::put_line(out, at, b[0], b[1], &rows[..count])
+    writing::put_line(out, at, b[0], b[1], &rows[..count])
 }

@@ -7,10 +7,11 @@ use lib.ListN.{length, take, drop}
 use lib.Seq.{sets, sets-eq, length-sets, take-at}
 use Rattle.hex.specs.Hex.{lineOf}
 use Rattle.hex.proofs.Bytes.{length-line}
+use Rattle.lines.specs.Lines.{linesOf}
+use Rattle.lines.proofs.Lines.{lines-end}
 use Rattle.tally.specs.declared.Tally.{Tally}
 use Rattle.tally.specs.Tallies.{noTally, threeBytes, tallyBytes}
-use Rattle.frames.specs.Texts.{LineAnswer, linesOf, replies, tallyAfter, written, output}
-use Rattle.frames.proofs.Lines.{lines-end}
+use Rattle.frames.specs.Texts.{LineAnswer, replies, tallyAfter, written, output}
 use Rattle.answering.specs.Runs.{Reached, Ran, Resumed}
 use Rattle.text.specs.Outcomes.{tallyLength}
 

@@ -11,8 +11,9 @@ use Rattle.hex.specs.Hex.{lineOf}
 use Rattle.fieldset.proofs.Tables.{sets-append}
 use Rattle.tally.specs.declared.Tally.{Tally}
 use Rattle.tally.specs.Tallies.{threeBytes, tallyBytes}
-use Rattle.frames.specs.Texts.{LineAnswer, linesOf, replies, tallyAfter, written, output, textLimit}
-use Rattle.frames.proofs.Lines.{lines-on, lines-end}
+use Rattle.lines.specs.Lines.{linesOf}
+use Rattle.lines.proofs.Lines.{lines-on, lines-end}
+use Rattle.frames.specs.Texts.{LineAnswer, replies, tallyAfter, written, output, textLimit}
 use Rattle.replies.specs.Replies.{longest}
 use Rattle.answering.specs.Runs.{Reached, Ran, Paced}
 use Rattle.text.specs.declared.Outcome.the-variants.{Length, TextTooLong}

@@ -8,7 +8,8 @@ use lib.Seq.{sets}
 use Rattle.panel.specs.declared.Refusal.the-variants.{TextTooLong as TooLong}
 use Rattle.panel.specs.Answers.{refusalBytes}
 use Rattle.tally.specs.declared.Tally.{Tally}
-use Rattle.frames.specs.Texts.{LineAnswer, linesOf, replies, tallyAfter, output, isTooLong}
+use Rattle.lines.specs.Lines.{linesOf}
+use Rattle.frames.specs.Texts.{LineAnswer, replies, tallyAfter, output, isTooLong}
 use Rattle.text.specs.declared.Outcome.{Outcome}
 use Rattle.text.specs.declared.Outcome.the-variants.{Length, TextTooLong}
 

@@ -34,7 +34,7 @@ pub fn put_tally(out: &mut [u8], at: usize, t: Tally) -> usize
     let first = bytes[0];
     let second = bytes[1];
     let all = &bytes[..tally::TALLY_BYTES];
-    hex::put_line(out, at, first, second, &all[2..])
+    writing::put_line(out, at, first, second, &all[2..])
 }
 
 // A text's outcome, and the tally after it.

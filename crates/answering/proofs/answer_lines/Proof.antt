@@ -19,7 +19,7 @@ use Rattle.tally.specs.Tallies.{tallied}
 use Rattle.frames.specs.declared.Command.{Command}
 use Rattle.frames.specs.declared.Command.the-variants.{Remove}
 use Rattle.frames.specs.Frames.{numberOf, commandAnswer, lineAnswer}
-use Rattle.frames.proofs.Lines.{end-within, behind-on}
+use Rattle.lines.proofs.Lines.{end-within, behind-on}
 use Rattle.panel.specs.Answers.{rowsLength}
 use Rattle.replies.specs.Replies.{restOf, wholeReply}
 use Rattle.replies.proofs.Replies.{rows-tell-none}

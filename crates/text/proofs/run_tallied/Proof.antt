@@ -5,7 +5,7 @@ use Prim.Native.Nat.{_*_}
 use Rattle.panel.specs.Panels.{opened}
 use Rattle.frames.specs.Texts.{textLimit}
 use Rattle.frames.specs.Frames.{lineAnswer}
-use Rattle.frames.proofs.Lines.{lines-few}
+use Rattle.lines.proofs.Lines.{lines-few}
 use Rattle.replies.specs.Replies.{longest}
 use Rattle.text.proofs.Whole.{too-long, whole-text}
 use Rattle.text.proofs.run_tallied.Statement.{statement}

@@ -1,8 +1,8 @@
--- `hex::put` meets its contract. Assumes nothing.
+-- `writing::put` meets its contract. Assumes nothing.
 use borrow.Author.Needs.{needs}
-use Rattle.hex.proofs.Lines.{byte-put}
-use Rattle.hex.proofs.put.Statement.{statement}
-use Rattle.hex.proofs.put.Tie as tie
+use Rattle.writing.proofs.Lines.{byte-put}
+use Rattle.writing.proofs.put.Statement.{statement}
+use Rattle.writing.proofs.put.Tie as tie
 
 returns : tie.Need-returns
 returns c =

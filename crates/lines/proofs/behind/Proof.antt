@@ -1,9 +1,9 @@
--- `frames::behind` meets its contract. Assumes nothing.
+-- `lines::behind` meets its contract. Assumes nothing.
 use borrow.Author.Tests.{lt-ltb, le-ltb}
-use Rattle.frames.specs.Reading.{behindOf}
+use Rattle.lines.specs.Lines.{behindOf}
 use borrow.Author.Needs.{needs}
-use Rattle.frames.proofs.behind.Statement.{statement}
-use Rattle.frames.proofs.behind.Tie as tie
+use Rattle.lines.proofs.behind.Statement.{statement}
+use Rattle.lines.proofs.behind.Tie as tie
 
 returns : tie.Need-returns
 unfolding behindOf

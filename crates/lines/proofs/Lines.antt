@@ -11,8 +11,7 @@ use lib.ListN.{length, getD, take, drop, drop-of-length-le, length-drop}
 use lib.Seq.{drop-cons, drop-drop}
 use borrow.Author.Tests.{ltb-true, ltb-false, eq-eqb, ne-eqb}
 use Rattle.hex.specs.Hex.{lf}
-use Rattle.frames.specs.Texts.{linesOf, before}
-use Rattle.frames.specs.Reading.{lineLength, behindOf}
+use Rattle.lines.specs.Lines.{before, linesOf, lineLength, behindOf}
 
 -- ---- where a line ends
 

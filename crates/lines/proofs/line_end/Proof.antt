@@ -1,14 +1,14 @@
--- `frames::line_end` meets its contract. The loop's invariant: from the position on the line ends where it does from the start on.
+-- `lines::line_end` meets its contract. The loop's invariant: from the position on the line ends where it does from the start on.
 -- The measure is what is left of the text. Assumes nothing.
 use borrow.Author.Needs.{needs}
 use mathlib.Core.Path.{_≡_, refl, _∙_}
 use Prim.Native.Nat.{_+_, _-_}
 use native.Mathlib.Omega.{arith}
 use lib.ListN.{length, drop}
-use Rattle.frames.specs.Reading.{lineLength}
-use Rattle.frames.proofs.Lines.{length-on, length-stop, length-end}
-use Rattle.frames.proofs.line_end.Statement.{statement}
-use Rattle.frames.proofs.line_end.Tie as tie
+use Rattle.lines.specs.Lines.{lineLength}
+use Rattle.lines.proofs.Lines.{length-on, length-stop, length-end}
+use Rattle.lines.proofs.line_end.Statement.{statement}
+use Rattle.lines.proofs.line_end.Tie as tie
 
 abbrev Inv-loop : tie.InvT-loop
 Inv-loop text from i₀ i = i + lineLength (drop i text) ≡ from + lineLength (drop from text)

@@ -1,15 +1,15 @@
--- `hex::put_all` meets its contract: the digits of the first `i` bytes are written. Assumes nothing.
+-- `writing::put_all` meets its contract: the digits of the first `i` bytes are written. Assumes nothing.
 use mathlib.Core.Path.{_≡_, refl, ap, _∙_}
 use Prim.Native.Nat.{_+_, _-_, _*_}
 use native.Mathlib.Omega.{arith}
 use borrow.Author.Needs.{needs}
 use lib.ListN.{length, length-set}
 use lib.Seq.{length-sets}
-use Rattle.hex.proofs.Lines.{Written, written-none, written-more, written-all, byte-put}
-use Rattle.hex.proofs.put_all.Statement.{statement}
-use Rattle.hex.proofs.put_all.Tie as tie
-use Rattle.hex.proofs.high_char.Reads as high-char-reads
-use Rattle.hex.proofs.low_char.Reads as low-char-reads
+use Rattle.writing.proofs.Lines.{Written, written-none, written-more, written-all, byte-put}
+use Rattle.writing.proofs.put_all.Statement.{statement}
+use Rattle.writing.proofs.put_all.Tie as tie
+use Rattle.writing.proofs.high_char.Reads as high-char-reads
+use Rattle.writing.proofs.low_char.Reads as low-char-reads
 
 abbrev Inv-loop : tie.InvT-loop
 Inv-loop out₀ at bytes i₀ out i = Written bytes out₀ out at i

@@ -1,11 +1,11 @@
--- `hex::put_line` meets its contract. Assumes nothing.
+-- `writing::put_line` meets its contract. Assumes nothing.
 use borrow.Author.Needs.{needs}
-use Rattle.hex.proofs.Lines.{line-put}
-use Rattle.hex.proofs.put_line.Statement.{statement}
-use Rattle.hex.proofs.put_line.Tie as tie
-use Rattle.hex.proofs.put.Reads as put-reads
-use Rattle.hex.proofs.put_bytes.Reads as put-bytes-reads
-use Rattle.hex.proofs.store.Reads as store-reads
+use Rattle.writing.proofs.Lines.{line-put}
+use Rattle.writing.proofs.put_line.Statement.{statement}
+use Rattle.writing.proofs.put_line.Tie as tie
+use Rattle.writing.proofs.put.Reads as put-reads
+use Rattle.writing.proofs.put_bytes.Reads as put-bytes-reads
+use Rattle.writing.proofs.store.Reads as store-reads
 
 returns : tie.Need-returns
 returns c =

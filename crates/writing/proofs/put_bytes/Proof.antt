@@ -1,15 +1,15 @@
--- `hex::put_bytes` meets its contract: all digits at once where they fit, else the digits of the first `i` bytes. Assumes nothing.
+-- `writing::put_bytes` meets its contract: all digits at once where they fit, else the digits of the first `i` bytes. Assumes nothing.
 use mathlib.Core.Path.{_≡_, refl, ap, _∙_}
 use Prim.Native.Nat.{_-_}
 use native.Mathlib.Omega.{arith}
 use borrow.Author.Needs.{needs}
 use lib.ListN.{length}
 use lib.Seq.{length-sets}
-use Rattle.hex.proofs.Lines.{Written, written-none, written-more, written-all}
-use Rattle.hex.proofs.put_bytes.Statement.{statement}
-use Rattle.hex.proofs.put_bytes.Tie as tie
-use Rattle.hex.proofs.put.Reads as put-reads
-use Rattle.hex.proofs.put_all.Reads as put-all-reads
+use Rattle.writing.proofs.Lines.{Written, written-none, written-more, written-all}
+use Rattle.writing.proofs.put_bytes.Statement.{statement}
+use Rattle.writing.proofs.put_bytes.Tie as tie
+use Rattle.writing.proofs.put.Reads as put-reads
+use Rattle.writing.proofs.put_all.Reads as put-all-reads
 
 abbrev Inv-loop : tie.InvT-loop
 Inv-loop out₀ at bytes n i₀ out i = (n ≡ length bytes) × Written bytes out₀ out at i

@@ -1,9 +1,9 @@
--- `hex::char_of` meets its contract. Assumes nothing.
+-- `writing::char_of` meets its contract. Assumes nothing.
 use borrow.Author.Tests.{lt-ltb, le-ltb}
 use Rattle.hex.specs.Hex.{charOf}
 use borrow.Author.Needs.{needs}
-use Rattle.hex.proofs.char_of.Statement.{statement}
-use Rattle.hex.proofs.char_of.Tie as tie
+use Rattle.writing.proofs.char_of.Statement.{statement}
+use Rattle.writing.proofs.char_of.Tie as tie
 
 returns : tie.Need-returns
 unfolding charOf

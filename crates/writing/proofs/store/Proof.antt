@@ -1,9 +1,9 @@
--- `hex::store` meets its contract. Assumes nothing.
+-- `writing::store` meets its contract. Assumes nothing.
 use mathlib.Core.Path.{sym}
 use lib.Seq.{set-out}
 use borrow.Author.Needs.{needs}
-use Rattle.hex.proofs.store.Statement.{statement}
-use Rattle.hex.proofs.store.Tie as tie
+use Rattle.writing.proofs.store.Statement.{statement}
+use Rattle.writing.proofs.store.Tie as tie
 
 returns-2 : tie.Need-returns-2
 returns-2 c = sym (set-out _ _ _ (c .if1 .left))
