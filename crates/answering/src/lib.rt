@@ -13,7 +13,6 @@ use tables::stay_levels;
 use taking::reverse;
 use tally::Tally;
 use tally::tallied_line;
-ghost use mathlib.Core.Path.{_≡_};
 ghost use Prim.Native.Nat.{_^_, _≤_, _<_};
 ghost use lib.ListN.{length, drop};
 ghost use Rattle.panel.specs.Legal.{Legal};

@@ -6,10 +6,9 @@ use Prim.Native.Nat.{ℕ, _+_}
 use native.Mathlib.Omega.{arith}
 use lib.ListN.{length, getD, take, length-take}
 use lib.Seq.{sets, length-take-le}
-use Rattle.panel.specs.Answers.{replyBytes}
 use Rattle.panel.proofs.Answers.{reply-two}
 use Rattle.hex.specs.Hex.{lineOf}
-use Rattle.replies.specs.Replies.{restOf, wholeReply}
+use Rattle.replies.specs.Replies.{wholeReply}
 use Rattle.replies.proofs.Replies.{both}
 use Rattle.replies.proofs.put_reply.Statement.{statement}
 use Rattle.replies.proofs.put_reply.Tie as tie
