@@ -1,3 +1,3 @@
 pub mod Going
-pub mod Answers
+pub mod LineAnswers
 pub mod Resuming

@@ -30,7 +30,7 @@ refusal-at Loop = refl
 refusal-at TextTooLong = refl
 
 -- a refusal has its number and no values
-pub refusal-one : (r : Refusal) → length (refusalBytes r) ≡ 1
+refusal-one : (r : Refusal) → length (refusalBytes r) ≡ 1
 refusal-one BadHex = refl
 refusal-one BadFrame = refl
 refusal-one AlreadyOpen = refl
@@ -44,6 +44,7 @@ refusal-one Conflict = refl
 refusal-one Loop = refl
 refusal-one TextTooLong = refl
 
+-- a reply has two bytes before a plan's rows
 pub reply-two : (r : Reply) → length (replyBytes r) ≡ 2
 reply-two (Accepted m) = refl
 reply-two (Refused r) = ap suc (refusal-one r)

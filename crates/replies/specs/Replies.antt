@@ -1,15 +1,15 @@
 -- The bytes of a reply to a command.
-use Prim.Native.Nat.{ℕ}
+use Prim.Native.Nat.{ℕ, _+_, _*_}
 use mathlib.Core.List.{List, _++_}
 use lib.ListN.{take}
 use Rattle.panel.specs.declared.Reply.{Reply}
-use Rattle.panel.specs.Answers.{replyBytes, planRest}
+use Rattle.panel.specs.Answers.{replyBytes, planRest, rowsLength}
 use Rattle.frames.specs.declared.Command.{Command}
 use Rattle.frames.specs.declared.Command.the-variants.{Open, Add, Remove, Touch, Plan, Refused}
 
 -- the characters of the longest reply's line: a plan of 64 fields has 2 + 3 * 64 bytes, and the line an LF
 abbrev pub longest : ℕ
-longest = 389
+longest = 2 * (2 + rowsLength) + 1
 
 -- how many bytes the reply to a command has behind its first two
 abbrev pub restOf : Command → Reply → ℕ

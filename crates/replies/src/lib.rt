@@ -1,20 +1,21 @@
 // Replies: their bytes, the refusal that they tell, and their lines.
 use fieldset::wide;
 use frames::Command;
+use panel::ROWS;
 use panel::Refusal;
 use panel::Reply;
 ghost use mathlib.Core.Path.{_≡_};
 ghost use mathlib.Core.List.{[], _∷_};
-ghost use Prim.Native.Nat.{_+_, _^_, _≤_, _<_};
+ghost use Prim.Native.Nat.{_+_, _*_, _^_, _≤_, _<_};
 ghost use lib.ListN.{length};
 ghost use lib.Seq.{sets};
-ghost use Rattle.panel.specs.Answers.{refusalBytes, replyBytes, planRest, rowsLength};
+ghost use Rattle.panel.specs.Answers.{refusalBytes, replyBytes, planRest};
 ghost use Rattle.hex.specs.Hex.{lineOf};
 ghost use Rattle.frames.specs.Texts.{refusalOf};
-ghost use Rattle.replies.specs.Replies.{longest, restOf, wholeReply};
+ghost use Rattle.replies.specs.Replies.{restOf, wholeReply};
 
 // The characters of the longest reply's line: a plan of 64 fields has 2 + 3 * 64 bytes, and the line an LF.
-pub const LONGEST: usize = 389;
+pub const LONGEST: usize = 2 * (2 + ROWS) + 1;
 
 // The number of a refusal.
 fn refusal_number(r: Refusal) -> u8
@@ -78,7 +79,7 @@ fn rest_of(command: Command, reply: Reply) -> usize
 
 // The line of the reply to a command at a position, as far as it fits; the position behind it.
 pub fn put_reply(out: &mut [u8], at: usize, command: Command, reply: Reply, rows: &[u8]) -> usize
-    requires { ⌜ (restOf command reply ≤ length (now rows)) × (restOf command reply ≤ rowsLength) × (at + longest < 2 ^ 64) ⌝ }
+    requires { ⌜ (restOf command reply ≤ length (now rows)) × (at + 5 + 2 * restOf command reply < 2 ^ 64) ⌝ }
     ensures { λ r. ⌜ now (out .exit) ≡ sets (now (out .entry)) at (lineOf (wholeReply command reply (now (rows .entry)))) ⌝ }
     ensures { λ r. ⌜ r ≡ at + length (lineOf (wholeReply command reply (now (rows .entry)))) ⌝ }
 {

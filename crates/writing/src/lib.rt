@@ -7,7 +7,7 @@ ghost use lib.Seq.{sets};
 ghost use Rattle.hex.specs.Hex.{charOf, hexOf, lineOf};
 
 // The digit of a value.
-pub fn char_of(x: u8) -> u8
+fn char_of(x: u8) -> u8
     requires { ⌜ x < 16 ⌝ }
     ensures { λ r. ⌜ r ≡ charOf x ⌝ }
 {
@@ -15,7 +15,7 @@ pub fn char_of(x: u8) -> u8
 }
 
 // x at a position, where there is one.
-pub fn store(out: &mut [u8], at: usize, x: u8)
+fn store(out: &mut [u8], at: usize, x: u8)
     ensures { λ _. ⌜ now (out .exit) ≡ set (now (out .entry)) at x ⌝ }
 {
     if at < out.len() {
@@ -37,7 +37,7 @@ fn low_char(b: u8) -> u8
 }
 
 // A byte as two digits at a position, as far as they fit.
-pub fn put(out: &mut [u8], at: usize, b: u8)
+fn put(out: &mut [u8], at: usize, b: u8)
     requires { ⌜ at + 1 < 2 ^ 64 ⌝ }
     ensures { λ _. ⌜ now (out .exit) ≡ sets (now (out .entry)) at (hexOf (b ∷ [])) ⌝ }
 {

@@ -25,7 +25,7 @@ use Rattle.replies.specs.Replies.{restOf, wholeReply}
 use Rattle.replies.proofs.Replies.{rows-tell-none}
 use Rattle.deciding.specs.Lines.{fieldBytesOf, LineStep}
 use Rattle.deciding.proofs.Arms.{performed-step, decided-step, framed}
-use Rattle.answering.proofs.Answers.{answer-legal, did}
+use Rattle.answering.proofs.LineAnswers.{answer-legal, did}
 use Rattle.answering.proofs.Going.{Did, Going, start, line-done, finish-end, finish-full}
 use Rattle.answering.proofs.answer_lines.Statement.{statement}
 use Rattle.answering.proofs.answer_lines.Tie as tie
@@ -204,7 +204,7 @@ put-reply-requires c κs =
     let l = loop-of (m .before) in
     let few = ap (λ (k : Command). restOf k (m .match .step .reply)) (same-command m) in
     let short = stepped m .rest in
-    (omega (arith, few, short, stepped m .rows-full), omega (arith, few, short), omega (arith, l .loop .inv .3 .fits, s-of (l .before .before) .pre .2))
+    (omega (arith, few, short, stepped m .rows-full), omega (arith, few, short, l .loop .inv .3 .fits, s-of (l .before .before) .pre .2))
 
 abbrev taken-of : tie.After-behind Inv-loop μ-loop → tie.Joined2 Inv-loop μ-loop
 taken-of c = c .before .before .before .before .before .before .before .before

@@ -3,7 +3,6 @@ use borrow.Author.Needs.{needs}
 use Rattle.answering.proofs.Resuming.{resumed}
 use Rattle.answering.proofs.lines_from.Statement.{statement}
 use Rattle.answering.proofs.lines_from.Tie as tie
-use Rattle.answering.proofs.answer_lines.Reads as answer-lines-reads
 
 returns : tie.Need-returns
 returns c =

@@ -3,7 +3,6 @@ use borrow.Author.Needs.{needs}
 use Rattle.panel_c.proofs.Told.{told-length, told-too-long}
 use Rattle.panel_c.proofs.panel_run_text.Statement.{statement}
 use Rattle.panel_c.proofs.panel_run_text.Tie as tie
-use Rattle.text.proofs.run_tallied.Reads as run-tallied-reads
 
 returns : tie.Need-returns
 returns c =

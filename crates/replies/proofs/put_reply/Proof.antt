@@ -37,7 +37,7 @@ put-line-requires : tie.Need-put-line-requires
 put-line-requires c κs =
     let r = c .before .before .before in
     let s = s-of (c .before .before) in
-    omega (arith, r .rest-of .ensures, length-take (r .rest-of .result) (s .args .rows .now), s .pre .1, s .pre .2)
+    omega (arith, r .rest-of .ensures, length-take (r .rest-of .result) (s .args .rows .now), s .pre .1)
 
 returns : tie.Need-returns
 returns c =

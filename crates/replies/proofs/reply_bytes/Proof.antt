@@ -6,7 +6,6 @@ use Prim.Native.Nat.{ℕ}
 use Rattle.panel.specs.Answers.{replyBytes}
 use Rattle.replies.proofs.reply_bytes.Statement.{statement}
 use Rattle.replies.proofs.reply_bytes.Tie as tie
-use Rattle.replies.proofs.refusal_number.Reads as refusal-number-reads
 
 returns : tie.Need-returns
 returns c = sym (ap replyBytes (c .before .reply .given .1))

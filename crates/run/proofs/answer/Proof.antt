@@ -11,11 +11,6 @@ use Rattle.frames.specs.Frames.{lineAnswer}
 use Rattle.run.proofs.Sending.{Sent, sent-none, piece-fits, sent-more, last-fits}
 use Rattle.run.proofs.answer.Statement.{statement}
 use Rattle.run.proofs.answer.Tie as tie
-use Rattle.io.proofs.large_buffer.Reads as large-buffer-reads
-use Rattle.io.proofs.write_all.Reads as write-all-reads
-use Rattle.opening.proofs.unopened.Reads as unopened-reads
-use Rattle.answering.proofs.lines_from.Reads as lines-from-reads
-use Rattle.text.proofs.put_tally.Reads as put-tally-reads
 
 abbrev Inv-loop : tie.InvT-loop
 Inv-loop text out₀ next₀ p₀ t₀ out next p t = Sent lineAnswer Legal (opened 0) text out next p t

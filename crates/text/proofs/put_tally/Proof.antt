@@ -9,8 +9,6 @@ use Rattle.hex.specs.Hex.{lineOf}
 use Rattle.text.proofs.Whole.{tally-parts}
 use Rattle.text.proofs.put_tally.Statement.{statement}
 use Rattle.text.proofs.put_tally.Tie as tie
-use Rattle.writing.proofs.put_line.Reads as put-line-reads
-use Rattle.tally.proofs.tally_bytes.Reads as tally-bytes-reads
 
 returns : tie.Need-returns
 returns c =

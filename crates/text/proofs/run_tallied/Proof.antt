@@ -10,9 +10,6 @@ use Rattle.replies.specs.Replies.{longest}
 use Rattle.text.proofs.Whole.{too-long, whole-text}
 use Rattle.text.proofs.run_tallied.Statement.{statement}
 use Rattle.text.proofs.run_tallied.Tie as tie
-use Rattle.opening.proofs.unopened.Reads as unopened-reads
-use Rattle.answering.proofs.answer_lines.Reads as answer-lines-reads
-use Rattle.text.proofs.put_tally.Reads as put-tally-reads
 
 returns : tie.Need-returns
 returns c = let s = c .before .before .before .args in too-long lineAnswer (s .text .now) (s .out .now) (opened 0) (s .t) (c .if1 .taken)

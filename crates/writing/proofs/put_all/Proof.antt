@@ -8,8 +8,6 @@ use lib.Seq.{length-sets}
 use Rattle.writing.proofs.Lines.{Written, written-none, written-more, written-all, byte-put}
 use Rattle.writing.proofs.put_all.Statement.{statement}
 use Rattle.writing.proofs.put_all.Tie as tie
-use Rattle.writing.proofs.high_char.Reads as high-char-reads
-use Rattle.writing.proofs.low_char.Reads as low-char-reads
 
 abbrev Inv-loop : tie.InvT-loop
 Inv-loop out₀ at bytes i₀ out i = Written bytes out₀ out at i

@@ -8,8 +8,6 @@ use lib.Seq.{length-sets}
 use Rattle.writing.proofs.Lines.{Written, written-none, written-more, written-all}
 use Rattle.writing.proofs.put_bytes.Statement.{statement}
 use Rattle.writing.proofs.put_bytes.Tie as tie
-use Rattle.writing.proofs.put.Reads as put-reads
-use Rattle.writing.proofs.put_all.Reads as put-all-reads
 
 abbrev Inv-loop : tie.InvT-loop
 Inv-loop out₀ at bytes n i₀ out i = (n ≡ length bytes) × Written bytes out₀ out at i

@@ -3,9 +3,6 @@ use borrow.Author.Needs.{needs}
 use Rattle.writing.proofs.Lines.{line-put}
 use Rattle.writing.proofs.put_line.Statement.{statement}
 use Rattle.writing.proofs.put_line.Tie as tie
-use Rattle.writing.proofs.put.Reads as put-reads
-use Rattle.writing.proofs.put_bytes.Reads as put-bytes-reads
-use Rattle.writing.proofs.store.Reads as store-reads
 
 returns : tie.Need-returns
 returns c =
