@@ -82,8 +82,8 @@ fn choose(b: Blocked) -> Chosen
 }
 
 // Decides on removing a link; `old` is the link that stands under its number.
-// The contract rules out, for instance, a field that its stay does not set or that the reply does not count, a stay that reads, and a blocked link
-// that does not set (must-fail: stay_does_not_step_in, freed_field_not_counted, stay_reads_a_field, blocked_link_does_not_set).
+// The contract rules out, for instance, a field that its stay does not set and a blocked link that does not set (must-fail: stay_does_not_step_in,
+// blocked_link_does_not_set).
 pub fn remove(
     p: Panel,
     old: Link,

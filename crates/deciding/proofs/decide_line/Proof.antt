@@ -47,7 +47,7 @@ add-requires : tie.Need-add-requires
 add-requires c κs =
     let k = c .before .before .before .before .before in
     let s = k .before .before in
-    (s .pre .0 .0, s .pre .0 .1, s .pre .0 .2 ∙ ap (λ (x : Command). linkAt (s .args .p .links) (numberOf x)) (k .command2 .given .1), s .pre .1 .1)
+    (s .pre .0 .0, s .pre .0 .1, named-at s (k .command2 .given .1), s .pre .1 .1)
 
 returns : tie.Need-returns
 returns c =
@@ -67,9 +67,7 @@ returns-2 c =
     (add-tail _ _ _ _ (take (l .len) (l .frame)) _ _ (c .add .ensures)))
 
 returns-3 : tie.Need-returns-3
-returns-3 c =
-    let s = c .before .before .before in
-    rw (c .before .enum-told .given .1) (c .keep .ensures)
+returns-3 c = rw (c .before .enum-told .given .1) (c .keep .ensures)
 
 returns-4 : tie.Need-returns-4
 returns-4 c =
