@@ -15,7 +15,7 @@ use lib.Seq.{drop-cons}
 use Rattle.fieldset.specs.Tables.{at}
 use Rattle.fieldset.specs.Fields.{member, with, without, union, below, size, within}
 use Rattle.fieldset.proofs.Numbers.{clash, any-here, any-cong}
-use Rattle.fieldset.proofs.Fields.{ext-member, member-empty, member-with, member-with-same, member-with-other, member-without-same, member-without-other, member-union, member-below, with-lt, without-lt, union-lt, size-empty, size-without, within-true}
+use Rattle.fieldset.proofs.Fields.{ext-member, member-empty, member-with, member-with-same, member-with-other, member-without-same, member-without-other, member-union, member-below, with-lt, without-lt, union-lt, size-empty, size-with, within-true}
 use Rattle.fieldset.proofs.Tests.{and-left, and-right, not-or}
 use Rattle.panel.specs.Commands.{fieldOf, isOutput, hasBit6, anyOf, fieldsIn, coveredIn, outputsIn, isRising, areFieldBytes}
 use Rattle.panel.proofs.Checks.{fields-lt}
@@ -85,22 +85,12 @@ rising-above a (b ∷ bs) j e h =
     member-with-other (coveredIn bs) (fieldOf b) j (omega (arith, field-lt b)) apart
     ∙ rising-above b bs j (rising-tail a (b ∷ bs) e) (omega arith)
 
-size-with : (m f : ℕ) → m < 2 ^ 64 → f < 64 → member m f ≡ false → size (with m f) ≡ suc (size m)
-size-with m f h l e =
-    let same : without (with m f) f ≡ m = ext-member 64 (without (with m f) f) m (without-lt (with m f) f) h (λ j k. go j k (ℕ-discrete j f)) in
-    let grows : size (without (with m f) f) + 1 ≡ size (with m f) = size-without (with m f) (with-lt m f) f (member-with-same m f l) in
-    omega (arith, ap size same)
-  where
-    go : (j : ℕ) → j < 64 → Dec (j ≡ f) → member (without (with m f) f) j ≡ member m j
-    go j k (yes d) = rw d (member-without-same (with m f) f ∙ sym e)
-    go j k (no d) = member-without-other (with m f) f j k d ∙ member-with-other m f j k d
-
 -- there are as many covered fields as bytes
 pub covered-size : (bytes : List ℕ) → isRising bytes ≡ true → size (coveredIn bytes) ≡ length bytes
 unfolding fieldsIn
 covered-size [] e = size-empty
 covered-size (b ∷ bs) e =
-    size-with (coveredIn bs) (fieldOf b) (covered-lt bs) (field-lt b) (rising-above b bs (fieldOf b) e (omega arith))
+    size-with (coveredIn bs) (fieldOf b) (field-lt b) (rising-above b bs (fieldOf b) e (omega arith))
     ∙ ap suc (covered-size bs (rising-tail b bs e))
 
 -- ---- fields of the panel

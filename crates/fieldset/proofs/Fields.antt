@@ -12,7 +12,7 @@ use lib.Dec.{eqb, ltb}
 use lib.Pow.{pow-pos, pow-mono, mod-pow-add}
 use Rattle.fieldset.specs.Numbers.{lowest}
 use Rattle.fieldset.specs.Fields.{member, setOf, with, without, union, only, below, lowestOf, filter, size, within, Within}
-use Rattle.fieldset.proofs.Numbers.{clash, ltb-suc, but, but-same, but-other, sum, sum-cong, sum-but, count-cong, count-none, count-but, count-mono, Lowest, lowest-is, lowest-before, lowest-bound, lowest-lt, lowest-true, any-here, any-none}
+use Rattle.fieldset.proofs.Numbers.{clash, ltb-suc, but, but-same, but-other, sum, sum-cong, sum-but, count-cong, count-none, count-but, count-le, count-mono, Lowest, lowest-is, lowest-before, lowest-bound, lowest-lt, lowest-true, any-here, any-none}
 
 -- ---- sets by their members
 
@@ -220,6 +220,21 @@ size-empty = count-none (member 0) 64 (λ i l. member-empty i)
 pub size-mono : (a b : ℕ) → Within a b → size a ≤ size b
 unfolding size
 size-mono a b h = count-mono (member a) (member b) 64 h
+
+pub size-le : (m : ℕ) → size m ≤ 64
+unfolding size
+size-le m = count-le (member m) 64
+
+-- one field more
+pub size-with : (m i : ℕ) → i < 64 → member m i ≡ false → size (with m i) ≡ suc (size m)
+unfolding size
+size-with m i l e =
+    count-but (member (with m i)) 64 i l (member-with-same m i l)
+    ∙ ap suc (count-cong (but (member (with m i)) i) (member m) 64 (λ j h. go j h (ℕ-discrete j i)))
+  where
+    go : (j : ℕ) → j < 64 → Dec (j ≡ i) → but (member (with m i)) i j ≡ member m j
+    go j h (yes d) = rw d (but-same (member (with m i)) i ∙ sym e)
+    go j h (no d) = but-other (member (with m i)) i j d ∙ member-with-other m i j h d
 
 -- ---- a set of fields below 64
 

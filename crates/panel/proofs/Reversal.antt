@@ -11,9 +11,8 @@ use Rattle.fieldset.specs.Lists.{All, Distinct}
 use Rattle.fieldset.specs.Fields.{member}
 use Rattle.fieldset.proofs.Numbers.{any-found}
 use Rattle.strength.specs.Strength.{strongest}
-use Rattle.strength.specs.Filling.{lastOf}
 use Rattle.strength.proofs.Maxima.{greatest-ge}
-use Rattle.strength.proofs.Paths.{Chain, last, next, strongest-found, Reversible, path-reversible}
+use Rattle.strength.proofs.Paths.{lastOf, Chain, last, next, strongest-found, Reversible, path-reversible}
 use Rattle.fieldset.proofs.Tests.{and-left, and-right}
 use Rattle.ordering.proofs.Plan.{rankOf}
 use Rattle.panel.specs.declared.Panel.{Panel}

@@ -13,7 +13,7 @@ use lib.Seq.{getD-set-same, getD-set-other, set-out}
 use Rattle.fieldset.specs.Tables.{at}
 use Rattle.fieldset.specs.Lists.{All, Distinct}
 use Rattle.fieldset.specs.Fields.{without}
-use Rattle.strength.specs.Filling.{lastOf}
+use Rattle.strength.proofs.Paths.{lastOf}
 use Rattle.panel.specs.declared.Standing.{Standing}
 use Rattle.panel.specs.declared.Standing.the-variants.{Waiting, Holding}
 use Rattle.panel.specs.declared.Link.{Link}

@@ -1,10 +1,11 @@
--- What `decide` answers, from what its callees answer.
-use mathlib.Core.Path.{_≡_, sym, ap, _∙_, subst}
+-- What `decide` answers, from what its callees answer: the lowest-numbered output of the strength s on the table is the one by document 01's strengths,
+-- so the path that is found from it is the one that is sought; `resolve` adds whether the item is blocked.
+use mathlib.Core.Path.{_≡_, refl, sym, ap, _∙_, subst}
 use mathlib.Core.Bool.{Bool, true}
-use mathlib.Core.List.{List}
-use Prim.Native.Nat.{ℕ, _^_, _<_}
+use mathlib.Core.List.{List, _++_}
+use Prim.Native.Nat.{ℕ, _+_, _^_, _≤_, _<_}
 use native.Mathlib.Omega.{arith}
-use borrow.Author.Tests.{lt-ltb, ltb-true}
+use borrow.Author.Tests.{lt-ltb, le-ltb, ltb-true}
 use lib.ListN.{length, take, drop, length-append, length-drop, List·getD-append}
 use lib.Seq.{take-at}
 use Rattle.fieldset.specs.Tables.{at}
@@ -20,10 +21,10 @@ use Rattle.ordering.specs.Walks.{Among}
 use Rattle.panel.specs.Outcomes.{PathOf}
 use Rattle.reversal.specs.declared.Verdict.{Verdict}
 use Rattle.reversal.specs.declared.Verdict.the-variants.{Free, Looped, Path}
-use Rattle.reversal.specs.Reversals.{reversedReads, Undecided, Found, Decided, Resolved}
+use Rattle.reversal.specs.Reversals.{reversedReads, withPath, resolvedPath, Undecided, Found, Decided, Resolved}
 use Rattle.reversal.proofs.ReadFields.{among-reversed}
 
-module _ (levels others table : List ℕ) (n known s outputs covered : ℕ) (reads path₀ : List ℕ) (small : outputs < 2 ^ 64)
+module _ {levels others table : List ℕ} {n known s outputs covered : ℕ} {reads path₀ : List ℕ} (small : outputs < 2 ^ 64)
     (u : Undecided levels others table n known s outputs covered reads path₀) where
   pub start-same : lowestAt (at table) s outputs ≡ lowestAt (strength (at levels) (at others) n) s outputs
   start-same =
@@ -36,7 +37,7 @@ module _ (levels others table : List ℕ) (n known s outputs covered : ℕ) (rea
       rw start-same (lowestAt-found (strength (at levels) (at others) n) s outputs (top .0)
       (record { field = top .1; is-in = top .2; strong = top .3 ∙ sym (u .is-greatest) }))
 
-  module _ (v : ℕ) (is : v ≡ lowestAt (at table) s outputs) where
+  module _ {v : ℕ} (is : v ≡ lowestAt (at table) s outputs) where
     tie : Tie (strength (at levels) (at others) n) s outputs v
     tie = rw is start-tie
 
@@ -46,14 +47,14 @@ module _ (levels others table : List ℕ) (n known s outputs covered : ℕ) (rea
     pub start-known : member known v ≡ true
     start-known = u .outputs-known v (tie .field) (tie .is-in)
 
-    module _ (path₁ : List ℕ) (end count : ℕ) (w : PathFound levels others n v path₀ path₁ end count) where
+    module _ {path₁ : List ℕ} {end : ℕ} (w : PathFound levels others n v path₀ path₁ end) where
       is-reversible : Reversible (at levels) (at others) n v (w .fields)
       is-reversible =
           rw (w .is-path) (path-reversible (at levels) (at others) (u .acyclic .rank) (u .acyclic .ranked .falls) n (u .acyclic .few)
           (u .acyclic .inside) v start-small (u .acyclic .ranked .small v start-small))
 
-      fields-taken : take count path₁ ≡ w .fields
-      fields-taken = rw (w .stored) (take-at (w .fields) (drop (length (w .fields)) path₀) count (sym (w .counted)))
+      fields-taken : take (end + 1) path₁ ≡ w .fields
+      fields-taken = rw (w .stored) (take-at (w .fields) (drop (length (w .fields)) path₀) (end + 1) (sym (w .ended)))
 
       -- the buffer keeps its length
       pub after-length : length path₁ ≡ 64
@@ -61,32 +62,52 @@ module _ (levels others table : List ℕ) (n known s outputs covered : ℕ) (rea
           ap length (w .stored)
           ∙ simp (length-append, length-drop) (omega (arith, is-reversible .short, u .acyclic .few, u .path-length))
 
-      pub path-of : PathOf path₁ count
+      -- the path is that of the strength s
+      is-path : w .fields ≡ path (at levels) (at others) (strength (at levels) (at others) n) s n (lowestAt (strength (at levels) (at others) n) s outputs)
+      is-path =
+          w .is-path
+          ∙ ap (λ (x : ℕ). path (at levels) (at others) (strength (at levels) (at others) n) x n v) (tie .strong)
+          ∙ ap (λ (x : ℕ). path (at levels) (at others) (strength (at levels) (at others) n) s n x) (is ∙ start-same)
+
+      pub path-stored : path₁ ≡ withPath levels others n s outputs path₀
+      unfolding withPath
+      path-stored = w .stored ∙ ap (λ (vs : List ℕ). vs ++ drop (length vs) path₀) is-path
+
+      pub path-of : PathOf path₁ (end + 1)
       path-of = record {
         full = after-length;
-        few = omega (arith, w .counted, is-reversible .short, u .acyclic .few);
+        few = omega (arith, w .ended, is-reversible .short, u .acyclic .few);
         fields = λ i l.
-            let k : i < length (w .fields) = omega (arith, w .counted) in
+            let k : i < length (w .fields) = omega (arith, w .ended) in
             let low : at (w .fields) i < n = all-at (λ f. f < n) 0 (w .fields) (is-reversible .inside) i k in
             let same : at path₁ i ≡ at (w .fields) i =
             ap (λ (x : List ℕ). at x i) (w .stored) ∙ List·getD-append (w .fields) (drop (length (w .fields)) path₀) 0 i k in
             omega (arith, u .acyclic .few);
       }
 
-      pub after-among : Among (reversedReads reads covered (take count path₁)) n
+      pub after-among : Among (reversedReads reads covered (take (end + 1) path₁)) n
       after-among =
           rw fields-taken (among-reversed n (w .fields) reads covered (u .reads-length) (u .among) (u .covered-inside) (is-reversible .inside))
 
-      pub decided : (reads₁ : List ℕ) (looped : Bool) → reads₁ ≡ reversedReads reads covered (take count path₁) → looped ≡ hasLoop (at reads₁) n
-          → Found levels others n s outputs covered reads path₁ count looped
-      decided reads₁ looped rs lp = record {
+      pub decided : {reads₁ : List ℕ} {looped : Bool} → reads₁ ≡ reversedReads reads covered (take (end + 1) path₁) → looped ≡ hasLoop (at reads₁) n
+          → Found levels others n s outputs covered reads path₁ (end + 1) looped
+      decided rs lp = record {
         fields = path-of;
-        is-path =
-            fields-taken ∙ w .is-path
-            ∙ ap (λ (x : ℕ). path (at levels) (at others) (strength (at levels) (at others) n) x n v) (tie .strong)
-            ∙ ap (λ (x : ℕ). path (at levels) (at others) (strength (at levels) (at others) n) s n x) (is ∙ start-same);
+        is-path = fields-taken ∙ is-path;
         is-looped = lp ∙ ap (λ (x : List ℕ). hasLoop (at x) n) rs;
       }
+
+-- the buffer of an item that is not blocked, and of one that is
+pub free-path : (levels others : List ℕ) (n level s outputs : ℕ) (buffer : List ℕ) → s ≡ greatest (member outputs) (strength (at levels) (at others) n) 64
+    → s ≤ level → buffer ≡ resolvedPath levels others n level outputs buffer
+unfolding resolvedPath
+free-path levels others n level s outputs buffer e l = rw (le-ltb level _ (rw e at l), resolvedPath) refl
+
+pub blocked-path : (levels others : List ℕ) (n level s outputs : ℕ) (before after : List ℕ) → s ≡ greatest (member outputs) (strength (at levels) (at others) n) 64
+    → level < s → after ≡ withPath levels others n s outputs before → after ≡ resolvedPath levels others n level outputs before
+unfolding resolvedPath
+blocked-path levels others n level s outputs before after e l h =
+    h ∙ rw (lt-ltb level _ (rw e at l), resolvedPath) (ap (λ (x : ℕ). withPath levels others n x outputs before) e)
 
 -- what is decided for a blocked item is what is to be done for it
 pub resolved : (levels others : List ℕ) (n level s outputs covered : ℕ) (reads after : List ℕ) (t : Verdict)

@@ -1,10 +1,10 @@
 -- What deciding on the reversal of a path asks and answers, over the tables of a panel's setters.
 use Prim.Native.Nat.{ℕ, _<_}
 use mathlib.Core.Path.{_≡_}
-use mathlib.Core.Bool.{Bool, true, false}
-use mathlib.Core.List.{List, [], _∷_}
+use mathlib.Core.Bool.{Bool, true, false, cond}
+use mathlib.Core.List.{List, [], _∷_, _++_}
 use lib.Dec.{eqb, ltb}
-use lib.ListN.{length, take, set}
+use lib.ListN.{length, take, drop, set}
 use Rattle.fieldset.specs.Tables.{at}
 use Rattle.fieldset.specs.Fields.{member, setOf, with, without, only, union, below, size}
 use Rattle.strength.specs.Strength.{greatest, strength, lowestAt, path}
@@ -31,6 +31,19 @@ reversedReads reads covered (v ∷ vs) = reversedReads (set reads v (without cov
 unfoldable pub fieldsOf : List ℕ → ℕ
 fieldsOf vs = setOf (λ f. anyOf (eqb f) vs) 64
 
+-- the buffer with the path from the lowest-numbered output of the strength s at its start, and its rest as it was
+unfoldable pub withPath : List ℕ → List ℕ → ℕ → ℕ → ℕ → List ℕ → List ℕ
+withPath levels others n s outputs buffer =
+    let str = strength (at levels) (at others) n in
+    let vs = path (at levels) (at others) str s n (lowestAt str s outputs) in
+    vs ++ drop (length vs) buffer
+
+-- the buffer after it is seen whether an item of this level and these outputs is blocked, and the path is found for one that is
+unfoldable pub resolvedPath : List ℕ → List ℕ → ℕ → ℕ → ℕ → List ℕ → List ℕ
+resolvedPath levels others n level outputs buffer =
+    let s = greatest (member outputs) (strength (at levels) (at others) n) 64 in
+    cond (ltb level s) (withPath levels others n s outputs buffer) buffer
+
 -- s is the greatest strength of some outputs, whose strengths the table has; the item that has these outputs covers fields of the panel
 pub record Undecided (levels others table : List ℕ) (n known s outputs covered : ℕ) (reads path : List ℕ) : Type 0 where
   pub acyclic : Acyclic others n
@@ -44,8 +57,7 @@ pub record Undecided (levels others table : List ℕ) (n known s outputs covered
   pub reads-length : length reads ≡ 64
   pub path-length : length path ≡ 64
 
--- the path from the lowest-numbered output of the strength s stands at the start of the buffer, and it is known whether its reversal has a loop.
--- What stands behind the path is free.
+-- the path from the lowest-numbered output of the strength s stands at the start of the buffer, and it is known whether its reversal has a loop
 pub record Found (levels others : List ℕ) (n s outputs covered : ℕ) (reads after : List ℕ) (count : ℕ) (looped : Bool) : Type 0 where
   pub fields : PathOf after count
   pub is-path :

@@ -17,7 +17,7 @@ ghost use mathlib.Core.Path.{_≡_};
 ghost use lib.ListN.{length, take};
 ghost use Rattle.fieldset.specs.Fields.{size};
 ghost use Rattle.panel.specs.Outcomes.{PathOf};
-ghost use Rattle.reversal.specs.Reversals.{reversedReads, fieldsOf, Undecided, Decided, Unresolved, Resolved, HeldField, heldField, stepOf};
+ghost use Rattle.reversal.specs.Reversals.{reversedReads, fieldsOf, withPath, resolvedPath, Undecided, Decided, Unresolved, Resolved, HeldField, heldField, stepOf};
 
 // What is to be done for an item: nothing where it is not blocked; else its path is reversed, which has so many fields, these, unless
 // there is a loop then.
@@ -73,10 +73,11 @@ pub fn decide(
 ) -> Verdict
     requires { ⌜ Undecided (now levels) (now others) (now table) n known s outputs covered (now reads) (now path) ⌝ }
     ensures { λ r. ⌜ Decided (now (levels .entry)) (now (others .entry)) n s outputs covered (now (reads .entry)) (now (path .exit)) r ⌝ }
+    ensures { λ r. ⌜ now (path .exit) ≡ withPath (now (levels .entry)) (now (others .entry)) n s outputs (now (path .entry)) ⌝ }
 {
     let v = lowest_at(table, s, outputs);
-    let w = path_from(levels, others, table, n, known, v, path);
-    let count = w.count;
+    let end = path_from(levels, others, table, n, known, v, path);
+    let count = end + 1;
     let mut after = *reads;
     reverse_reads(&mut after, covered, path, count);
     if ordering::has_loop(&after, n) {
@@ -99,6 +100,7 @@ pub fn resolve(
 ) -> Verdict
     requires { ⌜ Unresolved (now others) n outputs covered (now reads) (now path) ⌝ }
     ensures { λ r. ⌜ Resolved (now (levels .entry)) (now (others .entry)) n level outputs covered (now (reads .entry)) (now (path .exit)) r ⌝ }
+    ensures { λ r. ⌜ now (path .exit) ≡ resolvedPath (now (levels .entry)) (now (others .entry)) n level outputs (now (path .entry)) ⌝ }
 {
     let mut table = [0u8; 64];
     let top = greatest(levels, others, n, outputs, &mut table);

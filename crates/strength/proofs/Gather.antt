@@ -1,7 +1,7 @@
 -- What `fill` keeps from one round of its loop to the next, and what it leaves.
-use Prim.Native.Nat.{ℕ, _-_, _<_, max}
+use Prim.Native.Nat.{ℕ, _+_, _-_, _<_, max}
 use mathlib.Core.Path.{_≡_, refl, sym, ap, _∙_}
-use mathlib.Core.Bool.{Bool, true, false, not, _&&_, cond, false≢true}
+use mathlib.Core.Bool.{Bool, true, false, not, _&&_, _||_, cond, false≢true, or-true}
 use mathlib.Core.List.{List, _++_}
 use native.Mathlib.Decide.{ℕ-discrete, decLt}
 use native.Mathlib.Omega.{arith}
@@ -10,11 +10,11 @@ use lib.Dec.{eqb, ltb}
 use lib.ListN.{length, set, drop, length-set, length-append, length-drop}
 use lib.Seq.{getD-set-same, getD-set-other, ext-getD}
 use Rattle.fieldset.specs.Tables.{at, tabulate}
-use Rattle.fieldset.specs.Fields.{member, setOf, with, without, below, lowestOf, First, minus, Within}
+use Rattle.fieldset.specs.Fields.{member, setOf, with, without, below, lowestOf, First, minus, size, Within}
 use Rattle.fieldset.proofs.Tests.{and-left, and-right}
 use Rattle.fieldset.proofs.Numbers.{clash}
 use Rattle.fieldset.proofs.Tables.{length-tabulate, getD-tabulated}
-use Rattle.fieldset.proofs.Fields.{member-filter, member-setOf, member-setOf-lt, member-empty, member-below, member-with-same, member-with-other, with-of}
+use Rattle.fieldset.proofs.Fields.{member-filter, member-setOf, member-setOf-lt, member-empty, member-below, member-with-same, member-with-other, with-of, size-empty, size-with}
 use Rattle.fieldset.proofs.Emptying.{Emptying, empty-start, empty-step, empty-end, taken-in}
 use Rattle.strength.specs.Strength.{greatest, strength}
 use Rattle.strength.specs.Filling.{Acyclic, Strengths, Closed, Fillable, Filled, Topped}
@@ -30,35 +30,39 @@ outside a b u w l e = go (member a u) refl
     go false f = refl
 
 -- one field is filled in
-pub record FieldFilled (levels others : List ℕ) (known v r : ℕ) (before after : List ℕ) : Type 0 where
+pub record FieldFilled (levels others : List ℕ) (known v r count : ℕ) (before after : List ℕ) : Type 0 where
   pub strengths : Strengths levels others 64 r after
   pub more : Within known r
   pub has : member r v ≡ true
   pub inside : (m : ℕ) → Closed others m → Within known m → member m v ≡ true → Within r m
   pub kept : (u : ℕ) → u < 64 → member r u ≡ false → at after u ≡ at before u
+  pub counted : size known + count ≡ size r
 
--- of the fields of a set, those of `rest` are left; k is what is known by now, and top the greatest strength so far
-pub record Gather (levels others : List ℕ) (known set : ℕ) (before table : List ℕ) (rest k top : ℕ) : Type 0 where
+-- of the fields of a set, those of `rest` are left; k is what is known by now, top the greatest strength so far, and count how many strengths were
+-- worked out
+pub record Gather (levels others : List ℕ) (known set : ℕ) (before table : List ℕ) (rest k top count : ℕ) : Type 0 where
   pub strengths : Strengths levels others 64 k table
   pub more : Within known k
   pub inside : (m : ℕ) → Closed others m → Within known m → Within set m → Within k m
   pub kept : (u : ℕ) → u < 64 → member k u ≡ false → at table u ≡ at before u
+  pub counted : size known + count ≡ size k
   pub loop : Emptying set (λ d u. d ≡ true → member k u ≡ true) rest
   pub topping : Topping (strength (at levels) (at others) 64) set 0 top rest
 
 module _ {levels others : List ℕ} {known set : ℕ} {before : List ℕ} where
-  pub start : Strengths levels others 64 known before → Gather levels others known set before before set known 0
+  pub start : Strengths levels others 64 known before → Gather levels others known set before before set known 0 0
   start S = record {
     strengths = S;
     more = λ u l f. f;
     inside = λ m c w p. w;
     kept = λ u l f. refl;
+    counted = omega arith;
     loop = empty-start (λ u l e. absurd (false≢true e));
     topping = top-start;
   }
 
-  pub finish : {table : List ℕ} {rest k top : ℕ} → Gather levels others known set before table rest k top → rest ≡ 0
-      → Filled levels others known set top k before table
+  pub finish : {table : List ℕ} {rest k top count : ℕ} → Gather levels others known set before table rest k top count → rest ≡ 0
+      → Filled levels others known set top k count before table
   finish G z = record {
     is-greatest = omega (arith, top-end (G .topping) z);
     strengths = G .strengths;
@@ -66,34 +70,37 @@ module _ {levels others : List ℕ} {known set : ℕ} {before : List ℕ} where
     has = empty-end (G .loop) z;
     inside = G .inside;
     kept = G .kept;
+    counted = G .counted;
   }
 
   -- the lowest field that is left is filled in
-  pub step : {table table′ : List ℕ} {rest rest′ k top u r top′ : ℕ} → Gather levels others known set before table rest k top
-      → First rest u → FieldFilled levels others k u r table table′ → top′ ≡ max top (at table′ u) → rest′ ≡ without rest (lowestOf rest)
-      → Gather levels others known set before table′ rest′ r top′
-  step {k = k} {top = top} {u = u} {r = r} G U F e q = record {
+  pub step : {table table′ : List ℕ} {rest rest′ k top count u r top′ more count′ : ℕ} → Gather levels others known set before table rest k top count
+      → First rest u → FieldFilled levels others k u r more table table′ → count′ ≡ count + more → top′ ≡ max top (at table′ u)
+      → rest′ ≡ without rest (lowestOf rest) → Gather levels others known set before table′ rest′ r top′ count′
+  step {k = k} {top = top} {u = u} {r = r} G U F c e q = record {
     strengths = F .strengths;
     more = λ j h f. F .more j h (G .more j h f);
     inside = λ m c w p. F .inside m c (G .inside m c w p) (p u (U .field) (taken-in (G .loop) U));
     kept = λ j h f. F .kept j h f ∙ G .kept j h (outside k r j (F .more) h f);
+    counted = omega (arith, G .counted, F .counted);
     loop = empty-step (G .loop) U q (λ d j l n h i. F .more j l (h i)) (λ i. F .has);
     topping = top-step (G .topping) U (e ∙ ap (max top) (F .strengths .right u (U .field) (F .has))) q;
   }
 
 -- v is known already
 pub one-known : {levels others : List ℕ} {k v : ℕ} {table : List ℕ} → Strengths levels others 64 k table → member k v ≡ true
-    → FieldFilled levels others k v k table table
+    → FieldFilled levels others k v k 0 table table
 one-known S e = record {
   strengths = S;
   more = λ u l f. f;
   has = e;
   inside = λ m c w h. w;
   kept = λ u l f. refl;
+  counted = omega arith;
 }
 
 module _ {levels others : List ℕ} {known wanted depth : ℕ} {before : List ℕ} (R : Fillable levels others known before wanted depth)
-    {table : List ℕ} {rest k top : ℕ} (G : Gather levels others known wanted before table rest k top) {v : ℕ} (U : First rest v) where
+    {table : List ℕ} {rest k top count : ℕ} (G : Gather levels others known wanted before table rest k top count) {v : ℕ} (U : First rest v) where
   -- the rank of a field that is left is below the depth
   pub left-deep : R .rank v < depth
   left-deep = R .deep v (U .field) (taken-in (G .loop) U)
@@ -109,7 +116,7 @@ module _ {levels others : List ℕ} {known wanted depth : ℕ} {before : List �
   }
 
   -- they are known
-  pub fill-known : Within (at others v) k → Filled levels others k (at others v) (greatest (member (at others v)) (at table) 64) k table table
+  pub fill-known : Within (at others v) k → Filled levels others k (at others v) (greatest (member (at others v)) (at table) 64) k 0 table table
   fill-known w = record {
     is-greatest =
         greatest-cong (member (at others v)) (member (at others v)) (at table) (strength (at levels) (at others) 64) 64 (λ u l. refl)
@@ -119,12 +126,41 @@ module _ {levels others : List ℕ} {known wanted depth : ℕ} {before : List �
     has = w;
     inside = λ m c h p. h;
     kept = λ u l e. refl;
+    counted = omega arith;
   }
 
+  -- the fields that v does not depend on are left alone, v among them: those that are known, and those of lower rank, have all that they depend on
+  abbrev lower : ℕ → Bool
+  lower u = member k u || ltb (R .rank u) (R .rank v)
+
+  lower-closed : Closed others (setOf lower 64)
+  lower-closed w u hw hu i f = member-setOf-lt lower 64 u hu ∙ go (member k w) refl
+    where
+      go : (x : Bool) → member k w ≡ x → lower u ≡ true
+      go true e = ap (λ (b : Bool). b || ltb (R .rank u) (R .rank v)) (G .strengths .closed w u hw hu e f)
+      go false e =
+          let is-lower : lower w ≡ true = sym (member-setOf-lt lower 64 w hw) ∙ i in
+          let low : R .rank w < R .rank v = ltb-true (R .rank w) (R .rank v) (rw e at is-lower) in
+          ap (λ (b : Bool). member k u || b) (lt-ltb (R .rank u) (R .rank v) (omega (arith, R .falls w u hw hu f))) ∙ or-true (member k u)
+
+  -- so v is still not known after the other outputs of its setter are filled in
+  still-unknown : {t r more : ℕ} {table′ : List ℕ} → Filled levels others k (at others v) t r more table table′ → member k v ≡ false → member r v ≡ false
+  still-unknown {r = r} F e = go (member r v) refl
+    where
+      go : (x : Bool) → member r v ≡ x → x ≡ false
+      go false i = refl
+      go true i =
+          absurd (clash
+          (F .inside (setOf lower 64) lower-closed
+          (λ u l f. member-setOf-lt lower 64 u l ∙ ap (λ (b : Bool). b || ltb (R .rank u) (R .rank v)) f)
+          (λ u l f. member-setOf-lt lower 64 u l ∙ ap (λ (b : Bool). member k u || b) (lt-ltb (R .rank u) (R .rank v) (R .falls v u (U .field) l f)) ∙ or-true (member k u))
+          v (U .field) i)
+          (member-setOf-lt lower 64 v (U .field) ∙ ap (λ (b : Bool). b || ltb (R .rank v) (R .rank v)) e ∙ le-ltb (R .rank v) (R .rank v) (omega arith)))
+
   -- the strength of v is stored
-  pub one-filled : {t r s : ℕ} {table′ : List ℕ} → Filled levels others k (at others v) t r table table′ → s ≡ max (at levels v) t
-      → FieldFilled levels others k v (with r v) table (set table′ v s)
-  one-filled {t} {r} {s} {table′} F e = record {
+  pub one-filled : {t r more s : ℕ} {table′ : List ℕ} → member k v ≡ false → Filled levels others k (at others v) t r more table table′ → s ≡ max (at levels v) t
+      → FieldFilled levels others k v (with r v) (more + 1) table (set table′ v s)
+  one-filled {t} {r} {more} {s} {table′} new F e = record {
     strengths = record {
       full = length-set table′ v s ∙ F .strengths .full;
       right = λ u l i. right u l i (ℕ-discrete u v);
@@ -134,6 +170,7 @@ module _ {levels others : List ℕ} {known wanted depth : ℕ} {before : List �
     has = member-with-same r v (U .field);
     inside = λ m c w h u l i. in-set m c w h u l i (ℕ-discrete u v);
     kept = λ u l i. kept u l i (ℕ-discrete u v);
+    counted = omega (arith, F .counted, size-with r v (U .field) (still-unknown F new));
   }
     where
       right : (u : ℕ) → u < 64 → member (with r v) u ≡ true → Dec (u ≡ v) → at (set table′ v s) u ≡ strength (at levels) (at others) 64 u
@@ -194,13 +231,13 @@ module _ {levels others : List ℕ} {n : ℕ} (A : Acyclic others n) where
       strengths = S;
     }
 
-    module _ {top r : ℕ} {table : List ℕ} (F : Filled levels others known set top r before table) where
+    module _ {top r count : ℕ} {table : List ℕ} (F : Filled levels others known set top r count before table) where
       -- only fields below n are filled in
       filled-below : Within r (below n)
       filled-below = F .inside (below n) (below-closed A) K W
 
-      pub topped : Topped levels others n set top r table
-      topped = record {
+      pub topped : known ≡ 0 → Topped levels others n set top r count table
+      topped none = record {
         is-greatest =
             F .is-greatest
             ∙ greatest-cong (member set) (member set) (strength (at levels) (at others) 64) (strength (at levels) (at others) n) 64 (λ u l. refl)
@@ -211,6 +248,7 @@ module _ {levels others : List ℕ} {n : ℕ} (A : Acyclic others n) where
           closed = F .strengths .closed;
         };
         has = F .has;
+        counted = omega (arith, F .counted, ap size none, size-empty);
       }
 
 -- ---- `strengths`: the levels are entered, which are the strengths of the fields whose setters have no other output; the rest is filled in
@@ -248,9 +286,9 @@ module _ (levels before : List ℕ) {others : List ℕ} {n : ℕ} (A : Acyclic o
     closed = λ v u hv hu e f. absurd (clash (rw (known-alone v hv e) at f) (member-empty u));
   })
 
-  pub listed : {top r : ℕ} {table : List ℕ} → Filled levels others known rest top r entered table
+  pub listed : {top r count : ℕ} {table : List ℕ} → Filled levels others known rest top r count entered table
       → table ≡ tabulate (strength (at levels) (at others) n) n ++ drop n before
-  listed {top} {r} {table} F =
+  listed {top} {r} {count} {table} F =
       ext-getD 0 table (tabulate f n ++ drop n before)
       (F .strengths .full ∙ simp (length-append, length-tabulate, length-drop) (omega (arith, A .few)))
       (λ i l. each i (omega (arith, F .strengths .full)) (decLt i n) ∙ sym (getD-tabulated f n before i))

@@ -18,7 +18,6 @@ use Rattle.fieldset.proofs.Numbers.{lowest-cong, lowest-none, lowest-lt, lowest
 use Rattle.fieldset.proofs.Lists.{all-map, below-length}
 use Rattle.fieldset.proofs.Fields.{member-empty, member-filter, without-failing, lowestOf-before}
 use Rattle.strength.specs.Strength.{greatest, strength, lowestAt, strongest, path}
-use Rattle.strength.specs.Filling.{lastOf}
 use Rattle.strength.proofs.Maxima.{greatest-found, greatest-some}
 use Rattle.strength.proofs.Depth.{Falls, strength-fixed}
 
@@ -99,6 +98,11 @@ module _ (level others str : ℕ → ℕ) (s : ℕ) where
       → path level others str s (suc k) v ≡ v ∷ path level others str s k (lowestAt str s (others v))
   unfolding path
   path-go k v e = rw (ne-eqb (level v) s e)
+
+-- the last of a list, and d where it is empty
+abbrev pub lastOf : ℕ → List ℕ → ℕ
+lastOf d [] = d
+lastOf d (x ∷ xs) = lastOf x xs
 
 -- vs is a path at the strength s: each field has this strength, each further field is another output of the setter of the field before it,
 -- and the level of the last field's setter is s, that of the others below s

@@ -5,18 +5,14 @@ use mathlib.Core.Logic.{_≢_}
 use mathlib.Core.Bool.{true}
 use mathlib.Core.List.{List, [], _∷_, _++_}
 use native.Mathlib.Omega.{arith}
-use lib.ListN.{length, set, drop, length-append}
-use lib.Seq.{append-snoc}
+use lib.ListN.{length, set, drop, length-append, length-drop}
+use lib.Seq.{append-snoc, getD-set-same}
 use Rattle.fieldset.specs.Tables.{at}
 use Rattle.fieldset.specs.Fields.{member, without, lowestOf, First}
 use Rattle.fieldset.proofs.Tables.{store-next}
 use Rattle.strength.specs.Strength.{strength, lowestAt, path}
-use Rattle.strength.specs.Filling.{Acyclic, Strengths, lastOf, PathFound}
+use Rattle.strength.specs.Filling.{Acyclic, Strengths, PathFound}
 use Rattle.strength.proofs.Paths.{Tie, lowestAt-cong, lowestAt-empty, lowestAt-hit, lowestAt-pass, path-stop, path-go, path-onto}
-
-last-snoc : (d : ℕ) (xs : List ℕ) (x : ℕ) → lastOf d (xs ++ (x ∷ [])) ≡ x
-last-snoc d [] x = refl
-last-snoc d (y ∷ xs) x = last-snoc y xs x
 
 -- the path from v at the strength s, with fuel k
 abbrev pub pathFrom : List ℕ → List ℕ → ℕ → ℕ → ℕ → ℕ → List ℕ
@@ -122,8 +118,11 @@ module _ {levels others table : List ℕ} {n known v s : ℕ} {before buffer : L
               ∙ W .done;
         }
 
+  fits : count < length buffer
+  fits = omega (arith, simp (length-append, length-drop) at (ap length (W .stored)), W .counted, W .size, W .room, W .acyclic .few)
+
   -- the setter's level is the strength: the path ends
-  pub way-stop : s ≡ strength (at levels) (at others) n v → at levels here ≡ s → PathFound levels others n v before (set buffer count here) here (count + 1)
+  pub way-stop : s ≡ strength (at levels) (at others) n v → at levels here ≡ s → PathFound levels others n v before (set buffer count here) count
   way-stop es h = record {
     fields = W .passed ++ (here ∷ []);
     is-path =
@@ -132,7 +131,6 @@ module _ {levels others table : List ℕ} {n known v s : ℕ} {before buffer : L
         ∙ path-stop (at levels) (at others) (strength (at levels) (at others) n) s (n - (count + 1)) here h))
         ∙ W .done ∙ ap (λ (x : ℕ). pathFrom levels others n x n v) es;
     stored = stored-next ∙ ap (λ (k : ℕ). (W .passed ++ (here ∷ [])) ++ drop k before) (sym counted-next);
-    counted = sym counted-next;
-    ended = sym (last-snoc v (W .passed) here);
-    stops = h ∙ es;
+    ended = sym counted-next;
+    stops = ap (at levels) (getD-set-same buffer count here 0 fits) ∙ h ∙ es;
   }

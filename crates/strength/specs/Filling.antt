@@ -1,12 +1,12 @@
 -- What the functions of this crate ask of their tables and what they leave in them. `levels` and `others` have for each field the level and
 -- the other outputs of its setter; n is the number of fields.
-use Prim.Native.Nat.{ℕ, _≤_, _<_}
+use Prim.Native.Nat.{ℕ, _+_, _≤_, _<_}
 use mathlib.Core.Path.{_≡_}
 use mathlib.Core.Bool.{true, false}
-use mathlib.Core.List.{List, [], _∷_, _++_}
+use mathlib.Core.List.{List, _++_}
 use lib.ListN.{length, drop}
 use Rattle.fieldset.specs.Tables.{at}
-use Rattle.fieldset.specs.Fields.{member}
+use Rattle.fieldset.specs.Fields.{member, size}
 pub use Rattle.fieldset.specs.Fields.{Within}
 use Rattle.fieldset.specs.Ranks.{Ranked}
 use Rattle.strength.specs.Strength.{greatest, strength, path}
@@ -39,33 +39,29 @@ pub record Fillable (levels others : List ℕ) (known : ℕ) (table : List ℕ) 
   pub strengths : Strengths levels others 64 known table
 
 -- what it leaves: the table has the strengths of the fields of r too. These are known, or of the set, or what these depend on; what stands in
--- the table for the others is as it was.
-pub record Filled (levels others : List ℕ) (known set top r : ℕ) (before after : List ℕ) : Type 0 where
+-- the table for the others is as it was. As many strengths were worked out as r has more fields: each at most once, and none that was known.
+pub record Filled (levels others : List ℕ) (known set top r count : ℕ) (before after : List ℕ) : Type 0 where
   pub is-greatest : top ≡ greatest (member set) (strength (at levels) (at others) 64) 64
   pub strengths : Strengths levels others 64 r after
   pub more : Within known r
   pub has : Within set r
   pub inside : (m : ℕ) → Closed others m → Within known m → Within set m → Within r m
   pub kept : (u : ℕ) → u < 64 → member r u ≡ false → at after u ≡ at before u
+  pub counted : size known + count ≡ size r
 
--- the greatest strength of a set was worked out: the table then has the strengths of the set's fields. Which further fields it has, and what
--- stands in it for the others, is free.
-pub record Topped (levels others : List ℕ) (n set top known : ℕ) (table : List ℕ) : Type 0 where
+-- the greatest strength of a set was worked out: the table then has the strengths of the set's fields, and of all that it has each was worked out
+-- once. Which further fields it has, and what stands in it for the others, is free.
+pub record Topped (levels others : List ℕ) (n set top known count : ℕ) (table : List ℕ) : Type 0 where
   pub is-greatest : top ≡ greatest (member set) (strength (at levels) (at others) n) 64
   pub strengths : Strengths levels others n known table
   pub has : Within set known
+  pub counted : count ≡ size known
 
--- the last of a list, and d where it is empty
-abbrev pub lastOf : ℕ → List ℕ → ℕ
-lastOf d [] = d
-lastOf d (x ∷ xs) = lastOf x xs
-
--- the reversible path from v: its fields stand at the start of the buffer, whose rest is as it was; it ends at a setter whose level is the
--- strength of v
-pub record PathFound (levels others : List ℕ) (n v : ℕ) (before after : List ℕ) (end count : ℕ) : Type 0 where
+-- the reversible path from v: its fields stand at the start of the buffer, whose rest is as it was; the last of them, at the position `end`, has a
+-- setter whose level is the strength of v
+pub record PathFound (levels others : List ℕ) (n v : ℕ) (before after : List ℕ) (end : ℕ) : Type 0 where
   pub fields : List ℕ
   pub is-path : fields ≡ path (at levels) (at others) (strength (at levels) (at others) n) (strength (at levels) (at others) n v) n v
   pub stored : after ≡ fields ++ drop (length fields) before
-  pub counted : count ≡ length fields
-  pub ended : end ≡ lastOf v fields
-  pub stops : at levels end ≡ strength (at levels) (at others) n v
+  pub ended : end + 1 ≡ length fields
+  pub stops : at levels (at after end) ≡ strength (at levels) (at others) n v

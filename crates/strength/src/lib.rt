@@ -30,10 +30,12 @@ pub struct Top {
     // the fields whose strengths the table has
     pub known: u64,
     pub strength: u8,
+    // how many strengths were worked out
+    pub count: u8,
 }
 
-// Sees that the table has the strengths of the fields of a set, and those that they depend on, each worked out once. The depth starts at
-// the number of fields and falls at each call.
+// Sees that the table has the strengths of the fields of a set, and those that they depend on. Each is worked out once, and counted where it is
+// stored. The depth starts at the number of fields and falls at each call.
 fn fill(
     levels: &[u8; 64],
     others: &[u64; 64],
@@ -43,10 +45,11 @@ fn fill(
     depth: usize,
 ) -> Top
     requires { ⌜ Fillable (now levels) (now others) known (now table) set depth ⌝ }
-    ensures { λ r. ⌜ Filled (now (levels .entry)) (now (others .entry)) known set (r .strength) (r .known) (now (table .entry)) (now (table .exit)) ⌝ }
+    ensures { λ r. ⌜ Filled (now (levels .entry)) (now (others .entry)) known set (r .strength) (r .known) (r .count) (now (table .entry)) (now (table .exit)) ⌝ }
 {
     let mut k = known;
     let mut top = 0u8;
+    let mut count = 0u8;
     let mut rest = set;
     while rest != 0 {
         let u = first(rest);
@@ -58,9 +61,11 @@ fn fill(
             } else {
                 let t = fill(levels, others, k, table, more, depth - 1);
                 k = t.known;
+                count += t.count;
                 s = larger(s, t.strength);
             }
             table[u] = s;
+            count += 1;
             k = with(k, u);
         }
         top = larger(top, table[u]);
@@ -69,6 +74,7 @@ fn fill(
     Top {
         known: k,
         strength: top,
+        count: count,
     }
 }
 
@@ -81,7 +87,7 @@ pub fn greatest(
     table: &mut [u8; 64],
 ) -> Top
     requires { ⌜ Acyclic (now others) n × Within set (below n) × (length (now table) ≡ 64) ⌝ }
-    ensures { λ r. ⌜ Topped (now (levels .entry)) (now (others .entry)) n set (r .strength) (r .known) (now (table .exit)) ⌝ }
+    ensures { λ r. ⌜ Topped (now (levels .entry)) (now (others .entry)) n set (r .strength) (r .known) (r .count) (now (table .exit)) ⌝ }
 {
     fill(levels, others, 0, table, set, n)
 }
@@ -145,13 +151,8 @@ pub fn lowest_at(table: &[u8; 64], s: u8, set: u64) -> usize
     lowest(tied(table, s, set))
 }
 
-pub struct Path {
-    // the last field, and how many fields there are
-    pub end: usize,
-    pub count: usize,
-}
-
-// The reversible path from v, whose strength the table has: its fields go to the start of the buffer.
+// The reversible path from v, whose strength the table has: its fields go to the start of the buffer. Answers where it ends, the position of its
+// last field.
 pub fn path_from(
     levels: &[u8; 64],
     others: &[u64; 64],
@@ -160,27 +161,28 @@ pub fn path_from(
     known: u64,
     v: usize,
     path: &mut [u8; 64],
-) -> Path
+) -> usize
     requires { ⌜ Acyclic (now others) n × Strengths (now levels) (now others) n known (now table) × (v < n) × (member known v ≡ true) × (length (now path) ≡ 64) ⌝ }
-    ensures { λ r. ⌜ PathFound (now (levels .entry)) (now (others .entry)) n v (now (path .entry)) (now (path .exit)) (r .end) (r .count) ⌝ }
+    ensures { λ r. ⌜ PathFound (now (levels .entry)) (now (others .entry)) n v (now (path .entry)) (now (path .exit)) r ⌝ }
 {
     let s = table[v];
     let mut at = v;
-    let mut count: usize = 0;
-    let end = 'follow: loop {
-        path[count] = at as u8;
-        count += 1;
+    let mut i: usize = 0;
+    let end = 'walk: loop {
+        path[i] = at as u8;
         if levels[at] == s {
-            break 'follow at;
+            break 'walk i;
         }
+        i += 1;
         let mut rest = others[at];
-        at = 'scan: loop {
+        loop {
             let next = first(rest);
             if table[next] == s {
-                break 'scan next;
+                at = next;
+                continue 'walk;
             }
             rest = without_lowest(rest);
-        };
+        }
     };
-    Path { end, count }
+    end
 }

@@ -68,7 +68,7 @@ returns-2 c =
     let e = c .before .before in
     let r = e .before .before in
     let k = k-of r in
-    let l = subst (Resolved _ _ _ _ _ _ _ (path-of r)) (e .enum-told3 .given .1) (r .resolve .ensures) in
+    let l = subst (Resolved _ _ _ _ _ _ _ (path-of r)) (e .enum-told3 .given .1) (r .resolve .ensures .0) in
     decides-refused _ _ _ _ (cmd-of k) (path-of r) (l .1 .1 .fields .full) Loop _ (s-of k .pre .2) refl
     (add-loop _ _ _ _ _ (passed (r .before .before) .enterable) (s-of k .pre .1) (cmd-of k) (path-of r) (passed (r .before .before) .step) l)
     (c .unchanged2 .ensures)
@@ -79,7 +79,7 @@ returns-3 c =
     let z = e .before .before in
     let r = z .before .before in
     let k = k-of r in
-    let l = subst (Resolved _ _ _ _ _ _ _ (path-of r)) (e .enum-told4 .given .1) (r .resolve .ensures) in
+    let l = subst (Resolved _ _ _ _ _ _ _ (path-of r)) (e .enum-told4 .given .1) (r .resolve .ensures .0) in
     decides-refused _ _ _ _ (cmd-of k) (path-of r) (l .1) Conflict _ (s-of k .pre .2) refl
     (add-conflict _ _ _ _ _ (passed (r .before .before) .enterable) (s-of k .pre .1) (cmd-of k) (path-of r) (passed (r .before .before) .step) (z .if1 .taken) l)
     (c .unchanged3 .ensures)
@@ -100,7 +100,7 @@ returns-4 c =
     ∙ ap (stepOf t (s .args .p .size) (s .args .p .place) _ Waiting) (sym (p .number))))
     (add-step _ _ _ _ _ (p .enterable) (s-of k .pre .1) (cmd-of k) _ (p .step) (r .resolve .result) (no-loop (r .resolve .result) (m .match2 .keys2))
     (λ f. ⊎-elim (λ x. absurd (no-free (r .resolve .result) (x .1 .keys2) f)) (λ x. x .left) (j .if1 .came))
-    (r .resolve .ensures))
+    (r .resolve .ensures .0))
 
 pub add-spec : {M : Type 1} → statement M
 add-spec =

@@ -54,7 +54,7 @@ chosen c = choice (held (stay-in (scan c))) (c .before .choose .result) (c .befo
 judged : (c : tie.Joined1) → let k = c .before in let b = k .before .choose .result in
     Judged (held (stay-in (scan k))) _ _ refl (scan k .strengths .ensures) (b .number) (b .outputs) (b .covered) (chosen k) (c .if1 .path) (c .if1 .verdict)
 judged c =
-    ⊎-elim (λ w. inl (w .0 .taken, w .2 .result, w .2 .ensures, rw (w .10, w .11) (w .9 .ensures)))
+    ⊎-elim (λ w. inl (w .0 .taken, w .2 .result, w .2 .ensures, rw (w .10, w .11) (w .9 .ensures .0)))
     (λ w. inr (w .0 .left, w .2, ap length (w .1) ∙ begin (stay-in (scan (c .before))) .pre .3))
     (c .if1 .came)
 

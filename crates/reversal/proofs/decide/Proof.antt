@@ -1,58 +1,83 @@
--- `reversal::decide` meets its contract.
+-- `reversal::decide` meets its contract. `Deciding` has what each callee asks and what its answers come to: the path of the lowest-numbered output
+-- (`path-of`, `path-stored`), the read fields after its reversal (`after-among`), and the verdict by whether these have a loop (`decided`).
+use Prim.Native.Nat.{ℕ, _+_}
 use mathlib.Core.Path.{sym, _∙_}
+use mathlib.Core.List.{List}
+use native.Mathlib.Omega.{arith}
 use borrow.Author.Needs.{needs}
-use Rattle.reversal.proofs.Deciding.{start-small, start-known, path-of, after-among, decided}
+use Rattle.panel.specs.Outcomes.{PathOf}
+use Rattle.reversal.proofs.Deciding.{start-small, start-known, path-stored, path-of, after-among, decided}
 use Rattle.reversal.proofs.decide.Statement.{statement}
 use Rattle.reversal.proofs.decide.Tie as tie
 
--- the path, its start, and the function's
-abbrev s-of : tie.After-path-from → tie.Start
-s-of w = w .before .before .before
+-- ---- the places: the path is found; its reversal is tried
+
+abbrev start : tie.After-path-from → tie.Start
+start w = w .before .before .before
+
+abbrev from : tie.After-path-from → tie.After-lowest-at
+from w = w .before .before
+
+-- the buffer with the path
+abbrev buffer : tie.After-path-from → List ℕ
+buffer w = w .path-from .last .1 .1 .1 .1 .1 .1 .0
+
+found-path : (w : tie.After-path-from) → PathOf (buffer w) (w .path-from .result + 1)
+found-path w = path-of (start w .fits .outputs .fits) (start w .pre) (from w .lowest-at .ensures) (w .path-from .ensures)
+
+abbrev tried : tie.After-reverse-reads → tie.After-path-from
+tried r = r .before .before .before .before
+
+abbrev judged : tie.After-has-loop → tie.After-reverse-reads
+judged h = h .before .before
+
+-- ---- the needs
 
 path-from-requires : tie.Need-path-from-requires
 path-from-requires c κs =
     let s = c .before .before in
     let u = s .pre in
-    let v = c .before .lowest-at in (
-      u .acyclic,
-      u .strengths,
-      start-small _ _ _ _ _ _ _ _ _ _ (s .fits .outputs .fits) u (v .result) (v .ensures),
-      start-known _ _ _ _ _ _ _ _ _ _ (s .fits .outputs .fits) u (v .result) (v .ensures),
-      u .path-length,
-    )
+    let small = s .fits .outputs .fits in
+    let v = c .before .lowest-at .ensures in
+    (u .acyclic, u .strengths, start-small small u v, start-known small u v, u .path-length)
+
+add-count : tie.Need-add-count
+add-count c = omega (arith, found-path c .few)
 
 reverse-reads-requires : tie.Need-reverse-reads-requires
-reverse-reads-requires c κs =
-    let w = c .before .before .before in (
-      path-of _ _ _ _ _ _ _ _ _ _ (s-of w .fits .outputs .fits) (s-of w .pre) _ (w .before .before .lowest-at .ensures) _ _ _ (w .path-from .ensures),
-      s-of w .pre .reads-length,
-    )
+reverse-reads-requires c κs = let w = c .before .before .before in (found-path w, start w .pre .reads-length)
 
 has-loop-requires : tie.Need-has-loop-requires
 has-loop-requires c κs =
     let r = c .before in
-    let w = r .before .before .before .before in
-    rw (r .reverse-reads .ensures) (after-among _ _ _ _ _ _ _ _ _ _ (s-of w .fits .outputs .fits) (s-of w .pre) _ (w .before .before .lowest-at .ensures) _ _ _ (w .path-from .ensures))
+    let w = tried r in
+    rw (r .reverse-reads .ensures) (after-among (start w .fits .outputs .fits) (start w .pre) (from w .lowest-at .ensures) (w .path-from .ensures))
 
 returns : tie.Need-returns
 returns c =
     let h = c .before in
-    let r = h .before .before in
-    let w = r .before .before .before .before in
-    (w .path-from .result .count, decided _ _ _ _ _ _ _ _ _ _ (s-of w .fits .outputs .fits) (s-of w .pre) _ (w .before .before .lowest-at .ensures) _ _ _ (w .path-from .ensures) _ _ (r .reverse-reads .ensures) (sym (c .if1 .taken) ∙ h .has-loop .ensures))
+    let r = judged h in
+    let w = tried r in
+    let s = start w in
+    let v = from w .lowest-at .ensures in (
+      (w .path-from .result + 1, decided (s .fits .outputs .fits) (s .pre) v (w .path-from .ensures) (r .reverse-reads .ensures) (sym (c .if1 .taken) ∙ h .has-loop .ensures)),
+      path-stored (s .fits .outputs .fits) (s .pre) v (w .path-from .ensures),
+    )
 
 path-fields-requires : tie.Need-path-fields-requires
-path-fields-requires c κs =
-    let w = c .before .before .before .before .before .before .before .before in
-    path-of _ _ _ _ _ _ _ _ _ _ (s-of w .fits .outputs .fits) (s-of w .pre) _ (w .before .before .lowest-at .ensures) _ _ _ (w .path-from .ensures)
+path-fields-requires c κs = found-path (tried (judged (c .before .before)))
 
 returns-2 : tie.Need-returns-2
 returns-2 c =
     let e = c .before .before in
     let h = e .before in
-    let r = h .before .before in
-    let w = r .before .before .before .before in
-    (decided _ _ _ _ _ _ _ _ _ _ (s-of w .fits .outputs .fits) (s-of w .pre) _ (w .before .before .lowest-at .ensures) _ _ _ (w .path-from .ensures) _ _ (r .reverse-reads .ensures) (sym (e .if1 .left) ∙ h .has-loop .ensures), c .path-fields .ensures)
+    let r = judged h in
+    let w = tried r in
+    let s = start w in
+    let v = from w .lowest-at .ensures in (
+      (decided (s .fits .outputs .fits) (s .pre) v (w .path-from .ensures) (r .reverse-reads .ensures) (sym (e .if1 .left) ∙ h .has-loop .ensures), c .path-fields .ensures),
+      path-stored (s .fits .outputs .fits) (s .pre) v (w .path-from .ensures),
+    )
 
 pub decide-spec : {M : Type 1} → statement M
 decide-spec =
@@ -60,6 +85,7 @@ decide-spec =
     (tie.spec
     (λ c κs. search needs)
     path-from-requires
+    add-count
     reverse-reads-requires
     has-loop-requires
     returns

@@ -118,7 +118,7 @@ returns-2 c =
     λ k same.
     ⊎-elim
     (λ w.
-    let r = resolves _ _ _ _ _ _ _ _ _ _ _ (w .6 .ensures) (w .10) (sym (w .11) ∙ e .enum-told3 .given .1) (w .9 .ensures) in
+    let r = resolves _ _ _ _ _ _ _ _ _ _ _ (w .6 .ensures) (w .10) (sym (w .11) ∙ e .enum-told3 .given .1) (w .9 .ensures .0) in
     decides-refused (p-of f) k _ _ (touching (s-of f .args .f)) _ (r .1 .1 .fields .full) Loop _ same refl
     (touch-loop (p-of f) (s-of f .pre .0) _ (touchable f) _ (f .to-front .ensures) (w .0 .taken) (s-of f .pre .1) (w .5 .ensures) (m .path) k _ same r
     ∙ ap (λ (x : ℕ). performed (p-of f) (touching x)) (f .before .before .before .wide .ensures))
@@ -139,7 +139,7 @@ returns-3 c =
     (subst (λ (x : ℕ). Decides (p-of f) k (touching x) (m .path) (stepOf (m .verdict) (p-of f .size) (f .to-front .last .0) (s-of f .args .named) Waiting 128)) (f .before .before .before .wide .ensures)
     (⊎-elim
     (λ w. touch-step (p-of f) (s-of f .pre .0) _ (touchable f) _ (f .to-front .ensures) (w .0 .taken) (s-of f .pre .1) (w .5 .ensures) (m .path) k _ same
-    (m .verdict) (no-loop (m .verdict) (e .match2 .keys2)) (resolves _ _ _ _ _ _ _ _ _ _ _ (w .6 .ensures) (w .10) (sym (w .11)) (w .9 .ensures)))
+    (m .verdict) (no-loop (m .verdict) (e .match2 .keys2)) (resolves _ _ _ _ _ _ _ _ _ _ _ (w .6 .ensures) (w .10) (sym (w .11)) (w .9 .ensures .0)))
     (λ w. rw (w .2) (touch-idle (p-of f) (s-of f .pre .0) _ (touchable f) _ (f .to-front .ensures) (w .0 .left) (m .path) (ap length (w .1) ∙ s-of f .pre .2) k _ same)) (m .came)))
 
 pub touch-spec : {M : Type 1} → statement M
