@@ -1,7 +1,7 @@
 -- The run over lines, whatever answers them: what the loop keeps, and what its end says. Assumes nothing.
 use mathlib.Core.Path.{_≡_, refl, sym, ap, ap₂, _∙_}
 use mathlib.Core.List.{List, [], _∷_, _++_, append-assoc}
-use Prim.Native.Nat.{ℕ, suc, _+_, _-_, _*_, _≤_, _<_}
+use Prim.Native.Nat.{ℕ, suc, _+_, _-_, _*_, _≤_, _<_, max}
 use native.Mathlib.Nat.{sub-zero}
 use native.Mathlib.Omega.{arith}
 use borrow.Author.Tests.{le-leb, lt-leb}
@@ -55,15 +55,15 @@ module _ {S : Type 0} (answer : LineAnswer S) (Legal : S → Type 0) where
     pub tally : r .tally ≡ tallyAfter t (replies answer s done)
     pub stored : out ≡ sets before 0 (written (replies answer s done))
     pub count : r .written ≡ length (written (replies answer s done))
-    pub within : r .next ≤ length text
+    pub within : r .next ≤ max from (length text)
     pub moved : from + length done ≤ r .next
     pub fits : r .written ≤ room
     pub paced : r .written ≤ longest * length done
 
-  pub start : (text : List ℕ) (from room : ℕ) (s : S) (t : Tally) (before : List ℕ) → from ≤ length text → Legal s
+  pub start : (text : List ℕ) (from room : ℕ) (s : S) (t : Tally) (before : List ℕ) → Legal s
       → Going text from room s t before before (record { next = from; state = s; tally = t; written = 0 })
   unfolding stateAfter replies tallyAfter written
-  start text from room s t before w h = record {
+  start text from room s t before h = record {
     done = [];
     lines = refl;
     due =
@@ -75,7 +75,7 @@ module _ {S : Type 0} (answer : LineAnswer S) (Legal : S → Type 0) where
     tally = refl;
     stored = refl;
     count = refl;
-    within = w;
+    within = omega arith;
     moved = omega arith;
     fits = omega arith;
     paced = omega arith;
@@ -119,7 +119,7 @@ module _ {S : Type 0} (answer : LineAnswer S) (Legal : S → Type 0) where
               eo ∙ ap₂ (λ (l : List ℕ) (i : ℕ). sets l i (lineOf reply)) (g .stored) place
               ∙ sets-append before 0 (written was) (lineOf reply) ∙ ap (sets before 0) (sym bytes);
           count = en ∙ omega (arith, g .count, ap length bytes, length-append (written was) (lineOf reply));
-          within = rw ea (behind-within text (r .next) end h ee);
+          within = omega (arith, ea, behind-within text (r .next) end h ee);
           moved = omega (arith, g .moved, one, ea, behind-on text (r .next) end h ee);
           fits = omega (arith, en, did .short);
           paced = omega (arith, g .paced, one, en, did .short);
@@ -144,11 +144,10 @@ module _ {S : Type 0} (answer : LineAnswer S) (Legal : S → Type 0) where
             legal = g .legal;
             tally = g .tally ∙ ap (tallyAfter t) replied;
             rest = sym (ap (drop n) (g .lines) ∙ drop-at (g .done) rest n all);
-            within = g .within;
             buffer = g .stored ∙ ap (λ (rs : List (List ℕ)). sets before 0 (written rs)) replied;
             count = g .count ∙ ap (λ (rs : List (List ℕ)). length (written rs)) replied;
           },
-          record { fits = g .fits; paced = omega (arith, g .paced, all); progress = progress; stops = stops },
+          record { onward = omega (arith, g .moved); within = g .within; fits = g .fits; paced = omega (arith, g .paced, all); progress = progress; stops = stops },
         )
 
     pub finish-end : length text ≤ r .next → Finished

@@ -1,5 +1,5 @@
 -- What a run over the lines of a text gives, whatever answers the lines.
-use Prim.Native.Nat.{ℕ, suc, _+_, _-_, _*_, _≤_, _<_}
+use Prim.Native.Nat.{ℕ, suc, _+_, _-_, _*_, _≤_, _<_, max}
 use mathlib.Core.Path.{_≡_}
 use mathlib.Core.Bool.{cond}
 use mathlib.Core.List.{List, [], _∷_, _++_}
@@ -27,6 +27,8 @@ reached r = record { next = r .next; state = r .panel; tally = r .tally; written
 
 -- how far a run got that answered n lines
 pub record Paced {S : Type 0} (text : List ℕ) (from room n : ℕ) (r : Reached S) : Type 0 where
+  pub onward : from ≤ r .next
+  pub within : r .next ≤ max from (length text)
   pub fits : r .written ≤ room
   pub paced : r .written ≤ longest * n
   pub progress : from < length text → longest ≤ room → from < r .next
@@ -47,7 +49,6 @@ module _ {S : Type 0} (answer : LineAnswer S) where
     pub legal : Legal (r .state)
     pub tally : r .tally ≡ tallyAfter t (replies answer s (take n lines))
     pub rest : linesOf (drop (r .next) text) ≡ drop n lines
-    pub within : r .next ≤ length text
     -- as many of their replies' characters as fit stand at the start of the buffer, whose bytes behind are as they were
     pub buffer : after ≡ sets before 0 (written (replies answer s (take n lines)))
     pub count : r .written ≡ length (written (replies answer s (take n lines)))
@@ -63,6 +64,9 @@ module _ {S : Type 0} (answer : LineAnswer S) where
     -- the bytes written, and the output from where it stands now, are the output from where it stood
     pub resumes : take (r .written) after ++ output answer (r .state) (r .tally) (linesOf (drop (r .next) text)) ≡ output answer s t (linesOf (drop from text))
     pub behind : drop (r .written) after ≡ drop (r .written) before
+    -- it stands where it stood or further on, and past the end only where it stood there
+    pub onward : from ≤ r .next
+    pub within : r .next ≤ max from (length text)
     pub fits : r .written ≤ length before
     -- where a line is left and a longest reply fits, a line is answered
     pub progress : from < length text → longest ≤ length before → from < r .next

@@ -28,7 +28,8 @@ pub struct Progress {
     pub written: usize,
 }
 
-// Answers whole lines while the room has place for a longest reply; what does not fit the buffer is counted, not stored.
+// Answers whole lines from a position on while the room has place for a longest reply; what does not fit the buffer is counted, not stored. Past the
+// text's end there is no line.
 pub fn answer_lines(
     text: &[u8],
     from: usize,
@@ -37,7 +38,7 @@ pub fn answer_lines(
     out: &mut [u8],
     room: usize,
 ) -> Progress
-    requires { ⌜ (from ≤ length (now text)) × Legal p × (room < 2 ^ 63) ⌝ }
+    requires { ⌜ Legal p × (room < 2 ^ 63) ⌝ }
     ensures { λ r. ⌜ RanFrom lineAnswer Legal (now (text .entry)) from room p t (now (out .entry)) (now (out .exit)) (reached r) ⌝ }
     ensures { λ r. ⌜ Paced (now (text .entry)) from room (fitting lineAnswer room p (linesOf (drop from (now (text .entry))))) (reached r) ⌝ }
 {
@@ -88,7 +89,7 @@ pub fn answer_lines(
 
 // Goes on from a position of a text: answers whole lines while a longest reply, with its LF, still fits the buffer.
 pub fn lines_from(text: &[u8], from: usize, p: Panel, t: Tally, out: &mut [u8]) -> Progress
-    requires { ⌜ (from ≤ length (now text)) × Legal p ⌝ }
+    requires { ⌜ Legal p ⌝ }
     ensures { λ r. ⌜ RanFrom lineAnswer Legal (now (text .entry)) from (length (now (out .entry))) p t (now (out .entry)) (now (out .exit)) (reached r) ⌝ }
     ensures { λ r. ⌜ Resumed lineAnswer (now (text .entry)) from p t (now (out .entry)) (now (out .exit)) (reached r) ⌝ }
 {

@@ -18,9 +18,8 @@ use Rattle.panel.specs.Answers.{replyBytes, planRest, rowsLength}
 use Rattle.panel.specs.Commands as panel
 use Rattle.panel.specs.Commands.{adding, planning, performed}
 use Rattle.panel.specs.Outcomes.{unchanged, Takes, Decides, Plans}
-use Rattle.panel.specs.Legal.{Legal}
 use Rattle.panel.proofs.Outcomes.{takes-size}
-use Rattle.planning.proofs.Replies.{plan-keeps, plan-length, plan-rest}
+use Rattle.planning.proofs.Replies.{plan-keeps}
 use Rattle.frames.specs.declared.Command.{Command}
 use Rattle.frames.specs.declared.Command.the-variants.{Open, Add, Remove, Touch, Plan, Refused}
 use Rattle.frames.specs.declared.Line.{Line}
@@ -28,7 +27,7 @@ use Rattle.frames.proofs.Command.{the-type}
 use Rattle.frames.specs.Texts.{Answered}
 use Rattle.frames.specs.Frames.{answerTo, commandAnswer}
 use Rattle.frames.specs.Reading.{LineRead}
-use Rattle.frames.proofs.Reading.{add-reaches}
+use Rattle.frames.proofs.Reading.{read-full, read-short, add-reaches}
 use Rattle.replies.specs.Replies.{restOf}
 use Rattle.deciding.specs.Lines.{Framed, LineStep, DecidedLine}
 
@@ -52,19 +51,18 @@ module _ (p : Panel) (k : ℕ) (fields path rows : List ℕ) where
       rows-full = full;
     }
 
-    pub plan-step : Legal p → (r : Reply) (before : List ℕ) → length before ≡ rowsLength → Plans p r before rows
+    pub plan-step : (r : Reply) (before : List ℕ) → length before ≡ rowsLength → Plans p r before rows
         → LineStep p k Plan fields path rows (unchanged (p .size) (p .place) named r)
-    plan-step h r before size g =
+    plan-step r before size g =
         let whole : List ℕ = performed p planning .reply in
-        let many : length (drop 2 whole) ≡ planRest r = plan-length p h ∙ sym (plan-rest p r h (g .reply)) in
-        let fits : 0 + length (drop 2 whole) ≤ length before = omega (arith, plan-length p h, h .few) in
+        let fits : 0 + length (drop 2 whole) ≤ length before = omega (arith, g .length-rows, g .few) in
         record {
           takes = takes-size p k named r same path long (p .size) (performed p planning .panel) (sym (plan-keeps p));
           reply =
               ap₂ (λ (a : List ℕ) (b : List ℕ). a ++ b) (g .reply)
-              (ap (take (planRest r)) (g .rows ∙ sets-eq (drop 2 whole) before 0 fits) ∙ take-at (drop 2 whole) (drop (0 + length (drop 2 whole)) before) (planRest r) many)
+              (ap (take (planRest r)) (g .rows ∙ sets-eq (drop 2 whole) before 0 fits) ∙ take-at (drop 2 whole) (drop (0 + length (drop 2 whole)) before) (planRest r) (g .length-rows))
               ∙ take-append-drop 2 whole;
-          rest = omega (arith, plan-rest p r h (g .reply), h .few);
+          rest = g .few;
           rows-full = ap length (g .rows) ∙ simp length-sets size;
         }
 
@@ -74,7 +72,7 @@ pub add-tail : (p : Panel) (k id level : ℕ) (b path : List ℕ) (s : Step) →
 add-tail p k id level b path s d = rw (take-all (length b - 3) (drop 3 b) (omega (arith, length-drop 3 b))) at d
 
 pub framed : (s : List ℕ) (r : Line) → LineRead s r → Framed r
-framed s r h = record { short = h .short; full = h .full; reaches = λ id level e. add-reaches s r id level h e }
+framed s r h = record { short = read-short s r h; full = read-full s r h; reaches = λ id level e. add-reaches s r id level h e }
 
 -- the step of a line that is no removal, by its command's tag
 pub decided-step : (p : Panel) (k : ℕ) (named : Link) (fields path rows : List ℕ) (s : Step) (c : Command)

@@ -44,9 +44,9 @@ pub fn decide_line(
     match command {
         Command::Open(n) => opening::open(p, named, n),
         Command::Add(id, level) => {
-            let frame = line.frame;
+            let bytes = line.frame;
             let len = line.len;
-            let bytes = &frame[..len];
+            let frame = &bytes[..len];
             adding::add(
                 p,
                 named,
@@ -55,7 +55,7 @@ pub fn decide_line(
                 reads,
                 id,
                 level,
-                &bytes[3..],
+                &frame[3..],
                 path,
             )
         }

@@ -6,7 +6,7 @@ use Prim.Native.Nat.{ℕ, zero, suc, _+_, _/_, _%_, _≤_, _<_, min}
 use native.Mathlib.Numerals.{add-one}
 use native.Mathlib.Omega.{arith}
 use lib.Dec.{ltb, leb, eqb}
-use lib.ListN.{length, getD, take, drop, length-take, length-drop, drop-of-length-le}
+use lib.ListN.{length, getD, take, drop, replicate, length-take, length-drop, drop-of-length-le}
 use lib.Seq.{drop-cons, getD-take, length-take-le, take-all, take-at, sets, sets-eq, length-sets}
 use borrow.Author.Tests.{ltb-true, ltb-false, leb-true, leb-false, lt-leb, eqb-true, eq-eqb, ne-eqb}
 use Rattle.fieldset.specs.Tables.{at}
@@ -23,7 +23,7 @@ use Rattle.frames.specs.declared.Command.{Command}
 use Rattle.frames.specs.declared.Command.the-variants.{Add, Refused}
 use Rattle.frames.specs.declared.Line.{Line}
 use Rattle.frames.specs.Frames.{fitsKind, isFrame, checkedFrame, frameOf, commandBytes}
-use Rattle.frames.specs.Reading.{LineRead}
+use Rattle.frames.specs.Reading.{keptBytes, LineRead}
 
 -- ---- bit 6 of the field bytes, from a position of a frame on
 
@@ -156,17 +156,17 @@ module _ (f : List ℕ) (n : ℕ) (size : length f ≡ frameRoom) where
 bad-told : (s : List ℕ) → decodedValues NoHex ≡ decoded s → isHex s ≡ false
 unfolding decoded
 bad-told s e = go (isHex s) refl e where
-  go : (b : Bool) → isHex s ≡ b → decodedValues NoHex ≡ cond b (0x00 ∷ length (bytesOf s) ∷ []) (0xFF ∷ 1 ∷ []) → isHex s ≡ false
-  go true t told = let z : _≡_ {A = ℕ} 255 0 = ap (λ (l : List ℕ). at l 0) told in absurd (omega arith)
+  go : (b : Bool) → isHex s ≡ b → decodedValues NoHex ≡ cond b (length (bytesOf s) ∷ []) [] → isHex s ≡ false
+  go true t told = let z : _≡_ {A = ℕ} 0 1 = cc in absurd (omega arith)
   go false t told = t
 
 frame-told : (s : List ℕ) (n : ℕ) → decodedValues (Frame n) ≡ decoded s → (isHex s ≡ true) × (n ≡ length (bytesOf s))
 unfolding decoded
 frame-told s n e = go (isHex s) refl e where
-  go : (b : Bool) → isHex s ≡ b → decodedValues (Frame n) ≡ cond b (0x00 ∷ length (bytesOf s) ∷ []) (0xFF ∷ 1 ∷ [])
+  go : (b : Bool) → isHex s ≡ b → decodedValues (Frame n) ≡ cond b (length (bytesOf s) ∷ []) []
       → (isHex s ≡ true) × (n ≡ length (bytesOf s))
-  go true t told = (t, ap (λ (l : List ℕ). at l 1) told)
-  go false t told = let z : _≡_ {A = ℕ} 0 255 = ap (λ (l : List ℕ). at l 0) told in absurd (omega arith)
+  go true t told = (t, ap (λ (l : List ℕ). at l 0) told)
+  go false t told = let z : _≡_ {A = ℕ} 0 1 = cc in absurd (omega arith)
 
 -- a full buffer with bytes put at its start has as many of them as fit
 sets-front : (f b : List ℕ) → length f ≡ frameRoom → take (min (length b) frameRoom) (sets f 0 b) ≡ take frameRoom b
@@ -176,36 +176,43 @@ sets-front f b size =
     ap (take (min (length b) frameRoom)) (sym (sets-fit frameRoom f 0 b (omega arith)) ∙ sets-eq front f 0 (omega arith))
     ∙ take-at front (drop (0 + length front) f) (min (length b) frameRoom) long
 
-module _ (s f g : List ℕ) (d : Decoded) (size : length f ≡ frameRoom) (told : decodedValues d ≡ decoded s) (left : g ≡ frameAfter s f) where
+-- the buffer keeps its length
+after-full : (s f : List ℕ) → length f ≡ frameRoom → length (frameAfter s f) ≡ frameRoom
+unfolding frameAfter
+after-full s f size = go (isHex s) where
+  go : (b : Bool) → length (cond b (sets f 0 (bytesOf s)) f) ≡ frameRoom
+  go true = length-sets f 0 (bytesOf s) ∙ size
+  go false = size
+
+module _ (s g : List ℕ) (d : Decoded) (told : decodedValues d ≡ decoded s) (left : g ≡ frameAfter s (replicate frameRoom 0)) where
   pub full : length g ≡ frameRoom
-  unfolding frameAfter
-  full = ap length left ∙ go (isHex s) where
-    go : (b : Bool) → length (cond b (sets f 0 (bytesOf s)) f) ≡ frameRoom
-    go true = length-sets f 0 (bytesOf s) ∙ size
-    go false = size
+  full = ap length left ∙ after-full s (replicate frameRoom 0) refl
 
   pub read-bad : d ≡ NoHex → LineRead s (record { command = Refused BadHex; frame = g; len = 0 })
-  unfolding frameOf
-  read-bad e = record {
-    bytes = let h = bad-told s (ap decodedValues (sym e) ∙ told) in sym (simp h);
-    short = omega arith;
-    full = full;
-  }
+  unfolding frameOf keptBytes
+  read-bad e = let h = bad-told s (ap decodedValues (sym e) ∙ told) in record { bytes = sym (simp h); frame = left; len = sym (simp h) }
 
   pub read-good : (n : ℕ) → d ≡ Frame n → (len : ℕ) → len ≡ min n frameRoom → (c : Command) → commandBytes c (drop 3 (take len g)) ≡ checkedFrame (take len g)
       → LineRead s (record { command = c; frame = g; len = len })
-  unfolding frameOf frameAfter
+  unfolding frameOf frameAfter keptBytes
   read-good n e len is c read =
       let t = frame-told s n (ap decodedValues (sym e) ∙ told) in
-      let kept : g ≡ sets f 0 (bytesOf s) = left ∙ simp (t .0) in
-      let front : take len g ≡ take frameRoom (bytesOf s) =
-      ap₂ take (is ∙ ap (λ (k : ℕ). min k frameRoom) (t .1)) kept ∙ sets-front f (bytesOf s) size
-      in
-      record {
-        bytes = read ∙ ap checkedFrame front ∙ known (bytesOf s) ∙ sym (simp (t .0));
-        short = omega arith;
-        full = full;
-      }
+      let kept : g ≡ sets (replicate frameRoom 0) 0 (bytesOf s) = left ∙ simp (t .0) in
+      let short : len ≡ min (length (bytesOf s)) frameRoom = is ∙ ap (λ (k : ℕ). min k frameRoom) (t .1) in
+      let front : take len g ≡ take frameRoom (bytesOf s) = ap₂ take short kept ∙ sets-front (replicate frameRoom 0) (bytesOf s) refl in
+      record { bytes = read ∙ ap checkedFrame front ∙ known (bytesOf s) ∙ sym (simp (t .0)); frame = left; len = short ∙ sym (simp (t .0)) }
+
+-- the buffer of a line that is read is full, and no more bytes count than it has
+module _ (s : List ℕ) (r : Line) (l : LineRead s r) where
+  pub read-full : length (r .frame) ≡ frameRoom
+  read-full = ap length (l .frame) ∙ after-full s (replicate frameRoom 0) refl
+
+  pub read-short : r .len ≤ frameRoom
+  unfolding keptBytes
+  read-short = go (isHex s) (l .len) where
+    go : (b : Bool) → r .len ≡ cond b (min (length (bytesOf s)) frameRoom) 0 → r .len ≤ frameRoom
+    go true e = omega arith
+    go false e = omega arith
 
 -- bytes that are no refusal fit their kind
 abbrev Fits : List ℕ → Type 0

@@ -1,9 +1,7 @@
 -- The values of an answer tell its cases apart. Assumes nothing.
-use mathlib.Core.Path.{_≡_, refl, ap}
-use mathlib.Core.List.{List}
+use mathlib.Core.Path.{_≡_, refl}
 use Prim.Native.Nat.{ℕ}
 use native.Mathlib.Omega.{arith}
-use lib.ListN.{getD}
 use Rattle.hex.specs.declared.Digit.{Digit}
 use Rattle.hex.specs.declared.Digit.the-variants.{Value, Other}
 use Rattle.hex.specs.declared.Decoded.{Decoded}
@@ -18,6 +16,6 @@ digits-apart Other Other e = refl
 
 pub decoded-apart : (a b : Decoded) → decodedValues a ≡ decodedValues b → a ≡ b
 decoded-apart BadHex BadHex e = refl
-decoded-apart BadHex (Frame n) e = let z : _≡_ {A = ℕ} 255 0 = ap (λ (l : List ℕ). getD l 0 0) e in absurd (omega arith)
-decoded-apart (Frame m) BadHex e = let z : _≡_ {A = ℕ} 0 255 = ap (λ (l : List ℕ). getD l 0 0) e in absurd (omega arith)
+decoded-apart BadHex (Frame n) e = let z : _≡_ {A = ℕ} 0 1 = cc in absurd (omega arith)
+decoded-apart (Frame m) BadHex e = let z : _≡_ {A = ℕ} 0 1 = cc in absurd (omega arith)
 decoded-apart (Frame m) (Frame n) e = cc

@@ -1,4 +1,4 @@
--- What reading a character and decoding a line give, by document 01's numbers and values.
+-- What reading a character and decoding a line give, by their values.
 use Prim.Native.Nat.{ℕ}
 use mathlib.Core.Bool.{cond}
 use mathlib.Core.List.{List, [], _∷_}
@@ -18,13 +18,13 @@ digitValues Other = []
 unfoldable pub digitRead : ℕ → List ℕ
 digitRead c = cond (isDigit c) (digitOf c ∷ []) []
 
--- "for a refusal FF and its number": 1 BadHex; a frame has 00 and its length
+-- a frame has its length; a line that is refused has none (BadHex's number stands with the refusals)
 abbrev pub decodedValues : Decoded → List ℕ
-decodedValues BadHex = 0xFF ∷ 1 ∷ []
-decodedValues (Frame n) = 0x00 ∷ n ∷ []
+decodedValues BadHex = []
+decodedValues (Frame n) = n ∷ []
 
 unfoldable pub decoded : List ℕ → List ℕ
-decoded s = cond (isHex s) (0x00 ∷ length (bytesOf s) ∷ []) (0xFF ∷ 1 ∷ [])
+decoded s = cond (isHex s) (length (bytesOf s) ∷ []) []
 
 -- the buffer, with the frame's first bytes, as many as fit, at its start
 unfoldable pub frameAfter : List ℕ → List ℕ → List ℕ

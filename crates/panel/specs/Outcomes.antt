@@ -15,7 +15,7 @@ use Rattle.panel.specs.declared.Panel.{Panel}
 use Rattle.panel.specs.declared.Reply.{Reply}
 use Rattle.panel.specs.declared.Step.{Step}
 use Rattle.panel.specs.Items.{itemOf, linkAt}
-use Rattle.panel.specs.Answers.{replyBytes}
+use Rattle.panel.specs.Answers.{replyBytes, planRest, rowsLength}
 use Rattle.panel.specs.Panels.{freed}
 use Rattle.panel.specs.Solution.{reversed}
 use Rattle.panel.specs.Commands.{Command, performed, planning}
@@ -61,3 +61,6 @@ pub record Decides (p : Panel) (k : ℕ) (c : Command) (path : List ℕ) (s : St
 pub record Plans (p : Panel) (r : Reply) (before after : List ℕ) : Type 0 where
   pub reply : replyBytes r ≡ take 2 (performed p planning .reply)
   pub rows : after ≡ sets before 0 (drop 2 (performed p planning .reply))
+  -- three bytes for each field that the reply counts, which are no more than a buffer of rows holds
+  pub length-rows : length (drop 2 (performed p planning .reply)) ≡ planRest r
+  pub few : planRest r ≤ rowsLength

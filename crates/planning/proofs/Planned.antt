@@ -23,7 +23,7 @@ use Rattle.panel.specs.Outcomes.{Plans}
 use Rattle.tables.specs.Tables.{Tabled, StrengthsOf}
 use Rattle.tables.proofs.Tables.{panel-reads}
 use Rattle.planning.proofs.Rows.{rows, rows-of, Written}
-use Rattle.planning.proofs.Replies.{plan-long, plan-low}
+use Rattle.planning.proofs.Replies.{plan-long, plan-low, plan-length}
 
 -- the fields of the plan stand at the start of a buffer of 64
 pub record Listed (p : Panel) (listed : List ℕ) (count : ℕ) : Type 0 where
@@ -61,7 +61,7 @@ plan-listed p h levels others reads t listed before count full co li =
 
 pub plan-closed : (p : Panel) (before : List ℕ) → p .size ≡ 0 → Plans p (Refused NotOpen) before before
 unfolding checked
-plan-closed p before z = rw z (record { reply = refl; rows = refl })
+plan-closed p before z = rw z (record { reply = refl; rows = refl; length-rows = refl; few = omega arith })
 
 pub plan-done : (p : Panel) (table listed before after : List ℕ) (count i : ℕ) → Legal p → 0 < p .size → StrengthsOf p table → Listed p listed count
     → Written (p .setter) table listed before after count i → count ≤ i → Plans p (Accepted (p .size)) before after
@@ -74,4 +74,6 @@ plan-done p table listed before after count i h some s r w end =
     record {
       reply = ap (λ (a : Answer). take 2 (a .reply)) (sym answer);
       rows = w .stored ∙ ap (λ (x : List ℕ). sets before 0 x) (all ∙ ap (λ (a : Answer). drop 2 (a .reply)) (sym answer));
+      length-rows = plan-length p h;
+      few = omega (arith, h .few);
     }

@@ -6,15 +6,12 @@ use mathlib.Core.List.{List, [], _∷_}
 use native.Mathlib.Omega.{arith}
 use borrow.Author.Tests.{ltb-false}
 use lib.Dec.{ltb}
-use lib.ListN.{length, take, drop}
+use lib.ListN.{length, drop}
 use Rattle.fieldset.specs.Lists.{All}
 use Rattle.fieldset.specs.Tables.{at}
 use Rattle.ordering.proofs.Plan.{no-loop-length, order-low}
 use Rattle.panel.specs.declared.Panel.{Panel}
 use Rattle.panel.specs.declared.Refusal.the-variants.{NotOpen}
-use Rattle.panel.specs.declared.Reply.{Reply}
-use Rattle.panel.specs.declared.Reply.the-variants.{Accepted, Refused}
-use Rattle.panel.specs.Answers.{replyBytes, planRest}
 use Rattle.panel.specs.Solution.{setterReads, strengthOf, planOf, isLooped}
 use Rattle.panel.specs.Steps.{planStep}
 use Rattle.panel.specs.Commands.{check, checked, planChecks, performed, planning}
@@ -45,13 +42,3 @@ plan-length p h = go (ltb 0 (p .size)) refl where
       ∙ length-rows (at (p .setter)) (strengthOf p) (planOf p)
       ∙ ap (λ n. 3 * n) (plan-long p h)
   go false e = omega (arith, ltb-false 0 (p .size) e)
-
--- which are three for each field that its first two bytes count
-pub plan-rest : (p : Panel) (r : Reply) → Legal p → replyBytes r ≡ take 2 (performed p planning .reply) → planRest r ≡ 3 * p .size
-unfolding checked planStep
-plan-rest p r h e = go (ltb 0 (p .size)) refl r e where
-  go : (b : Bool) → ltb 0 (p .size) ≡ b → (r : Reply) → replyBytes r ≡ take 2 (checked p (check (not b) NotOpen ∷ []) (planStep p) .reply) → planRest r ≡ 3 * p .size
-  go true o (Accepted n) e = let same : n ≡ p .size = ap (λ (b : List ℕ). at b 1) e in omega arith
-  go true o (Refused x) e = let z : _≡_ {A = ℕ} 255 0 = ap (λ (b : List ℕ). at b 0) e in absurd (omega arith)
-  go false o (Accepted n) e = let z : _≡_ {A = ℕ} 0 255 = ap (λ (b : List ℕ). at b 0) e in absurd (omega arith)
-  go false o (Refused x) e = omega (arith, ltb-false 0 (p .size) o)

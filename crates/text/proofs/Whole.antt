@@ -1,10 +1,10 @@
 -- A run over all lines, and the whole output, whatever answers the lines. Assumes nothing.
 use mathlib.Core.Path.{_≡_, refl, sym, ap, ap₂, _∙_}
+use mathlib.Core.Bool.{true, false}
 use mathlib.Core.List.{List, [], _∷_, _++_}
 use native.Mathlib.Decide.{decLt}
 use Prim.Native.Nat.{ℕ, _+_, _-_, _*_, _≤_, _<_}
 use native.Mathlib.Omega.{arith}
-use borrow.Author.Tests.{lt-ltb, le-ltb}
 use lib.ListN.{length, getD, take, drop, length-append, length-drop}
 use lib.Seq.{sets, take-all}
 use Rattle.hex.specs.Hex.{lineOf}
@@ -13,7 +13,7 @@ use Rattle.tally.specs.declared.Tally.{Tally}
 use Rattle.tally.specs.Tallies.{threeBytes, tallyBytes}
 use Rattle.lines.specs.Lines.{linesOf}
 use Rattle.lines.proofs.Lines.{lines-on, lines-end}
-use Rattle.frames.specs.Texts.{LineAnswer, replies, tallyAfter, written, output, textLimit}
+use Rattle.frames.specs.Texts.{LineAnswer, replies, tallyAfter, written, output, isTooLong}
 use Rattle.replies.specs.Replies.{longest}
 use Rattle.answering.specs.Runs.{Reached, Ran, Paced}
 use Rattle.text.specs.declared.Outcome.the-variants.{Length, TextTooLong}
@@ -76,17 +76,15 @@ module _ {S : Type 0} (answer : LineAnswer S) (Legal : S → Type 0) where
         let e : k ≡ r .written + length last = size ∙ ap (λ (u : Tally). r .written + length (lineOf (tallyBytes u))) tally-done in
         omega (arith, e, place, ap length ends, length-append (written answers) last)
 
-    pub whole-text : length text ≤ textLimit → Told answer s t text (r .tally) before after (Length k)
+    pub whole-text : isTooLong text ≡ false → Told answer s t text (r .tally) before after (Length k)
     unfolding outcomeOf bufferAfter tallyAtEnd
-    whole-text h =
-        let short = le-ltb textLimit (length text) h in
-        record {
-          outcome = simp short (ap (λ (i : ℕ). 0x00 ∷ i ∷ []) total);
-          buffer = simp short stored;
-          tally = simp short tally-done;
-        }
+    whole-text short = record {
+      outcome = simp short (ap (λ (i : ℕ). 0x00 ∷ i ∷ []) total);
+      buffer = simp short stored;
+      tally = simp short tally-done;
+    }
 
 module _ {S : Type 0} (answer : LineAnswer S) where
-  pub too-long : (text before : List ℕ) (s : S) (t : Tally) → textLimit < length text → Told answer s t text t before before TextTooLong
+  pub too-long : (text before : List ℕ) (s : S) (t : Tally) → isTooLong text ≡ true → Told answer s t text t before before TextTooLong
   unfolding outcomeOf bufferAfter tallyAtEnd
-  too-long text before s t h = let long = lt-ltb textLimit (length text) h in record { outcome = simp long; buffer = simp long; tally = simp long }
+  too-long text before s t long = record { outcome = simp long; buffer = simp long; tally = simp long }

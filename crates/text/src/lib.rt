@@ -1,19 +1,27 @@
 // The operations on a whole text.
 use answering::answer_lines;
+use frames::Command;
+use panel::Refusal;
+use panel::Reply;
 use replies::LONGEST;
+use replies::put_reply;
 use tally::Tally;
 ghost use mathlib.Core.Path.{_≡_};
 ghost use Prim.Native.Nat.{_+_, _^_, _<_};
 ghost use lib.ListN.{length};
 ghost use lib.Seq.{sets};
+ghost use mathlib.Core.List.{_∷_};
+ghost use Rattle.panel.specs.declared.Refusal.the-variants.{TextTooLong as TooLong};
+ghost use Rattle.panel.specs.Answers.{refusalBytes};
 ghost use Rattle.panel.specs.Panels.{opened};
 ghost use Rattle.hex.specs.Hex.{lineOf};
 ghost use Rattle.tally.specs.Tallies.{tallyBytes};
+ghost use Rattle.frames.specs.Texts.{isTooLong};
 ghost use Rattle.frames.specs.Frames.{lineAnswer};
 ghost use Rattle.text.specs.Outcomes.{tallyLength, Told};
 
 // The greatest length of a text.
-pub const TEXT_LIMIT: usize = 65535;
+const TEXT_LIMIT: usize = 65535;
 
 // Room for a longest reply to each line of a text.
 const ROOM: usize = LONGEST * TEXT_LIMIT;
@@ -22,6 +30,28 @@ const ROOM: usize = LONGEST * TEXT_LIMIT;
 pub enum Outcome {
     Length(usize),
     TextTooLong,
+}
+
+// Whether a text is refused with TextTooLong.
+pub fn is_too_long(text: &[u8]) -> bool
+    ensures { λ r. ⌜ r ≡ isTooLong (now (text .entry)) ⌝ }
+{
+    TEXT_LIMIT < text.len()
+}
+
+// The line of a text that is too long, FF and the refusal's number, at the start of a buffer, as far as it fits; the position behind it.
+pub fn put_too_long(out: &mut [u8]) -> usize
+    ensures { λ r. ⌜ now (out .exit) ≡ sets (now (out .entry)) 0 (lineOf (0xFF ∷ refusalBytes TooLong)) ⌝ }
+    ensures { λ r. ⌜ r ≡ length (lineOf (0xFF ∷ refusalBytes TooLong)) ⌝ }
+{
+    let rows = [0u8; 1];
+    put_reply(
+        out,
+        0,
+        Command::Refused(Refusal::TextTooLong),
+        Reply::Refused(Refusal::TextTooLong),
+        &rows[..0],
+    )
 }
 
 // The tally's line at a position, as far as it fits; the position behind it.
@@ -47,7 +77,7 @@ pub struct Ending {
 pub fn run_tallied(text: &[u8], out: &mut [u8], t: Tally) -> Ending
     ensures { λ r. ⌜ Told lineAnswer (opened 0) t (now (text .entry)) (r .tally) (now (out .entry)) (now (out .exit)) (r .outcome) ⌝ }
 {
-    if TEXT_LIMIT < text.len() {
+    if is_too_long(text) {
         let outcome = Outcome::TextTooLong;
         return Ending {
             outcome: outcome,

@@ -1,4 +1,6 @@
--- `answering::answer_lines` meets its contract. What one line does is the law `line-does`; the loop knows of a line's answer no more.
+-- `answering::answer_lines` meets its contract. The loop keeps `Going`: the lines that are done, and what the code then holds; its measure is what is left
+-- of the text. What one line does is a law for any answer to a line (`line-done`), which asks that the step of the line gives its answer (`did`); that
+-- the panel has taken the step, and that the tables are its own again, are the laws of `taking`.
 use borrow.Author.Needs.{needs}
 use borrow.Author.Tests.{leb-true, leb-false}
 use mathlib.Core.Path.{_≡_, refl, sym, ap, _∙_, subst}
@@ -41,8 +43,8 @@ abbrev μ-loop : tie.MeasureT-loop
 
 -- ---- waypoints
 
-abbrev s-of : tie.After-reads Inv-loop μ-loop → tie.Start Inv-loop μ-loop
-s-of c = c .before .before .before .before .before
+abbrev begin : tie.After-reads Inv-loop μ-loop → tie.Start Inv-loop μ-loop
+begin c = c .before .before .before .before .before
 
 -- the link that the command names is known, from there the line that was read, the line's end, and the loop's test
 abbrev read-of : tie.After-old Inv-loop μ-loop → tie.After-read-line Inv-loop μ-loop
@@ -55,7 +57,7 @@ abbrev loop-of : tie.After-old Inv-loop μ-loop → tie.At-loop Inv-loop μ-loop
 loop-of c = end-of c .before .before .before
 
 abbrev text-of : tie.At-loop Inv-loop μ-loop → List ℕ
-text-of c = s-of (c .before .before) .args .text .now
+text-of c = begin (c .before .before) .args .text .now
 
 is-legal : (c : tie.After-old Inv-loop μ-loop) → Legal (loop-of c .loop .q)
 is-legal c = loop-of c .loop .inv .3 .legal
@@ -78,10 +80,10 @@ ends : (c : tie.After-line-end Inv-loop μ-loop) → c .line-end .result ≤ len
 ends c = let l = c .before .before .before in end-within (text-of l) (l .loop .at) (c .line-end .result) (c .before .before .loop-test .taken) (c .line-end .ensures)
 
 fill-tables-requires : tie.Need-fill-tables-requires Inv-loop μ-loop
-fill-tables-requires c κs = (c .before .before .before .before .before .pre .1, refl, refl, refl)
+fill-tables-requires c κs = (begin c .pre .0, refl, refl, refl)
 
 loop-holds : tie.Need-loop-holds Inv-loop μ-loop
-loop-holds c = (refl, refl, c .fill-tables .ensures, start _ _ _ _ _ _ _ _ (s-of (c .before) .pre .0) (s-of (c .before) .pre .1))
+loop-holds c = (refl, refl, c .fill-tables .ensures, start _ _ _ _ _ _ _ _ (begin (c .before) .pre .0))
 
 sub-if1 : tie.Need-sub-if1 Inv-loop μ-loop
 sub-if1 c = c .before .loop .inv .3 .fits
@@ -204,7 +206,7 @@ put-reply-requires c κs =
     let l = loop-of (m .before) in
     let few = ap (λ (k : Command). restOf k (m .match .step .reply)) (same-command m) in
     let short = stepped m .rest in
-    (omega (arith, few, short, stepped m .rows-full), omega (arith, few, short, l .loop .inv .3 .fits, s-of (l .before .before) .pre .2))
+    (omega (arith, few, short, stepped m .rows-full), omega (arith, few, short, l .loop .inv .3 .fits, begin (l .before .before) .pre .1))
 
 abbrev taken-of : tie.After-behind Inv-loop μ-loop → tie.Joined2 Inv-loop μ-loop
 taken-of c = c .before .before .before .before .before .before .before .before

@@ -1,4 +1,5 @@
--- `deciding::decide_line` meets its contract, an arm by one law.
+-- `deciding::decide_line` meets its contract, an arm by one law: what the arm's operation promises is the step of the command (`performed-step`,
+-- `plan-step`, `refused-step`); an add is given the frame's bytes from the fourth on (`add-tail`).
 use mathlib.Core.Path.{_≡_, refl, sym, ap, _∙_}
 use Prim.Native.Nat.{_≤_}
 use native.Mathlib.Omega.{arith}
@@ -21,20 +22,27 @@ use Rattle.deciding.proofs.decide_line.Tie as tie
 named-at : (s : tie.Start) {c : Command} → s .args .line .command ≡ c → s .args .named ≡ linkAt (s .args .p .links) (numberOf c)
 named-at s e = s .pre .0 .2 ∙ ap (λ (x : Command). linkAt (s .args .p .links) (numberOf x)) e
 
--- an add's frame reaches its field bytes
-tail-there : (c : tie.After-frame2) → let l = c .before .before .before .before .before .args .line in 3 ≤ length (take (l .len) (l .frame))
+-- an add, with its frame
+abbrev start : tie.After-command2 → tie.Start
+start k = k .before .before
+
+abbrev adds : tie.After-bytes2 → tie.After-command2
+adds c = c .before .before .before
+
+-- the frame reaches its field bytes
+tail-there : (c : tie.After-bytes2) → let l = start (adds c) .args .line in 3 ≤ length (take (l .len) (l .frame))
 tail-there c =
-    let k = c .before .before .before in
-    let s = k .before .before in
+    let k = adds c in
+    let s = start k in
     let l = s .args .line in
     omega (arith, s .pre .1 .0 .reaches _ _ (k .command2 .given .1), s .pre .1 .0 .short, s .pre .1 .0 .full, length-take (l .len) (l .frame))
 
 open-requires : tie.Need-open-requires
 open-requires c κs = c .before .before .before .pre .0 .0
 
-slice-aggregate-bytes : tie.Need-slice-aggregate-bytes
-slice-aggregate-bytes c =
-    let s = c .before .before .before .before .before in
+slice-aggregate-frame : tie.Need-slice-aggregate-frame
+slice-aggregate-frame c =
+    let s = start (adds c) in
     sym (length-take-le _ _ (omega (arith, s .pre .1 .0 .short, s .pre .1 .0 .full)))
 
 sub-add : tie.Need-sub-add
@@ -45,8 +53,8 @@ part-add-start c = tail-there c
 
 add-requires : tie.Need-add-requires
 add-requires c κs =
-    let k = c .before .before .before .before .before in
-    let s = k .before .before in
+    let k = adds (c .before .before) in
+    let s = start k in
     (s .pre .0 .0, s .pre .0 .1, named-at s (k .command2 .given .1), s .pre .1 .1)
 
 returns : tie.Need-returns
@@ -58,8 +66,8 @@ returns c =
 
 returns-2 : tie.Need-returns-2
 returns-2 c =
-    let k = c .before .before .before .before .before .before in
-    let s = k .before .before in
+    let k = adds (c .before .before .before) in
+    let s = start k in
     let l = s .args .line in
     let e = k .command2 .given .1 in
     rw e
@@ -82,7 +90,7 @@ returns-5 c =
     let t = n .before .before in
     let e = t .enum-told2 .given .1 in
     let s = t .before .before in
-    rw (e, c .keep2 .ensures) (plan-step _ 0 _ _ _ (s .pre .1 .1) _ (named-at s e) (s .pre .0 .0) _ _ (s .pre .1 .2) (n .plan .ensures))
+    rw (e, c .keep2 .ensures) (plan-step _ 0 _ _ _ (s .pre .1 .1) _ (named-at s e) _ _ (s .pre .1 .2) (n .plan .ensures))
 
 returns-6 : tie.Need-returns-6
 returns-6 c =
@@ -99,7 +107,7 @@ decide-line-spec =
     open-requires
     (λ c. search needs)
     (λ c. search needs)
-    slice-aggregate-bytes
+    slice-aggregate-frame
     sub-add
     part-add-start
     (λ c. search needs)

@@ -1,8 +1,6 @@
--- `frames::read_line` meets its contract. Assumes nothing.
+-- `frames::read_line` meets its contract: a line that is refused by `decode` leaves the buffer as it was (`read-bad`); of any other the kept bytes
+-- give the command (`read-good`). Assumes nothing.
 use borrow.Author.Needs.{needs}
-use mathlib.Core.Path.{refl}
-use lib.ListN.{replicate}
-use Rattle.hex.specs.Hex.{frameRoom}
 use Rattle.frames.proofs.Reading.{full, read-bad, read-good}
 use Rattle.frames.proofs.read_line.Statement.{statement}
 use Rattle.frames.proofs.read_line.Tie as tie
@@ -10,19 +8,19 @@ use Rattle.frames.proofs.read_line.Tie as tie
 read-frame-requires : tie.Need-read-frame-requires
 read-frame-requires c κs =
     let d = c .before .before .before .before .before .decode in
-    full _ (replicate frameRoom 0) _ (d .result) refl (d .ensures .0) (d .ensures .1)
+    full _ _ (d .result) (d .ensures .0) (d .ensures .1)
 
 returns : tie.Need-returns
 returns c =
     let d = c .before .before .decode in
-    read-bad _ (replicate frameRoom 0) _ (d .result) refl (d .ensures .0) (d .ensures .1) (c .enum-told .given .1)
+    read-bad _ _ (d .result) (d .ensures .0) (d .ensures .1) (c .enum-told .given .1)
 
 returns-2 : tie.Need-returns-2
 returns-2 c =
     let d = c .before .before .before .before .before .before .decode in
     let n = c .before .before .before .before .d .given in
     let r = c .read-frame in
-    read-good _ (replicate frameRoom 0) _ (d .result) refl (d .ensures .0) (d .ensures .1) (n .0 .0) (n .1) _ (c .before .before .kept .ensures) (r .result) (r .ensures)
+    read-good _ _ (d .result) (d .ensures .0) (d .ensures .1) (n .0 .0) (n .1) _ (c .before .before .kept .ensures) (r .result) (r .ensures)
 
 pub read-line-spec : {M : Type 1} → statement M
 read-line-spec =

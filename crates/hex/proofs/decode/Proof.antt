@@ -1,4 +1,5 @@
--- `hex::decode` meets its contract. Assumes nothing.
+-- `hex::decode` meets its contract: a line that is empty, odd or has another character is refused (`bad-line`), any other has its first bytes in the
+-- buffer (`good-line`). Assumes nothing.
 use mathlib.Core.Path.{sym, _∙_}
 use Rattle.hex.proofs.Lines.{hex-empty, hex-odd, hex-other, hex-line, bad-line, good-line}
 use borrow.Author.Needs.{needs}
