@@ -24,12 +24,14 @@ pub unsafe extern "C" fn panel_run_text(
     if text.len() > TEXT_LIMIT {
         return 0;
     }
-    let mut run = Run::default();
-    run.tally = plain::Tally {
-        lines: tally.lines,
-        accepted: tally.accepted,
-        refused: tally.refused,
-        last: tally.last,
+    let mut run = Run {
+        tally: plain::Tally {
+            lines: tally.lines,
+            accepted: tally.accepted,
+            refused: tally.refused,
+            last: tally.last,
+        },
+        ..Run::default()
     };
     let output = plain::run_text_with(&mut run, text);
     *tally = Tally {

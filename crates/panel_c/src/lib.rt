@@ -20,7 +20,8 @@ fn length_of(outcome: Outcome) -> usize
     }
 }
 
-// The length of the whole output, of which the buffer holds as many first bytes as fit; 0 where the text is too long. The tally is the caller's, counted on.
+// The length of the whole output, of which the buffer holds as many first bytes as fit; 0 where the text is too long. The tally that the caller
+// lends is updated.
 #[no_mangle]
 pub extern "C" fn panel_run_text(text: &[u8], out: &mut [u8], tally: &mut Tally) -> usize
     ensures { λ r. ⌜ r ≡ cond (isTooLong (now (text .entry))) 0 (length (wholeOutput lineAnswer (opened 0) (now (tally .entry)) (now (text .entry)))) ⌝ }
