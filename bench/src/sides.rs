@@ -43,13 +43,11 @@ pub fn side_tuned(text: &[u8], out: &mut [u8]) -> usize {
     run_text::<tuned::Panel>(text, out)
 }
 
-/// The proved solver.
+/// The proved solver, with a zero tally.
 #[no_mangle]
 #[inline(never)]
 pub fn side_proved(text: &[u8], out: &mut [u8]) -> usize {
-    // SAFETY: each pair is the pointer and the length of a live slice, and `out`
-    // is borrowed by this function alone; the function called asks no more.
-    let answer = unsafe { panel_run_text(text.as_ptr(), text.len(), out.as_mut_ptr(), out.len()) };
+    let answer = run_proved(text, out, &mut Tally::default());
     assert!(
         answer <= out.len(),
         "panel_run_text answers {answer} for a buffer of {}",
@@ -58,10 +56,45 @@ pub fn side_proved(text: &[u8], out: &mut [u8]) -> usize {
     answer
 }
 
+/// The record that the caller of the proved solver lends: "lines, accepted,
+/// refused, last refusal number (00 if none)".
+#[repr(C)]
+#[derive(Clone, Copy, Debug, Default, PartialEq, Eq)]
+pub struct Tally {
+    pub lines: u32,
+    pub accepted: u32,
+    pub refused: u32,
+    pub last: u8,
+}
+
+/// Runs the proved solver on a text, from an unopened panel and the tally that is
+/// lent. The answer is the length of the whole output, of which `out` gets as many
+/// first bytes as fit; 0 for a text that is too long.
+#[inline]
+pub fn run_proved(text: &[u8], out: &mut [u8], tally: &mut Tally) -> usize {
+    // SAFETY: each pair is the pointer and the length of a live slice, `tally` is
+    // live, and `out` and `tally` are borrowed by this function alone; the function
+    // called asks no more.
+    unsafe {
+        panel_run_text(
+            text.as_ptr(),
+            text.len(),
+            out.as_mut_ptr(),
+            out.len(),
+            tally,
+        )
+    }
+}
+
 // In Rattle: `#[no_mangle] pub extern "C" fn panel_run_text(text: &[u8], out:
-// &mut [u8]) -> usize` (crates/panel_c). A slice is passed as its pointer and then
-// its length. The answer is the length of the whole output, 0 for a text that is
-// too long.
+// &mut [u8], tally: &mut Tally) -> usize` (crates/panel_c). A slice is passed as
+// its pointer and then its length.
 extern "C" {
-    fn panel_run_text(text: *const u8, text_len: usize, out: *mut u8, out_len: usize) -> usize;
+    fn panel_run_text(
+        text: *const u8,
+        text_len: usize,
+        out: *mut u8,
+        out_len: usize,
+        tally: *mut Tally,
+    ) -> usize;
 }

@@ -1,21 +1,46 @@
 //! The plain solver under the name of the proved one.
 
+use crate::sides::Tally;
+use harness::plain::{self, Run, TEXT_LIMIT};
+
 /// See `sides`.
 ///
 /// # Safety
 ///
-/// Each pair is the pointer and the length of a live slice, and nothing else
-/// uses that of `out` meanwhile.
+/// Each pair is the pointer and the length of a live slice, `tally` points to a
+/// live tally, and nothing else uses `out` or `tally` meanwhile.
 #[no_mangle]
 pub unsafe extern "C" fn panel_run_text(
     text: *const u8,
     text_len: usize,
     out: *mut u8,
     out_len: usize,
+    tally: *mut Tally,
 ) -> usize {
     let text = unsafe { std::slice::from_raw_parts(text, text_len) };
     let out = unsafe { std::slice::from_raw_parts_mut(out, out_len) };
-    let output = harness::plain::run_text(text);
-    out[..output.len()].copy_from_slice(&output);
+    let tally = unsafe { &mut *tally };
+    // "TextTooLong is checked before any line and changes nothing."
+    if text.len() > TEXT_LIMIT {
+        return 0;
+    }
+    let mut run = Run {
+        tally: plain::Tally {
+            lines: tally.lines,
+            accepted: tally.accepted,
+            refused: tally.refused,
+            last: tally.last,
+        },
+        ..Run::default()
+    };
+    let output = plain::run_text_with(&mut run, text);
+    *tally = Tally {
+        lines: run.tally.lines,
+        accepted: run.tally.accepted,
+        refused: run.tally.refused,
+        last: run.tally.last,
+    };
+    let fits = output.len().min(out.len());
+    out[..fits].copy_from_slice(&output[..fits]);
     output.len()
 }

@@ -1,31 +1,33 @@
-// The operation on a text for the benchmark to link: a text and a buffer, each as pointer and length, with a new tally.
+// The operation on a text for C and Rust to call: a text and a buffer, each as pointer and length, and a tally by its address.
 use tally::Tally;
 use text::Outcome;
 ghost use mathlib.Core.Path.{_≡_};
 ghost use mathlib.Core.Bool.{cond};
 ghost use lib.ListN.{length};
-ghost use Rattle.tally.specs.Tallies.{noTally};
 ghost use Rattle.panel.specs.Panels.{opened};
 ghost use Rattle.frames.specs.Texts.{isTooLong};
 ghost use Rattle.frames.specs.Frames.{lineAnswer};
-ghost use Rattle.text.specs.Outcomes.{wholeOutput, bufferAfter};
+ghost use Rattle.text.specs.Outcomes.{wholeOutput, bufferAfter, tallyAtEnd};
+ghost use Rattle.panel_c.specs.Lengths.{lengthOf};
 
-// The length of the whole output, of which the buffer holds as many first bytes as fit; 0 where the text is too long.
-#[no_mangle]
-pub extern "C" fn panel_run_text(text: &[u8], out: &mut [u8]) -> usize
-    ensures { λ r. ⌜ r ≡ cond (isTooLong (now (text .entry))) 0 (length (wholeOutput lineAnswer (opened 0) noTally (now (text .entry)))) ⌝ }
-    ensures { λ r. ⌜ now (out .exit) ≡ bufferAfter lineAnswer (opened 0) noTally (now (text .entry)) (now (out .entry)) ⌝ }
+// The number that stands for a text's outcome: the length of the whole output, 0 where the text is too long.
+fn length_of(outcome: Outcome) -> usize
+    ensures { λ r. ⌜ r ≡ lengthOf outcome ⌝ }
 {
-    let t = Tally {
-        lines: 0,
-        accepted: 0,
-        refused: 0,
-        last: 0,
-    };
-    let c = text::run_tallied(text, out, t);
-    let outcome = c.outcome;
     match outcome {
         Outcome::Length(n) => n,
         Outcome::TextTooLong => 0,
     }
+}
+
+// The length of the whole output, of which the buffer holds as many first bytes as fit; 0 where the text is too long. The tally that the caller
+// lends is updated.
+#[no_mangle]
+pub extern "C" fn panel_run_text(text: &[u8], out: &mut [u8], tally: &mut Tally) -> usize
+    ensures { λ r. ⌜ r ≡ cond (isTooLong (now (text .entry))) 0 (length (wholeOutput lineAnswer (opened 0) (now (tally .entry)) (now (text .entry)))) ⌝ }
+    ensures { λ r. ⌜ now (out .exit) ≡ bufferAfter lineAnswer (opened 0) (now (tally .entry)) (now (text .entry)) (now (out .entry)) ⌝ }
+    ensures { λ r. ⌜ now (tally .exit) ≡ tallyAtEnd lineAnswer (opened 0) (now (tally .entry)) (now (text .entry)) ⌝ }
+{
+    let outcome = text::run_text(text, out, tally);
+    length_of(outcome)
 }
