@@ -10,6 +10,7 @@ const CAP: u32 = 16777215;
 pub const TALLY_BYTES: usize = 11;
 
 // How many lines there were, how many of them were accepted and refused, and the last refusal's number, 0 if none.
+#[repr(C)]
 pub struct Tally {
     pub lines: u32,
     pub accepted: u32,
