@@ -147,7 +147,7 @@ module _ {S : Type 0} (answer : LineAnswer S) (Legal : S → Type 0) where
             buffer = g .stored ∙ ap (λ (rs : List (List ℕ)). sets before 0 (written rs)) replied;
             count = g .count ∙ ap (λ (rs : List (List ℕ)). length (written rs)) replied;
           },
-          record { onward = omega (arith, g .moved); within = g .within; fits = g .fits; paced = omega (arith, g .paced, all); progress = progress; stops = stops },
+          record { onward = omega (arith, g .moved, all); within = g .within; fits = g .fits; paced = omega (arith, g .paced, all); progress = progress; stops = stops },
         )
 
     pub finish-end : length text ≤ r .next → Finished

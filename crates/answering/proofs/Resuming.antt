@@ -31,8 +31,9 @@ module _ {S : Type 0} (answer : LineAnswer S) (Legal : S → Type 0) where
         behind =
             ap (drop (r .written)) stored ∙ drop-at bytes (drop (0 + length bytes) before) (r .written) size
             ∙ ap (λ (k : ℕ). drop k before) end;
-        onward = paced .onward;
+        onward = omega (arith, paced .onward);
         within = paced .within;
+        paced = omega (arith, paced .paced, paced .onward);
         fits = paced .fits;
         progress = paced .progress;
       }

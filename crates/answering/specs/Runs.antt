@@ -27,7 +27,7 @@ reached r = record { next = r .next; state = r .panel; tally = r .tally; written
 
 -- how far a run got that answered n lines
 pub record Paced {S : Type 0} (text : List ℕ) (from room n : ℕ) (r : Reached S) : Type 0 where
-  pub onward : from ≤ r .next
+  pub onward : from + n ≤ r .next
   pub within : r .next ≤ max from (length text)
   pub fits : r .written ≤ room
   pub paced : r .written ≤ longest * n
@@ -67,6 +67,7 @@ module _ {S : Type 0} (answer : LineAnswer S) where
     -- it stands where it stood or further on, and past the end only where it stood there
     pub onward : from ≤ r .next
     pub within : r .next ≤ max from (length text)
+    pub paced : r .written ≤ longest * (r .next - from)
     pub fits : r .written ≤ length before
     -- where a line is left and a longest reply fits, a line is answered
     pub progress : from < length text → longest ≤ length before → from < r .next

@@ -3,12 +3,42 @@ use libc::STDIN_FILENO;
 use libc::STDOUT_FILENO;
 use tally::Tally;
 ghost use mathlib.Core.Path.{_≡_};
-ghost use Prim.Native.Nat.{_≤_};
+ghost use mathlib.Core.Bool.{true};
+ghost use Prim.Native.Nat.{_+_, _^_, _≤_, _<_};
 ghost use lib.ListN.{length};
+ghost use Rattle.frames.specs.Frames.{panelOutput};
+ghost use Rattle.run.specs.Parts.{PartOf};
 
-// Writes the output to a text, a buffer at a time. It stops where the output cannot be written.
-fn answer(text: &[u8]) {
+// How many bytes of an output were handed on, and whether all of them were written.
+struct Output {
+    len: usize,
+    whole: bool,
+}
+
+// Hands on a part of a text's output: what stands there behind the first `sent` bytes.
+fn send(text: &[u8], sent: usize, part: &[u8]) -> Output
+    requires { ⌜ PartOf (panelOutput (now text)) sent (now part) × (sent + length (now part) < 2 ^ 64) ⌝ }
+    ensures { λ r. ⌜ r .len ≡ sent + length (now (part .entry)) ⌝ }
+{
+    let whole = io::write_all(STDOUT_FILENO, part);
+    Output {
+        len: sent + part.len(),
+        whole: whole,
+    }
+}
+
+// Hands on the output to a text, a buffer at a time. It stops where it cannot be written.
+// The contract rules out, for instance, another line for a text that is too long and another limit (must-fail: line_of_another_refusal,
+// limit_one_less).
+fn answer(text: &[u8]) -> Output
+    ensures { λ r. ⌜ (r .whole ≡ true → r .len ≡ length (panelOutput (now (text .entry)))) ⌝ }
+{
     let mut out = io::large_buffer();
+    if text::is_too_long(text) {
+        let n = text::put_too_long(&mut out);
+        return send(text, 0, &out[..n]);
+    }
+    let mut sent = 0;
     let mut next = 0;
     let mut p = opening::unopened();
     let mut t = Tally {
@@ -23,12 +53,14 @@ fn answer(text: &[u8]) {
         p = r.panel;
         t = r.tally;
         let n = r.written;
-        if !io::write_all(STDOUT_FILENO, &out[..n]) {
-            return;
+        let part = send(text, sent, &out[..n]);
+        if !part.whole {
+            return part;
         }
+        sent = part.len;
     }
     let n = text::put_tally(&mut out, 0, t);
-    io::write_all(STDOUT_FILENO, &out[..n]);
+    send(text, sent, &out[..n])
 }
 
 // What was read: how many bytes stand in the buffer, and whether that is all of it, or fills the buffer.
@@ -60,7 +92,7 @@ fn read_text(text: &mut [u8]) -> Input
     }
 }
 
-// Where a read fails nothing is written.
+// Where a read fails nothing is written. Of a text that is too long only as much is read as shows it.
 fn main() {
     let mut text = io::large_buffer();
     let input = read_text(&mut text);
@@ -68,9 +100,5 @@ fn main() {
         return;
     }
     let n = input.len;
-    if text::TEXT_LIMIT < n {
-        io::write_all(STDOUT_FILENO, b"FF0C\n");
-        return;
-    }
     answer(&text[..n]);
 }

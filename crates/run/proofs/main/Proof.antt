@@ -1,4 +1,4 @@
--- `run::main` is safe. Assumes nothing.
+-- `run::main` is safe: no more is read than the buffer holds. Assumes nothing.
 use mathlib.Core.Path.{sym}
 use native.Mathlib.Omega.{arith}
 use lib.Seq.{length-take-le}
@@ -6,19 +6,18 @@ use borrow.Author.Needs.{needs}
 use Rattle.run.proofs.main.Statement.{statement}
 use Rattle.run.proofs.main.Tie as tie
 
+-- the input is read
+abbrev input : tie.After-text3 → tie.After-read-text
+input c = c .before .before .before .before
+
 slice-aggregate-answer : tie.Need-slice-aggregate-answer
-slice-aggregate-answer c =
-    let r = c .before .before .before .before .before .read-text .ensures in
-    sym (length-take-le _ _ (omega (arith, r .0, r .1)))
+slice-aggregate-answer c = let r = input c .read-text .ensures in sym (length-take-le _ _ (omega (arith, r .0, r .1)))
 
 pub main-spec : {M : Type 1} → statement M
 main-spec =
     tie.close
     (tie.spec
     (λ c κs. search needs)
-    (λ c. search needs)
-    (λ c κs. search needs)
-    (λ c. search needs)
     (λ c. search needs)
     (λ c κs. search needs)
     (λ c. search needs)
