@@ -50,7 +50,7 @@ fn main() {
             0 => text(seed),
             _ => long_text(seed, &mix),
         };
-        if let Err(difference) = compared(&input, program::run) {
+        if let Err(difference) = compared(&input, program::outcome) {
             println!("seed {seed}: {difference}");
             std::process::exit(1);
         }

@@ -10,30 +10,38 @@ const SHOWN: usize = 6_000;
 /// one length can be quick to answer or slow.
 const SEARCHED: usize = 100_000_000;
 
+/// What a program gives a text: its output, or how it ended if not well.
+pub type Given = Result<Vec<u8>, String>;
+
 /// The output that a program and the plain solver both give a text, or a report
-/// of their difference on the shortest text that the search finds.
-pub fn compared(text: &[u8], program: impl Fn(&[u8]) -> Vec<u8>) -> Result<Vec<u8>, String> {
+/// of their difference on the shortest text that the search finds. A program that
+/// does not end well differs.
+pub fn compared(text: &[u8], program: impl Fn(&[u8]) -> Given) -> Result<Vec<u8>, String> {
     let output = run_text(text);
-    if program(text) == output {
+    if program(text).as_ref() == Ok(&output) {
         return Ok(output);
     }
     let short = shortest(text, &program);
     let (given, expected) = (program(&short), run_text(&short));
-    let difference = first_difference(&given, &expected);
+    let difference = match &given {
+        Ok(given) => first_difference(given, &expected),
+        Err(end) => Some(end.clone()),
+    };
+    let given = given.map(|output| shown(&output));
     Err(format!(
-        "the outputs differ; the shortest text found has {} of {} bytes:\n{}\n\
+        "the program differs; the shortest text found has {} of {} bytes:\n{}\n\
          program:\n{}\nplain solver:\n{}\n{}",
         short.len(),
         text.len(),
         shown(&short),
-        shown(&given),
+        given.unwrap_or_else(|end| end),
         shown(&expected),
         difference.unwrap_or("no difference the second time".to_string()),
     ))
 }
 
 /// The shortest text found on which a program and the plain solver differ.
-fn shortest(text: &[u8], program: impl Fn(&[u8]) -> Vec<u8>) -> Vec<u8> {
+fn shortest(text: &[u8], program: impl Fn(&[u8]) -> Given) -> Vec<u8> {
     let mut left = SEARCHED;
     shorten(text, |text| {
         if left == 0 {
@@ -41,7 +49,7 @@ fn shortest(text: &[u8], program: impl Fn(&[u8]) -> Vec<u8>) -> Vec<u8> {
         }
         let expected = run_text(text);
         left = left.saturating_sub(expected.len());
-        program(text) != expected
+        program(text) != Ok(expected)
     })
 }
 

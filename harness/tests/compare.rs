@@ -5,7 +5,7 @@ use harness::plain::run_text;
 
 #[test]
 fn equal_outputs_come_back() {
-    let output = compared(b"0101\n05", run_text);
+    let output = compared(b"0101\n05", |text| Ok(run_text(text)));
     assert_eq!(output, Ok(run_text(b"0101\n05")));
 }
 
@@ -13,7 +13,7 @@ fn equal_outputs_come_back() {
 #[test]
 fn report_has_the_shortest_text_and_both_outputs() {
     let text = "0140\n".to_string() + &"0201008a\n05\n0405\n".repeat(50);
-    let reader = |text: &[u8]| run_text(&text.to_ascii_uppercase());
+    let reader = |text: &[u8]| Ok(run_text(&text.to_ascii_uppercase()));
     let report = compared(text.as_bytes(), reader).expect_err("a difference");
     let parts = [
         "has 2 of 855 bytes",
@@ -30,8 +30,8 @@ fn report_has_the_shortest_text_and_both_outputs() {
 #[test]
 fn long_texts_are_cut() {
     let reader = |text: &[u8]| match text.len() {
-        0..=6_999 => run_text(text),
-        _ => Vec::new(),
+        0..=6_999 => Ok(run_text(text)),
+        _ => Ok(Vec::new()),
     };
     let report = compared(&[b'0'; 7_000], reader).expect_err("a difference");
     let parts = [
@@ -39,6 +39,21 @@ fn long_texts_are_cut() {
         "... and 1000 more bytes",
         "no line in place of FF02\\n",
     ];
+    for part in parts {
+        assert!(report.contains(part), "{part} in {report}");
+    }
+}
+
+/// A program that does not end well differs, whatever it wrote, and the text is
+/// shortened all the same.
+#[test]
+fn report_has_the_bad_end() {
+    let reader = |text: &[u8]| match text.contains(&b'4') {
+        true => Err("it fell over".to_string()),
+        false => Ok(run_text(text)),
+    };
+    let report = compared(b"0101\n0400\n05\n", reader).expect_err("a difference");
+    let parts = ["has 1 of 13 bytes:\n4\nprogram:\nit fell over\nplain solver:\nFF01\\n"];
     for part in parts {
         assert!(report.contains(part), "{part} in {report}");
     }

@@ -26,7 +26,7 @@ fn check(texts: &[Worked]) {
 
 /// Compares the program with the plain solver.
 fn check_with_plain(text: &[u8]) {
-    if let Err(report) = compared(text, program::run) {
+    if let Err(report) = compared(text, program::outcome) {
         panic!("{report}");
     }
 }

@@ -159,7 +159,7 @@ const LEAST: [(&str, usize); 23] = [
 
 /// The output that the program and the plain solver both give a text.
 fn output(seed: u64, text: &[u8]) -> Vec<u8> {
-    compared(text, program::run).unwrap_or_else(|report| panic!("seed {seed}: {report}"))
+    compared(text, program::outcome).unwrap_or_else(|report| panic!("seed {seed}: {report}"))
 }
 
 /// Compares the texts of the seeds and checks what was met.
