@@ -1,3 +1,4 @@
 pub mod Output
+pub mod Replies
 pub mod Commands
 pub mod ShamPanels
