@@ -159,7 +159,7 @@ refused-unchanged p c = unchanged R p (performed p c) (go c)
 abbrev pub Not : ℕ → Refusal → Type 0
 Not n r = getD (refusalBytes r) 0 0 ≢ n
 
-no-conflict : (p : Panel) (a : Answer) → Outcome (Not 10) Any p a → a .reply ≢ refused p Conflict .reply
+pub no-conflict : (p : Panel) (a : Answer) → Outcome (Not 10) Any p a → a .reply ≢ refused p Conflict .reply
 no-conflict p a o = not-given (Not 10) p a o Conflict (λ h. h refl)
 
 pub weaker-never-conflict : WeakerNeverConflict
