@@ -11,7 +11,7 @@ use Rattle.panel.specs.declared.Panel.{Panel}
 use Rattle.panel.specs.Items.{Item, link, stay, outputsOf, waits}
 use Rattle.panel.specs.Solution.{level, strengthOf}
 use Rattle.panel.specs.Commands.{Command, opening, adding, removing, touching, planning, performed}
-use Rattle.optimality.specs.Condition3.{Store, empty, levelIn, Pair, MaySet, Matching, countUpTo, rows, held, Walk, one, more, Loop, Optimal, System, Run, stepped, after, AfterEveryList, panels, start}
+use Rattle.optimality.specs.Condition3.{empty, levelIn, Pair, MaySet, Matching, countUpTo, rows, held, Walk, one, more, Loop, Optimal, System, Run, stepped, after, AfterEveryList, panels, start}
 use Rattle.optimality.specs.States.{Better}
 use Rattle.optimality.specs.Refusals.{Possible, GivesConflict}
 use Rattle.optimality.proofs.Graphs.{legal-whole, waits-true, none-unblocked}

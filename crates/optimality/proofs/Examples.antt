@@ -1,10 +1,8 @@
 -- Examples, computed, and corollaries: each part of the statements of this crate is needed by one of them.
-use Prim.Native.Nat.{ℕ, zero, suc, _≤_, _<_}
-use mathlib.Core.Path.{_≡_, refl, sym, ap, _∙_}
-use mathlib.Core.Bool.{true, false}
+use Prim.Native.Nat.{ℕ, _≤_, _<_}
+use mathlib.Core.Path.{_≡_, refl, ap}
 use mathlib.Core.List.{List, [], _∷_, map}
 use mathlib.Core.Logic.{_≢_, _⊎_, inl, inr}
-use native.Mathlib.Nat.{le-refl}
 use native.Mathlib.Omega.{arith}
 use lib.ListN.{getD}
 use Rattle.fieldset.specs.Numbers.{count, any, lowest}
@@ -13,13 +11,12 @@ use Rattle.fieldset.specs.Lists.{In, passing, place}
 use Rattle.fieldset.specs.Fields.{member, setOf, with, without, only, within}
 use Rattle.strength.specs.Strength.{greatest, strength, lowestAt, strongest, path}
 use Rattle.ordering.specs.Order.{next, following, order, hasLoop}
-use Rattle.panel.specs.declared.Panel.{Panel}
-use Rattle.panel.specs.Items.{Item, link, stay, outputsOf, waits, setterOf, isInForce, itemsOf}
+use Rattle.panel.specs.Items.{Item, link, stay, setterOf, isInForce, itemsOf}
 use Rattle.panel.specs.Panels.{opened, dropped, toFront, moved}
-use Rattle.panel.specs.Solution.{level, strengthOf, isBlocked, pathFor, reversed, least, leastBlocked, planOf, isLooped, rowsOf}
+use Rattle.panel.specs.Solution.{strengthOf, isBlocked, pathFor, reversed, least, leastBlocked, planOf, isLooped, rowsOf}
 use Rattle.panel.specs.Steps.{reverseStep, enterStep, removeStep, touchStep, planStep}
-use Rattle.panel.specs.Commands.{Command, opening, adding, removing, touching, planning, performed, anyOf, fieldsIn, isRising, areFieldBytes, checked}
-use Rattle.optimality.specs.Condition3.{Store, empty, entered, strike, levelIn, Pair, items, Matching, countUpTo, rows, held, Read, Walk, one, more, Loop, Optimal, Run, stepped, after, panels, start}
+use Rattle.panel.specs.Commands.{Command, opening, adding, removing, touching, planning, anyOf, fieldsIn, isRising, areFieldBytes, checked}
+use Rattle.optimality.specs.Condition3.{Store, empty, entered, strike, levelIn, Pair, items, Matching, countUpTo, rows, held, one, more, Loop, Optimal, Run, stepped, after, panels, start}
 use Rattle.optimality.specs.States.{Better}
 use Rattle.optimality.specs.Refusals.{Possible, Loops, reversal}
 use Rattle.optimality.proofs.Conflict.{conflict-exactly}
@@ -186,15 +183,15 @@ one-link = opening 2 ∷ adding 0 0 (0x81 ∷ []) ∷ []
 -- "Conflict is given exactly when no choice ..": 02010081 is refused with Conflict, so no choice holds both links
 no-choice : Possible (entered (after panels start one-link .store) (adding 1 0 (0x81 ∷ []))) → ⊥
 unfolding count any lowest tabulate member setOf with without only within greatest strength lowestAt strongest path next following order
-    hasLoop setterOf isInForce opened toFront moved strengthOf isBlocked pathFor reversed planOf isLooped rowsOf reverseStep enterStep touchStep planStep anyOf
-    fieldsIn isRising areFieldBytes checked stepped after
+    hasLoop setterOf isInForce opened moved strengthOf isBlocked pathFor reversed isLooped reverseStep enterStep anyOf fieldsIn isRising areFieldBytes
+    checked stepped after
 no-choice = conflict-exactly one-link 1 (0x81 ∷ []) (refl, (refl, (refl, (refl, tt)))) .0 refl
 
 -- 02010080 is not, so it cannot be that no choice holds both
 some-choice : (Possible (entered (after panels start one-link .store) (adding 1 0 (0x80 ∷ []))) → ⊥) → ⊥
 unfolding count any lowest tabulate member setOf with without only within greatest strength lowestAt strongest path next following order
-    hasLoop setterOf isInForce opened toFront moved strengthOf isBlocked pathFor reversed planOf isLooped rowsOf reverseStep enterStep touchStep planStep anyOf
-    fieldsIn isRising areFieldBytes checked stepped after
+    hasLoop setterOf isInForce opened moved strengthOf isBlocked pathFor reversed isLooped reverseStep enterStep anyOf fieldsIn isRising areFieldBytes
+    checked stepped after
 some-choice none =
     let e = conflict-exactly one-link 1 (0x80 ∷ []) (refl, (refl, (refl, (refl, tt)))) .1 none in
     let z : _≡_ {A = ℕ} 0x00 0xFF = ap (λ (b : List ℕ). getD b 0 0) e in
@@ -221,8 +218,8 @@ Looping cs c = Loops (reversal (after panels start cs .state) c)
 -- "If the result has a loop, refuse with Loop": where Loop is given, the state with the path reversed has a loop
 loops-found : Looping before-add (adding 1 0 (0x80 ∷ 0x01 ∷ [])) × Looping before-removal (removing 2) × Looping before-touch (touching 1)
 unfolding count any lowest tabulate member setOf with without only within greatest strength lowestAt strongest path next following order
-    hasLoop setterOf isInForce opened dropped toFront moved strengthOf isBlocked pathFor reversed least leastBlocked itemsOf planOf isLooped rowsOf
-    reverseStep enterStep removeStep touchStep planStep anyOf fieldsIn isRising areFieldBytes checked stepped after
+    hasLoop setterOf isInForce opened dropped toFront moved strengthOf isBlocked pathFor reversed least leastBlocked itemsOf isLooped reverseStep
+    enterStep removeStep touchStep anyOf fieldsIn isRising areFieldBytes checked stepped after
 loops-found = (
   loop-exactly before-add (adding 1 0 (0x80 ∷ 0x01 ∷ [])) (refl, (refl, (refl, (refl, tt)))) .0 refl,
   loop-exactly before-removal (removing 2) (refl, (refl, (refl, tt))) .0 refl,
@@ -232,8 +229,8 @@ loops-found = (
 -- where it is not given, there is none
 no-loop : Looping before-add (adding 1 0 (0x80 ∷ [])) → ⊥
 unfolding count any lowest tabulate member setOf with without only within greatest strength lowestAt strongest path next following order
-    hasLoop setterOf isInForce opened toFront moved strengthOf isBlocked pathFor reversed planOf isLooped rowsOf reverseStep enterStep touchStep planStep anyOf
-    fieldsIn isRising areFieldBytes checked stepped after
+    hasLoop setterOf isInForce opened moved strengthOf isBlocked pathFor reversed isLooped reverseStep enterStep anyOf fieldsIn isRising areFieldBytes
+    checked stepped after
 no-loop l =
     let e = loop-exactly before-add (adding 1 0 (0x80 ∷ [])) (refl, (refl, (refl, (refl, tt)))) .1 l in
     let z : _≡_ {A = ℕ} 0x00 0xFF = ap (λ (b : List ℕ). getD b 0 0) e in
