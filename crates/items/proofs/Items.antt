@@ -21,15 +21,23 @@ use Rattle.items.specs.Characters.{characters}
 use Rattle.items.specs.Items.{Hold, items, itemCount}
 use Rattle.items.specs.Further.{further}
 
--- they are all
+-- none of them is missing
 pub items-all : length items ≡ itemCount
 unfolding items
 items-all = refl
 
 pub items-hold : Hold items
-unfolding characters items outputOf output written tallyAfter replies refusalOf linesOf lineAnswer commandOf frameOf checkedFrame isFrame fitsKind tallyBytes threeBytes tallied more lineOf hexOf bytesOf isHex areDigits charOf digitOf isDigit checked areFieldBytes isRising fieldsIn anyOf planStep touchStep removeStep enterStep reverseStep rowsOf isLooped planOf leastBlocked least reversed pathFor isBlocked strengthOf moved toFront dropped opened itemsOf isInForce setterOf tabulate hasLoop order following next path strongest lowestAt strength greatest within only without with setOf member lowest any count
+unfolding characters items outputOf output written tallyAfter replies refusalOf linesOf lineAnswer commandOf frameOf checkedFrame isFrame fitsKind
+    tallyBytes threeBytes tallied more lineOf hexOf bytesOf isHex areDigits charOf digitOf isDigit checked areFieldBytes isRising fieldsIn anyOf
+    planStep touchStep removeStep enterStep reverseStep rowsOf isLooped planOf leastBlocked least reversed pathFor isBlocked strengthOf moved
+    toFront dropped opened itemsOf isInForce setterOf tabulate hasLoop order following next path strongest lowestAt strength greatest within only
+    without with setOf member lowest any count
 items-hold = refl
 
 pub further-hold : Hold further
-unfolding characters further outputOf output written tallyAfter replies refusalOf linesOf lineAnswer commandOf frameOf checkedFrame isFrame fitsKind tallyBytes threeBytes tallied more lineOf hexOf bytesOf isHex areDigits charOf digitOf isDigit checked areFieldBytes isRising fieldsIn anyOf planStep touchStep removeStep enterStep reverseStep rowsOf isLooped planOf leastBlocked least reversed pathFor isBlocked strengthOf moved toFront dropped opened itemsOf isInForce setterOf tabulate hasLoop order following next path strongest lowestAt strength greatest within only without with setOf member lowest any count
+unfolding characters further outputOf output written tallyAfter replies refusalOf linesOf lineAnswer commandOf frameOf checkedFrame isFrame fitsKind
+    tallyBytes threeBytes tallied more lineOf hexOf bytesOf isHex areDigits charOf digitOf isDigit checked areFieldBytes isRising fieldsIn anyOf
+    planStep touchStep removeStep enterStep reverseStep rowsOf isLooped planOf leastBlocked least reversed pathFor isBlocked strengthOf moved
+    toFront dropped opened itemsOf isInForce setterOf tabulate hasLoop order following next path strongest lowestAt strength greatest within only
+    without with setOf member lowest any count
 further-hold = refl
