@@ -49,9 +49,9 @@ module _ (commands : List Command) where
   required-possible = record { choice = holds; matching = condition-3 commands .matching; required = settled commands .required }
 
   -- "A waiting link or stay is blocked when one of its outputs has strength greater than its level": none is
-  pub waiting-not-stronger : (c : Item) (u : ℕ) → waits (p .size) (p .links) (p .setter) c ≡ true → u < p .size
+  pub waiting-outputs : (c : Item) (u : ℕ) → waits (p .size) (p .links) (p .setter) c ≡ true → u < p .size
       → member (outputsOf (p .links) c) u ≡ true → strengthOf p u ≤ level p c
-  waiting-not-stronger c u w l o =
+  waiting-outputs c u w l o =
       let k = legal-whole p (after-sound commands .legal) in
       none-unblocked k (nothing-blocked commands) .free c (waits-true k c w) u l o
 
@@ -60,8 +60,8 @@ module _ (commands : List Command) where
   no-better-choice xs m b = nothing-better commands xs m b
 
   -- condition 3 goes on from every panel and store that the commands leave
-  pub and-after-further-commands : (further : List Command) → Optimal (after panels r further .store) (performed (after panels r further .state) planning .reply)
-  and-after-further-commands = every-start r (after-sound commands)
+  pub further-commands : (further : List Command) → Optimal (after panels r further .store) (performed (after panels r further .state) planning .reply)
+  further-commands = every-start r (after-sound commands)
 
 -- ---- Conflict
 
