@@ -1,6 +1,6 @@
 -- What follows for a text and for a reply: each part of the statements about lines and texts is used here.
 use Prim.Native.Nat.{ℕ, suc, _+_, _*_, _/_, _%_, _≤_, _<_}
-use mathlib.Core.Path.{_≡_, refl, subst}
+use mathlib.Core.Path.{_≡_, refl, subst, _∙_}
 use mathlib.Core.Bool.{true, false}
 use mathlib.Core.List.{List, [], _∷_, _++_, map}
 use mathlib.Core.Logic.{_≢_}
@@ -19,13 +19,14 @@ use Rattle.optimality.specs.Condition3.{Optimal, after, panels, start}
 use Rattle.hex.specs.Hex.{digitOf, charOf, bytesOf, hexOf}
 use Rattle.lines.specs.Lines.{linesOf}
 use Rattle.tally.specs.Tallies.{noTally, tallyBytes}
-use Rattle.frames.specs.Texts.{tallyAfter, isTooLong}
-use Rattle.frames.specs.Frames.{panelAfter, panelOutput}
+use Rattle.frames.specs.Texts.{LineAnswer, stateAfter, replies, tallyAfter, isTooLong}
+use Rattle.frames.specs.Frames.{lineAnswer, panelAfter, panelOutput}
+use Rattle.items.specs.Characters.{characters}
 use Rattle.acceptance.specs.Lines.{repliesTo, commandsOf}
 use Rattle.acceptance.specs.Replies.{Form, IsReply, Replied}
-use Rattle.acceptance.proofs.Output.{output-lines}
+use Rattle.acceptance.proofs.Output.{one-reply-each, output-lines, output-too-long}
 use Rattle.acceptance.proofs.Replies.{every-reply}
-use Rattle.acceptance.proofs.Commands.{after-every-text}
+use Rattle.acceptance.proofs.Commands.{after-every-text, refused-line-unchanged}
 
 -- what is written for a text that is not too long: one reply of document 01 for each line, then the tally, a line each
 pub text-answered : (text : List ℕ) → isTooLong text ≡ false
@@ -35,12 +36,32 @@ text-answered text short = (repliesTo text, every-reply (linesOf text), output-l
 pub text-lines : (text : List ℕ) → isTooLong text ≡ false → length (linesOf (panelOutput text)) ≡ suc (length (linesOf text))
 text-lines text short = output-lines text short .count
 
+pub text-too-long : (text : List ℕ) → isTooLong text ≡ true → linesOf (panelOutput text) ≡ hexOf (0xFF ∷ 12 ∷ []) ∷ []
+unfolding characters hexOf charOf
+text-too-long text long = output-too-long text long
+
 -- condition 3 of the panel that the lines of a text leave, with the store of their commands
 pub lines-optimal : (text : List ℕ)
     → Optimal (after panels start (commandsOf (linesOf text)) .store) (performed (panelAfter (opened 0) (linesOf text)) planning .reply)
 lines-optimal text =
     let a = after-every-text text in
     subst (λ (p : Panel). Optimal (after panels start (commandsOf (linesOf text)) .store) (performed p planning .reply)) (a .panel) (a .optimal)
+
+-- ---- lines
+
+-- lines that are all refused leave the panel as it stood
+pub refused-lines-unchanged : (p : Panel) (lines : List (List ℕ)) → All (λ r. isRefusal r ≡ true) (replies lineAnswer p lines) → panelAfter p lines ≡ p
+unfolding replies stateAfter
+refused-lines-unchanged p [] a = refl
+refused-lines-unchanged p (l ∷ ls) (e, a) = refused-lines-unchanged (lineAnswer p l .state) ls a ∙ refused-line-unchanged p l e
+
+-- an answer that only counts the lines
+abbrev counting : LineAnswer ℕ
+counting n line = record { state = suc n; reply = 0x00 ∷ n ∷ [] }
+
+-- "one reply a line", whatever answers
+pub counting-replies : (lines : List (List ℕ)) → length (replies counting 0 lines) ≡ length lines
+counting-replies = one-reply-each ℕ counting 0
 
 -- ---- one reply
 
