@@ -1,3 +1,5 @@
 pub mod Output
+pub mod Replies
 pub mod Commands
+pub mod Corollaries
 pub mod ShamPanels

@@ -5,6 +5,7 @@ use mathlib.Core.Logic.{_≢_}
 use mathlib.Core.List.{List}
 use Prim.Native.Nat.{ℕ}
 use lib.Dec.{eqb}
+use lib.ListN.{length}
 use borrow.Author.Tests.{eqb-false}
 use Rattle.fieldset.specs.Numbers.{count, any, lowest}
 use Rattle.fieldset.specs.Tables.{at, tabulate}
@@ -36,3 +37,8 @@ unfolding characters shamPanels refusesAll repliesZeros keepsSetters solvesFirst
     count
 sham-panels-differ =
     (differ-at 0 _ _ refl, (differ-at 8 _ _ refl, (differ-at 16 _ _ refl, (differ-at 22 _ _ refl, (differ-at 8 _ _ refl, tt)))))
+
+-- there are five
+pub sham-panels-five : length shamPanels ≡ 5
+unfolding shamPanels
+sham-panels-five = refl

@@ -1,6 +1,7 @@
--- Every item marked P holds of document 01's definitions: they give its text its output. By computation; assumes nothing.
+-- Every item marked P holds of document 01's definitions, and so does every further worked text: they give its text its output. By computation;
+-- assumes nothing.
 use mathlib.Core.Path.{_≡_, refl}
-use mathlib.Core.List.{map}
+use lib.ListN.{length}
 use Rattle.fieldset.specs.Numbers.{count, any, lowest}
 use Rattle.fieldset.specs.Tables.{tabulate}
 use Rattle.fieldset.specs.Fields.{member, setOf, with, without, only, within}
@@ -15,10 +16,28 @@ use Rattle.hex.specs.Hex.{isDigit, digitOf, charOf, areDigits, isHex, bytesOf, 
 use Rattle.lines.specs.Lines.{linesOf}
 use Rattle.tally.specs.Tallies.{more, tallied, threeBytes, tallyBytes}
 use Rattle.frames.specs.Texts.{refusalOf, replies, tallyAfter, written, output, outputOf}
-use Rattle.frames.specs.Frames.{fitsKind, isFrame, checkedFrame, frameOf, commandOf, lineAnswer, panelOutput}
+use Rattle.frames.specs.Frames.{fitsKind, isFrame, checkedFrame, frameOf, commandOf, lineAnswer}
 use Rattle.items.specs.Characters.{characters}
-use Rattle.items.specs.Items.{items}
+use Rattle.items.specs.Items.{Hold, items, itemCount}
+use Rattle.items.specs.Further.{further}
 
-pub items-hold : map (λ i. panelOutput (characters (i .text))) items ≡ map (λ i. characters (i .output)) items
-unfolding characters items outputOf output written tallyAfter replies refusalOf linesOf lineAnswer commandOf frameOf checkedFrame isFrame fitsKind tallyBytes threeBytes tallied more lineOf hexOf bytesOf isHex areDigits charOf digitOf isDigit checked areFieldBytes isRising fieldsIn anyOf planStep touchStep removeStep enterStep reverseStep rowsOf isLooped planOf leastBlocked least reversed pathFor isBlocked strengthOf moved toFront dropped opened itemsOf isInForce setterOf tabulate hasLoop order following next path strongest lowestAt strength greatest within only without with setOf member lowest any count
+-- none of them is missing
+pub items-all : length items ≡ itemCount
+unfolding items
+items-all = refl
+
+pub items-hold : Hold items
+unfolding characters items outputOf output written tallyAfter replies refusalOf linesOf lineAnswer commandOf frameOf checkedFrame isFrame fitsKind
+    tallyBytes threeBytes tallied more lineOf hexOf bytesOf isHex areDigits charOf digitOf isDigit checked areFieldBytes isRising fieldsIn anyOf
+    planStep touchStep removeStep enterStep reverseStep rowsOf isLooped planOf leastBlocked least reversed pathFor isBlocked strengthOf moved
+    toFront dropped opened itemsOf isInForce setterOf tabulate hasLoop order following next path strongest lowestAt strength greatest within only
+    without with setOf member lowest any count
 items-hold = refl
+
+pub further-hold : Hold further
+unfolding characters further outputOf output written tallyAfter replies refusalOf linesOf lineAnswer commandOf frameOf checkedFrame isFrame fitsKind
+    tallyBytes threeBytes tallied more lineOf hexOf bytesOf isHex areDigits charOf digitOf isDigit checked areFieldBytes isRising fieldsIn anyOf
+    planStep touchStep removeStep enterStep reverseStep rowsOf isLooped planOf leastBlocked least reversed pathFor isBlocked strengthOf moved
+    toFront dropped opened itemsOf isInForce setterOf tabulate hasLoop order following next path strongest lowestAt strength greatest within only
+    without with setOf member lowest any count
+further-hold = refl

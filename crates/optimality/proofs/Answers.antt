@@ -6,7 +6,7 @@ use mathlib.Core.List.{List, [], _∷_}
 use mathlib.Core.Option.{Option, none, some}
 use mathlib.Core.Logic.{_≢_}
 use native.Mathlib.Omega.{arith}
-use borrow.Author.Tests.{eqb-true}
+use borrow.Author.Tests.{eqb-true, not-false}
 use lib.Dec.{eqb}
 use lib.ListN.{getD, drop}
 use Rattle.fieldset.specs.Lists.{All}
@@ -19,10 +19,10 @@ use Rattle.panel.specs.declared.Refusal.{Refusal}
 use Rattle.panel.specs.declared.Refusal.the-variants.{AlreadyOpen, NotOpen, BadSize, BadLink, NoSuchField, LinkTaken, NoSuchLink, Conflict, Loop}
 use Rattle.panel.specs.Items.{Item, link, stay, linkAt}
 use Rattle.panel.specs.Answers.{Answer, isRefusal, refused, refusalBytes}
-use Rattle.panel.specs.Panels.{dropped}
-use Rattle.panel.specs.Solution.{isBlocked, isLooped, pathFor, reversed, leastBlocked}
+use Rattle.panel.specs.Panels.{opened, dropped, moved}
+use Rattle.panel.specs.Solution.{isBlocked, isLooped, pathFor, reversed, leastBlocked, planOf, rowsOf}
 use Rattle.panel.specs.Steps.{accepted, reverseStep, openStep, enterStep, addStep, settled, dropStep, removeStep, touchStep, planStep}
-use Rattle.panel.specs.Commands.{Command, opening, adding, removing, touching, planning, performed, Check, checked, openChecks, addChecks, removeChecks, touchChecks, planChecks, coveredIn, outputsIn}
+use Rattle.panel.specs.Commands.{Command, opening, adding, removing, touching, planning, performed, Check, checked, isOpen, openChecks, addChecks, removeChecks, touchChecks, planChecks, coveredIn, outputsIn}
 use Rattle.panel.proofs.Answers.{refusals-apart}
 use Rattle.panel.proofs.Checks.{NoneApply, newLink}
 use Rattle.optimality.specs.Refusals.{WeakerNeverConflict, TouchNeverConflict, RemoveNeverConflict, RefusedUnchanged}
@@ -48,113 +48,133 @@ checked-step p (c ∷ cs) step n = rw (n .0) (checked-step p cs step (n .1))
 
 -- ---- outcomes
 
--- a refusal that R allows and that leaves the panel, or a reply that begins with 00
-pub data Outcome (R : Refusal → Type 0) (p : Panel) : Answer → Type 0 where
-  no : (r : Refusal) → R r → Outcome R p (refused p r)
-  yes : (q : Panel) (bytes : List ℕ) → Outcome R p (record { panel = q; reply = 0x00 ∷ bytes })
+-- a refusal that R allows and that leaves the panel, or a panel and a reply, 00 and bytes, that T allows
+pub data Outcome (R : Refusal → Type 0) (T : Panel → List ℕ → Type 0) (p : Panel) : Answer → Type 0 where
+  no : (r : Refusal) → R r → Outcome R T p (refused p r)
+  yes : (q : Panel) (bytes : List ℕ) → T q bytes → Outcome R T p (record { panel = q; reply = 0x00 ∷ bytes })
+
+-- every panel, with every reply
+abbrev pub Any : Panel → List ℕ → Type 0
+Any q bytes = Unit {0}
 
 -- one of two answers
 abbrev pub pick : Bool → Answer → Answer → Answer
 pick t x y = elim t [ true ↦ x | false ↦ y ]
 
-module _ (R : Refusal → Type 0) (p : Panel) where
-  pub reverse-outcome : (q : Panel) (c : Item) → R Loop → Outcome R p (reverseStep p q c)
+-- T allows every panel with its moved count
+module _ (R : Refusal → Type 0) (T : Panel → List ℕ → Type 0) (p : Panel) (t : (q : Panel) → T q (moved p q ∷ [])) where
+  pub reverse-outcome : (q : Panel) (c : Item) → R Loop → Outcome R T p (reverseStep p q c)
   unfolding reverseStep
   reverse-outcome q c l = go (isLooped (reversed q c (pathFor q c)))
     where
-      go : (t : Bool) → Outcome R p (pick t (refused p Loop) (accepted p (reversed q c (pathFor q c))))
+      go : (b : Bool) → Outcome R T p (pick b (refused p Loop) (accepted p (reversed q c (pathFor q c))))
       go true = no Loop l
-      go false = yes _ _
+      go false = yes _ _ (t _)
 
-  enter-outcome : (q : Panel) (id : ℕ) (x : Link) → R Loop → (x .level ≡ 0 → R Conflict) → Outcome R p (enterStep p q id x)
+  enter-outcome : (q : Panel) (id : ℕ) (x : Link) → R Loop → (x .level ≡ 0 → R Conflict) → Outcome R T p (enterStep p q id x)
   unfolding enterStep
   enter-outcome q id x l k = go _ (isBlocked _ (link id)) (eqb (x .level) 0) refl
     where
-      go : (r : Panel) (t z : Bool) → eqb (x .level) 0 ≡ z → Outcome R p (pick t (reverseStep p r (link id)) (pick z (refused p Conflict) (accepted p r)))
+      go : (r : Panel) (b z : Bool) → eqb (x .level) 0 ≡ z → Outcome R T p (pick b (reverseStep p r (link id)) (pick z (refused p Conflict) (accepted p r)))
       go r true z e = reverse-outcome r (link id) l
       go r false true e = no Conflict (k (eqb-true (x .level) 0 e))
-      go r false false e = yes _ _
+      go r false false e = yes _ _ (t r)
 
-  settled-outcome : (q : Panel) (o : Option Item) → R Loop → Outcome R p (settled p q o)
-  settled-outcome q none l = yes _ _
+  settled-outcome : (q : Panel) (o : Option Item) → R Loop → Outcome R T p (settled p q o)
+  settled-outcome q none l = yes _ _ (t q)
   settled-outcome q (some c) l = reverse-outcome q c l
 
-  drop-outcome : (q : Panel) (s : Standing) → R Loop → Outcome R p (dropStep p q s)
-  drop-outcome q Waiting l = yes _ _
+  drop-outcome : (q : Panel) (s : Standing) → R Loop → Outcome R T p (dropStep p q s)
+  drop-outcome q Waiting l = yes _ _ (t q)
   drop-outcome q (Holding v) l = settled-outcome q (leastBlocked q) l
 
-  touch-outcome : (f : ℕ) → R Loop → Outcome R p (touchStep p f)
+  touch-outcome : (f : ℕ) → R Loop → Outcome R T p (touchStep p f)
   unfolding touchStep
   touch-outcome f l = go _ (isBlocked _ (stay f))
     where
-      go : (q : Panel) (t : Bool) → Outcome R p (pick t (reverseStep p q (stay f)) (accepted p q))
+      go : (q : Panel) (b : Bool) → Outcome R T p (pick b (reverseStep p q (stay f)) (accepted p q))
       go q true = reverse-outcome q (stay f) l
-      go q false = yes _ _
+      go q false = yes _ _ (t q)
 
-  -- the refusals of the checks are 3 to 9
-  module _ (early : (r : Refusal) → getD (refusalBytes r) 0 0 ≤ 9 → R r) (l : R Loop) where
-    given : (r : Refusal) → getD (refusalBytes r) 0 0 ≤ 9 → Outcome R p (refused p r)
-    given r h = no r (early r h)
+-- the refusals of the checks are 3 to 9
+module _ (R : Refusal → Type 0) (T : Panel → List ℕ → Type 0) (p : Panel) (early : (r : Refusal) → getD (refusalBytes r) 0 0 ≤ 9 → R r) where
+  given : (r : Refusal) → getD (refusalBytes r) 0 0 ≤ 9 → Outcome R T p (refused p r)
+  given r h = no r (early r h)
 
-    pub adding-outcome : (id level : ℕ) (bytes : List ℕ) → (level ≡ 0 → R Conflict) → Outcome R p (performed p (adding id level bytes))
+  pub opening-outcome : ((n : ℕ) → T (opened n) (0 ∷ [])) → (n : ℕ) → Outcome R T p (performed p (opening n))
+  opening-outcome t n =
+      checked-answer (Outcome R T p) p (openChecks p n) (openStep n)
+      (given AlreadyOpen (omega arith), (given BadSize (omega arith), tt)) (λ x. yes _ _ (t n))
+
+  pub planning-outcome : (isOpen p ≡ true → T p (p .size ∷ rowsOf p (planOf p))) → Outcome R T p (performed p planning)
+  unfolding planStep
+  planning-outcome t =
+      checked-answer (Outcome R T p) p (planChecks p) (planStep p)
+      (given NotOpen (omega arith), tt) (λ n. yes _ _ (t (not-false (isOpen p) (n .0))))
+
+  module _ (t : (q : Panel) → T q (moved p q ∷ [])) (l : R Loop) where
+    pub adding-outcome : (id level : ℕ) (bytes : List ℕ) → (level ≡ 0 → R Conflict) → Outcome R T p (performed p (adding id level bytes))
     adding-outcome id level bytes k =
-        checked-answer (Outcome R p) p (addChecks p id level bytes) (addStep p id level (coveredIn bytes) (outputsIn bytes))
+        checked-answer (Outcome R T p) p (addChecks p id level bytes) (addStep p id level (coveredIn bytes) (outputsIn bytes))
         (given NotOpen (omega arith), (given BadLink (omega arith), (given NoSuchField (omega arith), (given LinkTaken (omega arith), tt))))
-        (λ n. enter-outcome p id (newLink level bytes) l k)
+        (λ n. enter-outcome R T p t p id (newLink level bytes) l k)
 
-    pub removing-outcome : (id : ℕ) → Outcome R p (performed p (removing id))
+    pub removing-outcome : (id : ℕ) → Outcome R T p (performed p (removing id))
     unfolding removeStep
     removing-outcome id =
-        checked-answer (Outcome R p) p (removeChecks p id) (removeStep p id)
-        (given NotOpen (omega arith), (given BadLink (omega arith), (given NoSuchLink (omega arith), tt))) (λ n. drop-outcome (dropped p id) (linkAt (p .links) id .standing) l)
+        checked-answer (Outcome R T p) p (removeChecks p id) (removeStep p id)
+        (given NotOpen (omega arith), (given BadLink (omega arith), (given NoSuchLink (omega arith), tt)))
+        (λ n. drop-outcome R T p t (dropped p id) (linkAt (p .links) id .standing) l)
 
-    pub touching-outcome : (f : ℕ) → Outcome R p (performed p (touching f))
+    pub touching-outcome : (f : ℕ) → Outcome R T p (performed p (touching f))
     touching-outcome f =
-        checked-answer (Outcome R p) p (touchChecks p f) (touchStep p f)
-        (given NotOpen (omega arith), (given NoSuchField (omega arith), tt)) (λ n. touch-outcome f l)
-
-    pub performed-outcome : R Conflict → (c : Command) → Outcome R p (performed p c)
-    unfolding planStep
-    performed-outcome k (opening n) =
-        checked-answer (Outcome R p) p (openChecks p n) (openStep n)
-        (given AlreadyOpen (omega arith), (given BadSize (omega arith), tt)) (λ n. yes _ _)
-    performed-outcome k (adding id level bytes) = adding-outcome id level bytes (λ e. k)
-    performed-outcome k (removing id) = removing-outcome id
-    performed-outcome k (touching f) = touching-outcome f
-    performed-outcome k planning = checked-answer (Outcome R p) p (planChecks p) (planStep p) (given NotOpen (omega arith), tt) (λ n. yes _ _)
+        checked-answer (Outcome R T p) p (touchChecks p f) (touchStep p f)
+        (given NotOpen (omega arith), (given NoSuchField (omega arith), tt)) (λ n. touch-outcome R T p t f l)
 
 -- ---- what follows
 
 -- a refusal that R does not allow is not given
-pub not-given : (R : Refusal → Type 0) (p : Panel) (a : Answer) → Outcome R p a → (r : Refusal) → (R r → ⊥) → a .reply ≢ refused p r .reply
+pub not-given : (R : Refusal → Type 0) (p : Panel) (a : Answer) → Outcome R Any p a → (r : Refusal) → (R r → ⊥) → a .reply ≢ refused p r .reply
 not-given R p a (no s h) r out e = out (rw (← refusals-apart s r (ap (λ (b : List ℕ). drop 1 b) e)) h)
-not-given R p a (yes q bytes) r out e = let z : _≡_ {A = ℕ} 0 255 = ap (λ (b : List ℕ). getD b 0 0) e in omega arith
+not-given R p a (yes q bytes t) r out e = let z : _≡_ {A = ℕ} 0 255 = ap (λ (b : List ℕ). getD b 0 0) e in omega arith
 
-unchanged : (R : Refusal → Type 0) (p : Panel) (a : Answer) → Outcome R p a → isRefusal (a .reply) ≡ true → a .panel ≡ p
+unchanged : (R : Refusal → Type 0) (p : Panel) (a : Answer) → Outcome R Any p a → isRefusal (a .reply) ≡ true → a .panel ≡ p
 unchanged R p a (no r h) e = refl
-unchanged R p a (yes q bytes) e = absurd (clash e refl)
+unchanged R p a (yes q bytes t) e = absurd (clash e refl)
 
 pub refused-unchanged : RefusedUnchanged
-refused-unchanged p c = unchanged (λ r. Unit {0}) p (performed p c) (performed-outcome (λ r. Unit {0}) p (λ r h. tt) tt tt c)
+refused-unchanged p c = unchanged R p (performed p c) (go c)
+  where
+    R : Refusal → Type 0
+    R r = Unit {0}
+
+    go : (c : Command) → Outcome R Any p (performed p c)
+    go (opening n) = opening-outcome R Any p (λ r h. tt) (λ m. tt) n
+    go (adding id level bytes) = adding-outcome R Any p (λ r h. tt) (λ q. tt) tt id level bytes (λ e. tt)
+    go (removing id) = removing-outcome R Any p (λ r h. tt) (λ q. tt) tt id
+    go (touching f) = touching-outcome R Any p (λ r h. tt) (λ q. tt) tt f
+    go planning = planning-outcome R Any p (λ r h. tt) (λ e. tt)
 
 -- a refusal of another number than n
 abbrev pub Not : ℕ → Refusal → Type 0
 Not n r = getD (refusalBytes r) 0 0 ≢ n
 
-no-conflict : (p : Panel) (a : Answer) → Outcome (Not 10) p a → a .reply ≢ refused p Conflict .reply
+pub no-conflict : (p : Panel) (a : Answer) → Outcome (Not 10) Any p a → a .reply ≢ refused p Conflict .reply
 no-conflict p a o = not-given (Not 10) p a o Conflict (λ h. h refl)
 
 pub weaker-never-conflict : WeakerNeverConflict
 weaker-never-conflict p id level bytes l =
     no-conflict p (performed p (adding id level bytes))
-    (adding-outcome (Not 10) p (λ r h. omega arith) (omega arith) id level bytes (λ e. absurd (omega arith)))
+    (adding-outcome (Not 10) Any p (λ r h. omega arith) (λ q. tt) (omega arith) id level bytes (λ e. absurd (omega arith)))
 
 pub touch-never-conflict : TouchNeverConflict
-touch-never-conflict p f = no-conflict p (performed p (touching f)) (touching-outcome (Not 10) p (λ r h. omega arith) (omega arith) f)
+touch-never-conflict p f =
+    no-conflict p (performed p (touching f)) (touching-outcome (Not 10) Any p (λ r h. omega arith) (λ q. tt) (omega arith) f)
 
 pub remove-never-conflict : RemoveNeverConflict
-remove-never-conflict p id = no-conflict p (performed p (removing id)) (removing-outcome (Not 10) p (λ r h. omega arith) (omega arith) id)
+remove-never-conflict p id =
+    no-conflict p (performed p (removing id)) (removing-outcome (Not 10) Any p (λ r h. omega arith) (λ q. tt) (omega arith) id)
 
 -- a reversal never gives Conflict
 pub reverse-no-conflict : (p q : Panel) (c : Item) → reverseStep p q c .reply ≢ refused p Conflict .reply
-reverse-no-conflict p q c = no-conflict p (reverseStep p q c) (reverse-outcome (Not 10) p q c (omega arith))
+reverse-no-conflict p q c = no-conflict p (reverseStep p q c) (reverse-outcome (Not 10) Any p (λ r. tt) q c (omega arith))

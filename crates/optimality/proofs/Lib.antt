@@ -19,4 +19,5 @@ pub mod Runs
 pub mod States
 pub mod Conflict
 pub mod Loops
+pub mod Corollaries
 pub mod Examples

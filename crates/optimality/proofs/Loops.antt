@@ -31,7 +31,7 @@ use Rattle.optimality.specs.Condition3.{AfterEveryList, panels, start}
 use Rattle.optimality.specs.Refusals.{checksOf, Reversal, reversing, entering, settling, dropping, reversal, reversedPanel, Loops, LoopExactly}
 use Rattle.optimality.proofs.Graphs.{settersOf}
 use Rattle.optimality.proofs.Least.{Least, least-blocked}
-use Rattle.optimality.proofs.Answers.{pick, Outcome, no, yes, Not, not-given, checked-step}
+use Rattle.optimality.proofs.Answers.{pick, Outcome, no, yes, Any, Not, not-given, checked-step}
 use Rattle.optimality.proofs.Runs.{after-sound}
 
 -- the answer is Loop exactly where the reversal has a loop
@@ -39,7 +39,7 @@ abbrev Exactly : Panel → Answer → Option Reversal → Type 0
 Exactly p a r = (a .reply ≡ refused p Loop .reply) ↔ Loops r
 
 -- an answer that is not Loop, and no reversal
-still : (p : Panel) (a : Answer) → Outcome (Not 11) p a → Exactly p a none
+still : (p : Panel) (a : Answer) → Outcome (Not 11) Any p a → Exactly p a none
 still p a o = (λ e. absurd (not-given (Not 11) p a o Loop (λ h. h refl) e), λ l. never l)
   where
     never : Loops none → a .reply ≡ refused p Loop .reply
@@ -70,7 +70,7 @@ reverse-exactly p q c k b = go (isLooped r) refl
       λ l. refl,
     )
     go false e = (
-      λ x. absurd (not-given (Not 11) p (accepted p r) (yes _ _) Loop (λ h. h refl) x),
+      λ x. absurd (not-given (Not 11) p (accepted p r) (yes _ _ tt) Loop (λ h. h refl) x),
       λ l. absurd (clash (walk-loop (setterReads r) (r .size) (carries .few) (this l)) e),
     )
 
@@ -88,7 +88,7 @@ module _ (p : Panel) (h : Legal p) where
           → Exactly p (pick t (reverseStep p r (link id)) (pick z (refused p Conflict) (accepted p r))) (reversing t r (link id))
       go true e z = reverse-exactly p r (link id) k e
       go false e true = still p (refused p Conflict) (no Conflict (omega arith))
-      go false e false = still p (accepted p r) (yes _ _)
+      go false e false = still p (accepted p r) (yes _ _ tt)
 
   touch-exactly : (f : ℕ) → f < p .size → Exactly p (touchStep p f) (reversal p (touching f))
   unfolding touchStep reversal
@@ -99,20 +99,20 @@ module _ (p : Panel) (h : Legal p) where
 
       go : (t : Bool) → isBlocked q (stay f) ≡ t → Exactly p (pick t (reverseStep p q (stay f)) (accepted p q)) (reversing t q (stay f))
       go true e = reverse-exactly p q (stay f) (legal-waits q (stay f) (legal-front p f h l) (blocking q (stay f) e .waits-now)) e
-      go false e = still p (accepted p q) (yes _ _)
+      go false e = still p (accepted p q) (yes _ _ tt)
 
   settled-exactly : (q : Panel) → Legal q → (o : Option Item) → Least (isBlocked q) (level q) (itemsOf (q .size)) o
       → Exactly p (settled p q o) (settling q o)
-  settled-exactly q k none a = still p (accepted p q) (yes _ _)
+  settled-exactly q k none a = still p (accepted p q) (yes _ _ tt)
   settled-exactly q k (some c) a = reverse-exactly p q c (legal-waits q c k (blocking q c (a .0) .waits-now)) (a .0)
 
   drop-exactly : (q : Panel) → Legal q → (s : Standing) → Exactly p (dropStep p q s) (dropping q s)
-  drop-exactly q k Waiting = still p (accepted p q) (yes _ _)
+  drop-exactly q k Waiting = still p (accepted p q) (yes _ _ tt)
   drop-exactly q k (Holding v) = settled-exactly q k (leastBlocked q) (least-blocked q)
 
   command-exactly : (c : Command) → NoneApply (checksOf p c) → Exactly p (performed p c) (reversal p c)
   unfolding removeStep planStep reversal
-  command-exactly (opening m) n = rw (checked-step p (checksOf p (opening m)) (openStep m) n) (still p (openStep m) (yes _ _))
+  command-exactly (opening m) n = rw (checked-step p (checksOf p (opening m)) (openStep m) n) (still p (openStep m) (yes _ _ tt))
   command-exactly (adding id level bytes) n =
       rw (checked-step p (checksOf p (adding id level bytes)) (addStep p id level (coveredIn bytes) (outputsIn bytes)) n)
       (enter-exactly p id (newLink level bytes) (legal-add p id (newLink level bytes) h (add-enters (addable p id level bytes n))))
@@ -120,7 +120,7 @@ module _ (p : Panel) (h : Legal p) where
       rw (checked-step p (checksOf p (removing id)) (removeStep p id) n)
       (drop-exactly (dropped p id) (legal-dropped p id h (removable p id n .number)) (linkAt (p .links) id .standing))
   command-exactly (touching f) n = rw (checked-step p (checksOf p (touching f)) (touchStep p f) n) (touch-exactly f (touchable p f n))
-  command-exactly planning n = rw (checked-step p (checksOf p planning) (planStep p) n) (still p (planStep p) (yes _ _))
+  command-exactly planning n = rw (checked-step p (checksOf p planning) (planStep p) n) (still p (planStep p) (yes _ _ tt))
 
 pub loop-exactly : AfterEveryList panels start (λ r. LoopExactly (r .state))
 loop-exactly commands = command-exactly _ (after-sound commands .legal)

@@ -1,0 +1,100 @@
+-- What follows for a text and for a reply: each part of the statements about lines and texts is used here.
+use Prim.Native.Nat.{ℕ, suc, _+_, _*_, _/_, _%_, _≤_, _<_}
+use mathlib.Core.Path.{_≡_, refl, subst, _∙_}
+use mathlib.Core.Bool.{true, false}
+use mathlib.Core.List.{List, [], _∷_, _++_, map}
+use mathlib.Core.Logic.{_≢_}
+use native.Mathlib.Decide.{decLt}
+use native.Mathlib.Omega.{arith}
+use borrow.Author.Tests.{lt-ltb, le-ltb, le-leb, lt-leb}
+use lib.ListN.{length}
+use Rattle.fieldset.specs.Tables.{at}
+use Rattle.fieldset.specs.Lists.{All}
+use Rattle.fieldset.proofs.Numbers.{clash}
+use Rattle.panel.specs.declared.Panel.{Panel}
+use Rattle.panel.specs.Answers.{isRefusal}
+use Rattle.panel.specs.Panels.{opened}
+use Rattle.panel.specs.Commands.{planning, performed}
+use Rattle.optimality.specs.Condition3.{Optimal, after, panels, start}
+use Rattle.hex.specs.Hex.{digitOf, charOf, bytesOf, hexOf}
+use Rattle.lines.specs.Lines.{linesOf}
+use Rattle.tally.specs.Tallies.{noTally, tallyBytes}
+use Rattle.frames.specs.Texts.{LineAnswer, stateAfter, replies, tallyAfter, isTooLong}
+use Rattle.frames.specs.Frames.{lineAnswer, panelAfter, panelOutput}
+use Rattle.items.specs.Characters.{characters}
+use Rattle.acceptance.specs.Lines.{repliesTo, commandsOf}
+use Rattle.acceptance.specs.Replies.{Form, IsReply, Replied}
+use Rattle.acceptance.proofs.Output.{one-reply-each, output-lines, output-too-long}
+use Rattle.acceptance.proofs.Replies.{every-reply}
+use Rattle.acceptance.proofs.Commands.{after-every-text, refused-line-unchanged}
+
+-- what is written for a text that is not too long: one reply of document 01 for each line, then the tally, a line each
+pub text-answered : (text : List ℕ) → isTooLong text ≡ false
+    → (rs : List (List ℕ)) × Replied (linesOf text) rs × (linesOf (panelOutput text) ≡ map hexOf rs ++ (hexOf (tallyBytes (tallyAfter noTally rs)) ∷ []))
+text-answered text short = (repliesTo text, every-reply (linesOf text), output-lines text short .lines)
+
+pub text-lines : (text : List ℕ) → isTooLong text ≡ false → length (linesOf (panelOutput text)) ≡ suc (length (linesOf text))
+text-lines text short = output-lines text short .count
+
+pub text-too-long : (text : List ℕ) → isTooLong text ≡ true → linesOf (panelOutput text) ≡ hexOf (0xFF ∷ 12 ∷ []) ∷ []
+unfolding characters hexOf charOf
+text-too-long text long = output-too-long text long
+
+-- condition 3 of the panel that the lines of a text leave, with the store of their commands
+pub lines-optimal : (text : List ℕ)
+    → Optimal (after panels start (commandsOf (linesOf text)) .store) (performed (panelAfter (opened 0) (linesOf text)) planning .reply)
+lines-optimal text =
+    let a = after-every-text text in
+    subst (λ (p : Panel). Optimal (after panels start (commandsOf (linesOf text)) .store) (performed p planning .reply)) (a .panel) (a .optimal)
+
+-- ---- lines
+
+-- lines that are all refused leave the panel as it stood
+pub refused-lines-unchanged : (p : Panel) (lines : List (List ℕ)) → All (λ r. isRefusal r ≡ true) (replies lineAnswer p lines) → panelAfter p lines ≡ p
+unfolding replies stateAfter
+refused-lines-unchanged p [] a = refl
+refused-lines-unchanged p (l ∷ ls) (e, a) = refused-lines-unchanged (lineAnswer p l .state) ls a ∙ refused-line-unchanged p l e
+
+-- an answer that only counts the lines
+abbrev counting : LineAnswer ℕ
+counting n line = record { state = suc n; reply = 0x00 ∷ n ∷ [] }
+
+-- "one reply a line", whatever answers
+pub counting-replies : (lines : List (List ℕ)) → length (replies counting 0 lines) ≡ length lines
+counting-replies = one-reply-each ℕ counting 0
+
+-- ---- one reply
+
+digit-char : (x : ℕ) → digitOf (charOf x) ≡ x
+unfolding digitOf charOf
+digit-char x = go (decLt x 10)
+  where
+    go : Dec (x < 10) → digitOf (charOf x) ≡ x
+    go (yes l) = rw (lt-ltb x 10 l, le-leb (x + 48) 57 (omega arith)) (omega arith)
+    go (no l) = rw (le-ltb x 10 (omega arith), lt-leb (x + 55) 57 (omega arith)) (omega arith)
+
+-- bytes can be read back from their digits
+bytes-hex : (bytes : List ℕ) → All (λ b. b < 256) bytes → bytesOf (hexOf bytes) ≡ bytes
+unfolding bytesOf hexOf
+bytes-hex [] a = refl
+bytes-hex (b ∷ bs) (l, a) =
+    let e : b / 16 * 16 + b % 16 ≡ b = omega arith in
+    rw (digit-char (b / 16), digit-char (b % 16), e, bytes-hex bs a)
+
+-- what the reply to a line of this kind says
+pub record Says (kind : ℕ) (reply : List ℕ) : Type 0 where
+  pub refusal : isRefusal reply ≡ true → (1 ≤ at reply 1) × (at reply 1 ≤ 11)
+  pub number : isRefusal reply ≡ false → at reply 1 ≤ 64
+  pub rows : isRefusal reply ≡ false → kind ≡ 0x05 → (1 ≤ at reply 1) × (length reply ≡ 2 + 3 * at reply 1)
+  pub two : kind ≢ 0x05 → length reply ≡ 2
+  pub digits : bytesOf (hexOf reply) ≡ reply
+
+pub says : (kind : ℕ) (reply : List ℕ) → IsReply kind reply → Says kind reply
+says kind reply x = go reply (x .form) (bytes-hex reply (x .bytes))
+  where
+    go : (reply : List ℕ) → Form kind reply → bytesOf (hexOf reply) ≡ reply → Says kind reply
+    go r (Form.count m k l) d = record { refusal = λ e. absurd (clash e refl); number = λ e. l; rows = λ e p. absurd (omega arith); two = λ p. refl; digits = d }
+    go r (Form.plan n bs k a b e) d =
+        record { refusal = λ e. absurd (clash e refl); number = λ e. b; rows = λ f p. (a, omega (arith, e)); two = λ p. absurd (p k); digits = d }
+    go r (Form.refusal n a b) d =
+        record { refusal = λ e. (a, b); number = λ e. absurd (clash refl e); rows = λ e p. absurd (clash refl e); two = λ p. refl; digits = d }

@@ -1,0 +1,39 @@
+-- One reply of document 01 for each line: a statement about every list of lines. Quotations are of document 01.
+use Prim.Native.Nat.{ℕ, _*_, _≤_, _<_}
+use mathlib.Core.Path.{_≡_}
+use mathlib.Core.List.{List, [], _∷_}
+use lib.ListN.{length}
+use Rattle.fieldset.specs.Tables.{at}
+use Rattle.fieldset.specs.Lists.{All}
+use Rattle.panel.specs.Panels.{opened}
+use Rattle.frames.specs.Texts.{replies}
+use Rattle.frames.specs.Frames.{frameOf, lineAnswer}
+
+-- the first byte of a line's frame; FF where the line has none
+abbrev pub kindOf : List ℕ → ℕ
+kindOf line = at (frameOf line) 0
+
+-- a reply to a line of this kind
+pub data Form (kind : ℕ) : List ℕ → Type 0 where
+  -- "00 m (m the moved count)", for an opening, add, remove or touch
+  count : (m : ℕ) → kind ≤ 0x04 → m ≤ 64 → Form kind (0x00 ∷ m ∷ [])
+  -- "for a plan 00 n, then n times field, setter (link number, or 80 for the stay), strength"
+  plan : (n : ℕ) (rows : List ℕ) → kind ≡ 0x05 → 1 ≤ n → n ≤ 64 → length rows ≡ 3 * n → Form kind (0x00 ∷ n ∷ rows)
+  -- "for a refusal FF and its number": 1 to 11, since TextTooLong is no refusal of a line
+  refusal : (r : ℕ) → 1 ≤ r → r ≤ 11 → Form kind (0xFF ∷ r ∷ [])
+
+-- such a reply, in bytes
+pub record IsReply (kind : ℕ) (reply : List ℕ) : Type 0 where
+  pub form : Form kind reply
+  pub bytes : All (λ b. b < 256) reply
+
+-- as many replies as lines, each to its line
+abbrev pub Replied : List (List ℕ) → List (List ℕ) → Type 0
+Replied [] [] = Unit {0}
+Replied [] (r ∷ rs) = ⊥
+Replied (l ∷ ls) [] = ⊥
+Replied (l ∷ ls) (r ∷ rs) = IsReply (kindOf l) r × Replied ls rs
+
+-- lines of any characters; the first one meets an unopened panel
+abbrev pub EveryReply : Type 0
+EveryReply = (lines : List (List ℕ)) → Replied lines (replies lineAnswer (opened 0) lines)

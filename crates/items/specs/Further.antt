@@ -1,0 +1,45 @@
+-- Further worked texts, beside the items marked P, each for a sentence of document 01 that those items do not tell from a misreading of it. The
+-- outputs are worked out by hand.
+use mathlib.Core.List.{List, [], _∷_}
+use Rattle.items.specs.Items.{Item, item}
+
+unfoldable pub further : List Item
+further =
+    -- "A line ends at LF or at the end of the text; a text that ends in LF has no further line, and an empty text has none"
+    item "" "EE00000000000000000000\n"
+    ∷ item "\n" "FF01\nEE00000100000000000101\n"
+    ∷ item "0101" "0000\nEE00000100000100000000\n"
+    ∷ item "0101\n\n" "0000\nFF01\nEE00000200000100000101\n"
+    -- "One run in full"
+    ∷ item "0103\n0200008081\n05\n0401\n05\n0300\n0300\n05\n"
+    "0000\n0001\n0003008010010010028012\n0002\n0003018010000010028012\n0001\nFF09\n0003008011018010028012\nEE00000800000700000109\n"
+    -- "last refusal number (00 if none)": an accepted line leaves it
+    ∷ item "0100\n0101\n" "FF05\n0000\nEE00000200000100000105\n"
+    -- "Numbers 1 to 11 are also the order of checks for a line": BadHex before BadFrame
+    ∷ item "010a\n010\n060\n06\n" "FF01\nFF01\nFF01\nFF02\nEE00000400000000000402\n"
+    -- BadFrame before NotOpen and AlreadyOpen, AlreadyOpen before BadSize
+    ∷ item "0500\n0102\n010203\n0141\n" "FF02\n0000\nFF02\nFF03\nEE00000400000100000303\n"
+    -- NotOpen before BadLink, NoSuchField and NoSuchLink
+    ∷ item "02801080\n0380\n0300\n0400\n" "FF04\nFF04\nFF04\nFF04\nEE00000400000000000404\n"
+    -- BadLink (the number, fields not rising, no output) before NoSuchField and LinkTaken, NoSuchField before LinkTaken, LinkTaken before Conflict,
+    -- BadLink before NoSuchLink
+    ∷ item "0102\n02000080\n02800082\n0201018280\n02000002\n02000082\n02000080\n0380\n"
+    "0000\n0001\nFF06\nFF06\nFF06\nFF07\nFF08\nFF06\nEE00000800000200000606\n"
+    -- "an added link of level 0F is accepted, 10 gives FF06; id 7F is accepted, 80 gives FF06"
+    ∷ item "0101\n02000F80\n02011080\n027F0F80\n02800F80\n" "0000\n0001\nFF06\n0000\nFF06\nEE00000500000300000206\n"
+    -- "With 64 fields 043F is accepted, 0440 gives FF07. Eight field bytes are taken, nine give FF02."
+    ∷ item "0140\n043F\n0440\n0200008081828384858687\n020100808182838485868788\n" "0000\n0000\nFF07\n0001\nFF02\nEE00000500000300000202\n"
+    -- "take its output of greatest strength; among equals, the lowest-numbered field of a set": both have strength 5, and field 0 is taken
+    ∷ item "0102\n02000580\n02010581\n0202048081\n05\n" "0000\n0001\n0001\n0001\n0002010105000205\nEE00000500000500000000\n"
+    -- "otherwise it goes on to the lowest-numbered other output of that setter with this same strength": from field 2 to field 0, not 1
+    ∷ item "0103\n02000580\n02010581\n020204808182\n02030382\n05\n" "0000\n0001\n0001\n0001\n0002\n0003010105020303000205\nEE00000600000600000000\n"
+    -- "letting a walk end only at a stay, when a link of equal level ends it too": it ends at link 1, which waits; link 0 keeps field 0
+    ∷ item "0102\n02000580\n0201058081\n05\n02020481\n05\n" "0000\n0001\n0001\n0002000005010105\n0001\n0002000005010204\nEE00000600000600000000\n"
+    -- "after a removal, turning for every link that was found blocked without looking again, or for the weakest": link 1 of level 4, not link 2
+    ∷ item "0101\n02000380\n02010480\n02020580\n0300\n05\n" "0000\n0001\n0000\n0000\n0001\n0001000104\nEE00000600000600000000\n"
+    -- "A loop refuses the touch, order included": field 0 still has strength 16
+    ∷ item "0103\n020000808102\n0201000082\n0401\n05\n" "0000\n0001\n0001\nFF0B\n0003008010020100010010\nEE0000050000040000010B\n"
+    -- "A loop refuses the whole removal": link 2 still holds field 0
+    ∷ item "0103\n020000808102\n0201000082\n02020580\n0401\n0302\n05\n"
+    "0000\n0001\n0001\n0001\n0000\nFF0B\n0003000205020100010005\nEE0000070000060000010B\n"
+    ∷ []
