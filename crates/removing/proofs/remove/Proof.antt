@@ -1,15 +1,19 @@
 -- `removing::remove` meets its contract.
-use mathlib.Core.Path.{refl, sym, ap, _∙_, subst}
+use Prim.Native.Nat.{_<_}
+use mathlib.Core.Path.{_≡_, refl, sym, ap, _∙_, subst}
 use lib.ListN.{length}
 use mathlib.Core.Logic.{⊎-elim, inl, inr}
 use native.Mathlib.Omega.{arith}
 use borrow.Author.Needs.{needs}
 use Rattle.panel.specs.declared.Standing.the-variants.{Holding}
+use Rattle.panel.specs.Steps.{removeStep}
+use Rattle.panel.specs.Commands.{removing, performed}
+use Rattle.panel.proofs.Outcomes.{decides-refused}
 use Rattle.tables.proofs.Settings.{places}
 use Rattle.reversal.specs.Reversals.{HeldField}
 use Rattle.reversal.proofs.Verdicts.{no-loop}
 use Rattle.removing.proofs.Dropped.{Held, held-small, of-field, Choice, choice}
-use Rattle.removing.proofs.Removed.{Passed, old-standing, remove-refused, remove-passes, remove-waiting, rest-acyclic, stepped-strengths, undecided, Judged, remove-looped, remove-reversed}
+use Rattle.removing.proofs.Removed.{old-standing, remove-refused, remove-passes, remove-waiting, rest-acyclic, stepped-strengths, undecided, Judged, remove-looped, remove-reversed}
 use Rattle.removing.proofs.remove.Statement.{statement}
 use Rattle.removing.proofs.remove.Tie as tie
 
@@ -18,7 +22,7 @@ use Rattle.removing.proofs.remove.Tie as tie
 abbrev start : tie.After-enum-told2 → tie.Start
 start c = c .before .before .before .before
 
-passed : (c : tie.After-enum-told2) → Passed (start c .args .p) (start c .args .id)
+passed : (c : tie.After-enum-told2) → let s = start c .args in (s .id < 128) × (performed (s .p) (removing (s .id)) ≡ removeStep (s .p) (s .id))
 passed c =
     let s = start c in
     remove-passes (s .args .p) (s .args .id) (s .args .old) (s .pre .2) _ (c .before .before .check-remove .ensures) _ (c .enum-told2 .given .1)
@@ -62,10 +66,11 @@ judged c =
 
 returns : tie.Need-returns
 returns c =
-    let t = c .before .before in
-    let r = t .before .before in
-    let s = r .before .before in
-    remove-refused (s .args .p) (s .args .id) _ (s .pre .2) _ (r .check-remove .ensures) _ _ _ (s .pre .3) (t .enum-told .given .1) (c .unchanged .ensures)
+    let told = c .before .before in
+    let checked = told .before .before in
+    let s = checked .before .before in
+    decides-refused (s .args .p) _ _ _ (removing (s .args .id)) _ (s .pre .3) _ _ (s .pre .2) (told .enum-told .given .1)
+    (remove-refused (s .args .p) (s .args .id) _ (s .pre .2) _ (checked .check-remove .ensures) _ (told .enum-told .given .1)) (c .unchanged .ensures)
 
 step-of-requires : tie.Need-step-of-requires
 step-of-requires c κs =
