@@ -1,6 +1,6 @@
 -- `touching::touch` meets its contract. A refusal of the checks is the command's (`touch-refused`). A touch that passes has its stay in front
 -- (`front`), with a verdict on it (`judged`): a loop refuses it (`touch-looped`), else the step is the command's (`touch-done`).
-use mathlib.Core.Path.{_≡_, sym, ap, _∙_}
+use mathlib.Core.Path.{_≡_, ap, _∙_}
 use mathlib.Core.Logic.{⊎-elim, inl, inr}
 use native.Mathlib.Omega.{arith}
 use Prim.Native.Nat.{_<_}
