@@ -1,4 +1,5 @@
--- Laws of lists: members, what all entries have, lists without repeats, lists of the numbers below n, and places.
+-- Laws of lists: members, what all entries have, lists without repeats, lists of the numbers below n, and places. By induction on the list; n numbers
+-- below n without repeats are all of them by the pigeonhole (`whole-in`).
 use Prim.Native.Nat.{ℕ, zero, suc, _≤_, _<_, zero-le, suc-le-suc}
 use mathlib.Core.Path.{_≡_, refl, sym, ap, _∙_}
 use mathlib.Core.Bool.{Bool, true, false, cond}

@@ -1,4 +1,5 @@
--- Laws of the passes of the loop test.
+-- Laws of the passes of the loop test. A pass takes no field of a stuck set, and takes none only where the whole set is stuck (`Passing`, `Passed`);
+-- so what is left after all passes is empty or stuck (`Looking`), and that is the loop of the definition (`looking-stuck`, `looking-none`).
 use Prim.Native.Nat.{ℕ, _^_, _≤_, _<_}
 use mathlib.Core.Path.{_≡_, refl, sym, ap, subst, _∙_}
 use mathlib.Core.Bool.{Bool, true, false, not, cond}

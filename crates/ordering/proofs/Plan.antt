@@ -1,4 +1,5 @@
--- Laws of the plan: what it lists, in which order, and that it goes by the reads alone.
+-- Laws of the plan: what it lists, in which order, and that it goes by the reads alone. All go along the list by `step`: a field comes next
+-- (`Lists`), or nothing can (`Stops`).
 use Prim.Native.Nat.{ℕ, zero, suc, _≤_, _<_}
 use mathlib.Core.Path.{_≡_, refl, sym, ap, _∙_, subst}
 use mathlib.Core.Bool.{Bool, true, false, not, _&&_, _||_}

@@ -1,4 +1,5 @@
--- Laws of the plan's loop: what is left, what can be listed, and what stands in the buffer.
+-- Laws of the plan's loop: what is left, what can be listed, and what stands in the buffer. The lowest field that can be listed is the definition's next
+-- (`next-ready`); after it, of the fields that are left only its readers can have become ready (`planning-step`).
 use Prim.Native.Nat.{ℕ, zero, suc, _+_, _^_, _≤_, _<_}
 use mathlib.Core.Path.{_≡_, refl, sym, ap, ap₂, _∙_}
 use mathlib.Core.Bool.{Bool, true, false, not, _&&_, _||_, and-true, and-false, and-assoc, and-comm, or-false}

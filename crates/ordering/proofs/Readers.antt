@@ -1,4 +1,5 @@
--- Laws of the readers of each field.
+-- Laws of the readers of each field: of the loop that enters one field as a reader (`Entering`), and of that over all fields (`ReadersUpTo`). An entry of
+-- the table changes only for the fields that are read (`entering-step`), and gains the one bit (`readers-step`).
 use Prim.Native.Nat.{ℕ, suc, _+_, _≤_, _<_, zero-le}
 use mathlib.Core.Path.{_≡_, refl, ap, _∙_}
 use mathlib.Core.Bool.{Bool, true, false, _&&_, cond}

@@ -1,4 +1,5 @@
--- The numbers and values of an answer: how many there are, and that they tell its cases apart. Assumes nothing.
+-- The numbers and values of an answer: how many there are, and that they tell its cases apart. A refusal is read back from its number
+-- (`refusal-at`).
 use mathlib.Core.Path.{_≡_, refl, sym, ap, _∙_}
 use mathlib.Core.List.{List, [], _∷_}
 use Prim.Native.Nat.{ℕ, suc}

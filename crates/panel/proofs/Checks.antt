@@ -11,7 +11,7 @@ use lib.Dec.{eqb, leb, ltb}
 use lib.ListN.{length}
 use Rattle.fieldset.specs.Fields.{member, with, without, size}
 use Rattle.fieldset.proofs.Numbers.{clash}
-use Rattle.fieldset.proofs.Fields.{member-with, member-with-same, member-without-same, member-without-other, member-empty, with-lt, size-without, size-mono, size-empty}
+use Rattle.fieldset.proofs.Fields.{member-with, member-with-same, member-without-same, member-without-other, member-empty, member-some, with-lt, size-without, size-mono, size-empty}
 use Rattle.fieldset.proofs.Tests.{and-left, and-right}
 use Rattle.panel.specs.declared.Link.{Link}
 use Rattle.panel.specs.declared.Panel.{Panel}
@@ -195,7 +195,7 @@ new-formed n level bytes low few some inside = record {
   outputs-small = fields-lt isOutput bytes;
   inside = λ u l e. covered-inside u (anyOf-found (λ b. true && eqb u (fieldOf b)) bytes (sym (member-fields (λ b. true) bytes u l) ∙ e));
   subset = λ u l e. outputs-covered u l (anyOf-found (λ b. isOutput b && eqb u (fieldOf b)) bytes (sym (member-fields isOutput bytes u l) ∙ e));
-  some-output = positive (outputsIn bytes) f (member-fields isOutput bytes f (field-small (out .byte)) ∙ output-any);
+  some-output = member-some (outputsIn bytes) f (member-fields isOutput bytes f (field-small (out .byte)) ∙ output-any);
   few = omega (arith, size-fields (λ b. true) bytes);
 }
   where
@@ -218,10 +218,6 @@ new-formed n level bytes low few some inside = record {
 
     output-any : anyOf (λ b. isOutput b && eqb f (fieldOf b)) bytes ≡ true
     output-any = found-any isOutput (λ b. isOutput b && eqb f (fieldOf b)) bytes out (rw (out .passes) (eq-eqb f f refl))
-
-    positive : (m u : ℕ) → member m u ≡ true → 0 < m
-    positive zero u e = absurd (clash e (member-empty u))
-    positive (suc m) u e = omega arith
 
 pub record Addable (p : Panel) (id level : ℕ) (bytes : List ℕ) : Type 0 where
   pub is-open : 0 < p .size

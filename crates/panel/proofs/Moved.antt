@@ -1,4 +1,5 @@
--- Which fields get another setter when a path is reversed, and how many moved.
+-- Which fields get another setter when a path is reversed, and how many moved. A field off the path keeps its setter; one on it gets the setter of
+-- the field before it, which is another one, since no item sets two fields. The moved count is the size of that set.
 use Prim.Native.Nat.{ℕ, zero, suc, _≤_, _<_}
 use mathlib.Core.Path.{_≡_, refl, sym, ap, _∙_}
 use mathlib.Core.Bool.{Bool, true, false, not}

@@ -1,4 +1,5 @@
--- Steps: what a step leaves as it was, and the step that leaves the panel as it is.
+-- Steps: what a step leaves as it was, and the step that leaves the panel as it is. The step that frees nothing and reverses nothing gives the altered
+-- panel (`taken-still`); the link of the number put back, that is the panel before but for its size (`altered-size`).
 use Prim.Native.Nat.{ℕ}
 use mathlib.Core.Path.{_≡_, refl, sym, ap, _∙_}
 use mathlib.Core.Bool.{not}

@@ -4,15 +4,14 @@ use mathlib.Core.Logic.{_≢_, _⊎_, inl, inr}
 use mathlib.Core.Bool.{true, not}
 use mathlib.Core.List.{List}
 use mathlib.Core.Option.{some}
-use Prim.Native.Nat.{ℕ, zero, suc, _+_, _%_, _<_}
+use Prim.Native.Nat.{ℕ, _+_, _%_, _<_}
 use native.Mathlib.Nat.{mod-eq-of-lt}
 use native.Mathlib.Omega.{arith}
 use borrow.Author.Tests.{eqb-true, lt-ltb, ltb-true, ltb-false}
 use lib.ListN.{length, set}
 use Rattle.fieldset.specs.Tables.{at}
 use Rattle.fieldset.specs.Fields.{member, below}
-use Rattle.fieldset.proofs.Numbers.{clash}
-use Rattle.fieldset.proofs.Fields.{member-empty, member-below, member-only}
+use Rattle.fieldset.proofs.Fields.{member-some, member-below, member-only}
 use Rattle.strength.specs.Strength.{greatest, strength}
 use Rattle.strength.specs.Filling.{Acyclic, Within}
 use Rattle.panel.specs.declared.Standing.{Standing}
@@ -103,11 +102,6 @@ module _ (p : Panel) (h : Legal p) (id : ℕ) (small : id < 128) where
 
 -- ---- a link that held v
 
--- a set that has a member
-some-of : (m u : ℕ) → member m u ≡ true → 0 < m
-some-of zero u e = absurd (clash e (member-empty u))
-some-of (suc m) u e = omega arith
-
 -- what an item in force covers are fields of the panel
 cover-inside : (n : ℕ) (links : List Link) → Filled n links → (d : Item) → inForce n links d ≡ true → (u : ℕ) → u < 64
     → member (coverOf links d) u ≡ true → u < n
@@ -157,7 +151,7 @@ module _ {p : Panel} {id v : ℕ} {levels others reads : List ℕ} (x : Held p i
       force = waits-force (q .size) (q .links) (q .setter) d (block .waits-now)
 
       some-output : 0 < outputsOf (q .links) d
-      some-output = some-of (outputsOf (q .links) d) (block .field) (block .output)
+      some-output = member-some (outputsOf (q .links) d) (block .field) (block .output)
 
       outputs-in : Within (outputsOf (q .links) d) (below (p .size))
       outputs-in u l e = member-below (p .size) u l ∙ lt-ltb u (p .size) (outputs-inside (q .size) (q .links) (but .carrying .filled) d u force l e)

@@ -5,17 +5,16 @@ use mathlib.Core.Path.{_≡_, refl, sym, ap, _∙_, subst}
 use mathlib.Core.Bool.{true, false, and-false}
 use mathlib.Core.Logic.{_≢_, _⊎_, inl, inr}
 use mathlib.Core.List.{List}
-use Prim.Native.Nat.{ℕ, zero, suc, _≤_, _<_}
+use Prim.Native.Nat.{ℕ, _≤_, _<_}
 use native.Mathlib.Omega.{arith}
 use borrow.Author.Tests.{lt-ltb, le-ltb, eq-eqb, eqb-true}
 use lib.Dec.{ltb}
 use lib.ListN.{length, set}
 use lib.Seq.{set-getD}
 use Rattle.fieldset.specs.Tables.{at, tabulate}
-use Rattle.fieldset.specs.Fields.{member, only, below}
+use Rattle.fieldset.specs.Fields.{only, below}
 use Rattle.fieldset.proofs.Tables.{length-tabulate, getD-tabulate}
-use Rattle.fieldset.proofs.Fields.{member-only, member-below, member-empty}
-use Rattle.fieldset.proofs.Numbers.{clash}
+use Rattle.fieldset.proofs.Fields.{member-some, member-only, member-below}
 use Rattle.strength.specs.Filling.{Within}
 use Rattle.panel.specs.declared.Standing.the-variants.{Waiting}
 use Rattle.panel.specs.declared.Link.{Link}
@@ -68,11 +67,7 @@ pub only-inside : (n f : ℕ) → f < n → Within (only f) (below n)
 only-inside n f l u k e = member-below n u k ∙ lt-ltb u n (rw (eqb-true u f (sym (member-only f u k) ∙ e)) l)
 
 pub only-some : (f : ℕ) → f < 64 → 0 < only f
-only-some f l = go (only f) (member-only f f l ∙ eq-eqb f f refl)
-  where
-    go : (m : ℕ) → member m f ≡ true → 0 < m
-    go zero e = absurd (clash e (member-empty f))
-    go (suc m) e = omega arith
+only-some f l = member-some (only f) f (member-only f f l ∙ eq-eqb f f refl)
 
 -- the link that is there
 kept : (p : Panel) (k : ℕ) (named : Link) → named ≡ linkAt (p .links) k → set (p .links) k named ≡ p .links
