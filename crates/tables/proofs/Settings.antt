@@ -1,4 +1,5 @@
--- What the tables hold of each field: from a setter's entry, after a store, and in another panel that agrees.
+-- What the tables hold of each field: from a setter's entry, after a store, and in another panel that agrees. A field's setting goes by its setter
+-- alone, so it stays where the setter's level, outputs and reads do (`same-setting`, `placed-setting`).
 use Prim.Native.Nat.{ℕ, _+_, _%_, _≤_, _<_}
 use mathlib.Core.Path.{_≡_, refl, sym, ap, _∙_}
 use mathlib.Core.Bool.{Bool, true, false, cond, and-not-self}

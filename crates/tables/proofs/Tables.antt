@@ -1,4 +1,5 @@
--- The tables of a panel's setters say what the panel's own functions say: strengths, the greatest strength of a set, the path.
+-- The tables of a panel's setters say what the panel's own functions say: strengths, the greatest strength of a set, the path. Strength and path go by
+-- the functions level and other outputs, which agree with the tables on the panel's fields and lead to no others (`strength-same`).
 use mathlib.Core.Path.{_≡_, refl, sym, ap, ap₂, _∙_}
 use mathlib.Core.Logic.{_≢_}
 use mathlib.Core.Bool.{Bool, true, false, _&&_}

@@ -1,4 +1,6 @@
--- The reversal of a path one field at a time, with the tables: what sets the next field is a link or a stay.
+-- The reversal of a path one field at a time, with the tables. By cases on whether a number is a link's or a stay's, the code's two stores are `holding`
+-- (`holds`) and its last one `waiting` (`waits`). A table then changes at the field that is set, to its setter's entry, and nowhere else
+-- (`tabled-holding`), since levels, outputs and reads do not go by standings (`alike-setting`).
 use Prim.Native.Nat.{ℕ, _+_, _%_, _≤_, _<_}
 use mathlib.Core.Path.{_≡_, refl, sym, ap, _∙_}
 use mathlib.Core.Bool.{Bool, true, false, cond}
