@@ -1,4 +1,6 @@
--- Laws of field bytes: of the sets of their fields, of the scan that reads them, and of the check of an add.
+-- Laws of field bytes: of the sets of their fields, of the scan that reads them, and of the check of an add. By induction on the bytes; that they rise
+-- from a field on (`goodFrom`) lets a scan go from the front. Bytes that rise have as many fields as bytes, so the count of ones is their number and the
+-- two forms of the check are equal (`add-check`).
 use Prim.Native.Nat.{ℕ, suc, _+_, _/_, _%_, _^_, _≤_, _<_}
 use mathlib.Core.Path.{_≡_, refl, sym, ap, _∙_}
 use mathlib.Core.Bool.{Bool, true, false, not, _&&_, _||_, cond, and-assoc, and-true, and-false, or-assoc, or-comm, or-false}
