@@ -1,4 +1,4 @@
--- Writing a line. Assumes nothing.
+-- Writing a line: runs of stores, each behind the one before, are one run (`sets-append`), byte by byte and then part by part.
 use mathlib.Core.Path.{_≡_, refl, sym, ap, ap₂, _∙_}
 use mathlib.Core.List.{List, [], _∷_, _++_}
 use Prim.Native.Nat.{ℕ, _+_, _*_, _/_, _%_, _≤_, _<_}
