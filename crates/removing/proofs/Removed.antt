@@ -1,4 +1,7 @@
--- What a removal decides: by its checks, by the link's standing, and by what is blocked then.
+-- What a removal decides: by its checks, by the link's standing, and by what is blocked then. The checks agree with the command's (`remove-agree`). A
+-- waiting link is dropped and nothing else (`remove-waiting`). For one that holds v the tables with v's stay are the panel's without the link
+-- (`tabled`), so what is chosen is the definition's least blocked item; with none the drop is the step, else the verdict on it gives the answer
+-- (`comes`), by the laws of a reversal (`found-refused`, `decides-path`).
 use mathlib.Core.Path.{_≡_, refl, sym, ap, _∙_, subst}
 use mathlib.Core.Logic.{_≢_, _⊎_, inl, inr}
 use mathlib.Core.Bool.{true, not}
