@@ -68,10 +68,11 @@ number-small id level₁ c o r e = go (ltb 127 id) refl
     go true t = absurd (true≢false (sym (rw t refl) ∙ e))
     go false t = omega (arith, ltb-false 127 id t)
 
-module _ (p : Panel) (id level₁ : ℕ) (bytes : List ℕ) (c o : ℕ) (r : Bool) (f : FieldsOf bytes c o r) (old : Link) (same : old ≡ linkAt (p .links) (id % 128)) where
+module _ (p : Panel) (id level₁ : ℕ) (bytes : List ℕ) (c o : ℕ) (r : Bool)
+    (f : FieldsOf bytes c o r) (old : Link) (same : old ≡ linkAt (p .links) (id % 128)) where
   -- the number is taken where its link is in use, once it is one of 128
   add-agree : Agree (checkAdd (p .size) id level₁ c o r (old .used)) (addChecks p id level₁ bytes)
-  add-agree = (refl, refl, λ is-open. (bad-is, refl, λ fine. (outside-is, refl, λ inside. (used-is (number-small id level₁ c o r (bad-is ∙ fine)), refl, λ free. tt))))
+  add-agree = (refl, refl, λ is-open. (bad-is, refl, λ fine. (outside-is, refl, λ inside. (used-is (small fine), refl, λ free. tt))))
     where
       bad-is : isBadLink id level₁ c o r
           ≡ (ltb 127 id || ltb 15 level₁ || not (areFieldBytes bytes) || not (isRising bytes) || not (anyOf isOutput bytes))
@@ -80,19 +81,24 @@ module _ (p : Panel) (id level₁ : ℕ) (bytes : List ℕ) (c o : ℕ) (r : Boo
       outside-is : not (within c (below (p .size))) ≡ anyOf (λ b. leb (p .size) (fieldOf b)) bytes
       outside-is = ap not (ap (λ (m : ℕ). within m (below (p .size))) (f .covered) ∙ covered-within (p .size) bytes) ∙ Bool·not-not _
 
+      small : (ltb 127 id || ltb 15 level₁ || not (areFieldBytes bytes) || not (isRising bytes) || not (anyOf isOutput bytes)) ≡ false → id < 128
+      small fine = number-small id level₁ c o r (bad-is ∙ fine)
+
       used-is : id < 128 → old .used ≡ linkAt (p .links) id .used
       used-is l = ap (λ (x : Link). x .used) same ∙ ap (λ (i : ℕ). linkAt (p .links) i .used) (mod-eq-of-lt l)
 
   module _ (reply : Reply) (checks : replyBytes reply ≡ checkReply (checkAdd (p .size) id level₁ c o r (old .used))) where
     pub add-refused : (x : Refusal) → reply ≡ Refused x → refused p x ≡ performed p (adding id level₁ bytes)
     add-refused =
-        reply-refused p (checkAdd (p .size) id level₁ c o r (old .used)) (addChecks p id level₁ bytes) (addStep p id level₁ (coveredIn bytes) (outputsIn bytes))
+        reply-refused p (checkAdd (p .size) id level₁ c o r (old .used)) (addChecks p id level₁ bytes)
+        (addStep p id level₁ (coveredIn bytes) (outputsIn bytes))
         add-agree reply checks
 
     pub add-passes : Legal p → (m : ℕ) → reply ≡ Accepted m → (id % 128 ≡ id) × Entering p (id % 128) level₁ c o (adding id level₁ bytes)
     add-passes h m e =
         let (_, none, step) =
-        reply-accepted p (checkAdd (p .size) id level₁ c o r (old .used)) (addChecks p id level₁ bytes) (addStep p id level₁ (coveredIn bytes) (outputsIn bytes))
+        reply-accepted p (checkAdd (p .size) id level₁ c o r (old .used)) (addChecks p id level₁ bytes)
+        (addStep p id level₁ (coveredIn bytes) (outputsIn bytes))
         add-agree reply checks m e in
         let a = addable p id level₁ bytes none in
         let n : id % 128 ≡ id = mod-eq-of-lt (a .number) in (
@@ -183,13 +189,15 @@ module _ {p : Panel} {id level₁ covered outputs : ℕ} {cmd : Command} (x : En
 
       loops : Resolves Looped → refused p Loop ≡ performed p cmd
       loops e =
-          sym (resolved-loop p id (p .size) (p .place) _ Waiting new-change cmd path (link id) (new-legal .carrying) (new-legal .loopless) new-force levels others reads
+          sym (resolved-loop p id (p .size) (p .place) _ Waiting new-change cmd path (link id)
+          (new-legal .carrying) (new-legal .loopless) new-force levels others reads
           (new-tabled tab) new-waits level₁ outputs covered new-level new-outputs new-covered e reverses)
 
       conflicts : level₁ ≡ 0 → Resolves Free → refused p Conflict ≡ performed p cmd
       unfolding enterStep
       conflicts z e =
-          let free = resolved-free p id (p .size) (p .place) _ Waiting new-change cmd path (link id) (new-legal .carrying) (new-legal .loopless) new-force levels others reads
+          let free = resolved-free p id (p .size) (p .place) _ Waiting new-change cmd path (link id)
+          (new-legal .carrying) (new-legal .loopless) new-force levels others reads
           (new-tabled tab) new-waits level₁ outputs covered new-level new-outputs new-covered e in
           sym (x .step ∙ rw (free, eq-eqb level₁ 0 z, enterStep) refl)
 
@@ -211,6 +219,7 @@ module _ {p : Panel} {id level₁ covered outputs : ℕ} {cmd : Command} (x : En
         unfolding enterStep
         add-done l k el ek ne weak is =
             rw (is, el, ← ek)
-            (resolved-step p id (p .size) (p .place) _ Waiting new-change cmd path (link id) (new-legal .carrying) (new-legal .loopless) new-force levels others reads
+            (resolved-step p id (p .size) (p .place) _ Waiting new-change cmd path (link id)
+            (new-legal .carrying) (new-legal .loopless) new-force levels others reads
             (new-tabled tab) new-waits level₁ outputs covered new-level new-outputs new-covered t ne resolved
             (λ f b. x .step ∙ rw (b, ne-eqb level₁ 0 (weak f), enterStep) refl) reverses)

@@ -1,6 +1,6 @@
--- Laws of field bytes: of the sets of their fields, of the scan that reads them, and of the check of an add. By induction on the bytes; that they rise
--- from a field on (`goodFrom`) lets a scan go from the front. Bytes that rise have as many fields as bytes, so the count of ones is their number and the
--- two forms of the check are equal (`add-check`).
+-- Laws of field bytes: of the sets of their fields, of the scan that reads them, and of the check of an add. By induction on the bytes; that they
+-- rise from a field on (`goodFrom`) lets a scan go from the front. Bytes that rise have as many fields as bytes, so the count of ones is their number
+-- and the two forms of the check are equal (`add-check`).
 use Prim.Native.Nat.{ℕ, suc, _+_, _/_, _%_, _^_, _≤_, _<_}
 use mathlib.Core.Path.{_≡_, refl, sym, ap, _∙_}
 use mathlib.Core.Bool.{Bool, true, false, not, _&&_, _||_, cond, and-assoc, and-true, and-false, or-assoc, or-comm, or-false}
@@ -179,7 +179,8 @@ fields-more : (q : ℕ → Bool) (b : ℕ) (bs : List ℕ) (m : ℕ) → union (
 unfolding fieldsIn
 fields-more q b bs m = go (q b)
   where
-    go : (t : Bool) → union (cond t (with m (fieldOf b)) m) (fieldsIn q bs) ≡ union m (elim t [ true ↦ with (fieldsIn q bs) (fieldOf b) | false ↦ fieldsIn q bs ])
+    go : (t : Bool)
+        → union (cond t (with m (fieldOf b)) m) (fieldsIn q bs) ≡ union m (elim t [ true ↦ with (fieldsIn q bs) (fieldOf b) | false ↦ fieldsIn q bs ])
     go true = union-with m (fieldsIn q bs) (fieldOf b)
     go false = refl
 
@@ -257,13 +258,15 @@ check-rising false false false false o = refl
 -- an add is a bad link: as defined, and by the sets of its fields
 pub add-check : (id level : ℕ) (bytes : List ℕ)
     → (ltb 127 id || ltb 15 level || not (areFieldBytes bytes) || not (isRising bytes) || not (anyOf isOutput bytes))
-    ≡ (ltb 127 id || ltb 15 level || not (isRising bytes && not (anyOf hasBit6 bytes)) || eqb (size (coveredIn bytes)) 0 || ltb 8 (size (coveredIn bytes)) || eqb (outputsIn bytes) 0)
+    ≡ (ltb 127 id || ltb 15 level || not (isRising bytes && not (anyOf hasBit6 bytes))
+    || eqb (size (coveredIn bytes)) 0 || ltb 8 (size (coveredIn bytes)) || eqb (outputsIn bytes) 0)
 unfolding areFieldBytes
 add-check id level bytes = go (isRising bytes) refl
   where
     go : (r : Bool) → isRising bytes ≡ r
         → (ltb 127 id || ltb 15 level || not (leb 1 (length bytes) && leb (length bytes) 8 && not (anyOf hasBit6 bytes)) || not r || not (anyOf isOutput bytes))
-        ≡ (ltb 127 id || ltb 15 level || not (r && not (anyOf hasBit6 bytes)) || eqb (size (coveredIn bytes)) 0 || ltb 8 (size (coveredIn bytes)) || eqb (outputsIn bytes) 0)
+        ≡ (ltb 127 id || ltb 15 level || not (r && not (anyOf hasBit6 bytes))
+        || eqb (size (coveredIn bytes)) 0 || ltb 8 (size (coveredIn bytes)) || eqb (outputsIn bytes) 0)
     go false e =
         check-unordered (ltb 127 id || ltb 15 level) (not (leb 1 (length bytes) && leb (length bytes) 8 && not (anyOf hasBit6 bytes)))
         (eqb (size (coveredIn bytes)) 0) (ltb 8 (size (coveredIn bytes))) (eqb (outputsIn bytes) 0) (not (anyOf isOutput bytes))

@@ -62,7 +62,8 @@ module _ {A : Type 0} where
   pub passing-in : (q : A → Bool) (xs : List A) → All (λ x. In x xs × (q x ≡ true)) (passing q xs)
   unfolding passing
   passing-in q [] = tt
-  passing-in q (y ∷ ys) = go (q y) refl (all-map (λ x. In x ys × (q x ≡ true)) (λ x. In x (y ∷ ys) × (q x ≡ true)) (λ x (m, e). (inr m, e)) (passing q ys) (passing-in q ys))
+  passing-in q (y ∷ ys) = go (q y) refl (all-map (λ x. In x ys × (q x ≡ true)) (λ x. In x (y ∷ ys) × (q x ≡ true))
+      (λ x (m, e). (inr m, e)) (passing q ys) (passing-in q ys))
     where
       go : (b : Bool) → q y ≡ b → All (λ x. In x (y ∷ ys) × (q x ≡ true)) (passing q ys)
           → All (λ x. In x (y ∷ ys) × (q x ≡ true)) (cond b (y ∷ passing q ys) (passing q ys))

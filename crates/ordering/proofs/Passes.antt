@@ -79,7 +79,8 @@ module _ {reads : ℕ → ℕ} {set left rest f : ℕ} (p : Passing reads set le
       falls : without left f < left
       falls = without-falls left (p .fits) f (taken-was (p .loop) U ∙ taken-in (p .loop) U)
 
-      go : (test : ℕ → Bool) → Stuck reads test → ((f : ℕ) → test f ≡ true → member set f ≡ true) → (g : ℕ) → test g ≡ true → Dec (g ≡ f) → member (without left f) g ≡ true
+      go : (test : ℕ → Bool) → Stuck reads test → ((f : ℕ) → test f ≡ true → member set f ≡ true) → (g : ℕ) → test g ≡ true → Dec (g ≡ f)
+          → member (without left f) g ≡ true
       go test s h g e (yes d) =
           let (i, l, r, t) = s .reads-one g e in
           absurd (clash (p .keeps test s h i t) (meets-not (reads f) left m i l (rw (sym d) r)))

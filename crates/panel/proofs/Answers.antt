@@ -14,7 +14,9 @@ use Rattle.panel.specs.Answers.{refusalBytes, replyBytes}
 -- the refusal of a number
 abbrev pub refusalAt : ℕ → Refusal
 refusalAt n =
-    getD (BadHex ∷ BadHex ∷ BadFrame ∷ AlreadyOpen ∷ NotOpen ∷ BadSize ∷ BadLink ∷ NoSuchField ∷ LinkTaken ∷ NoSuchLink ∷ Conflict ∷ Loop ∷ TextTooLong ∷ []) n BadHex
+    getD
+    (BadHex ∷ BadHex ∷ BadFrame ∷ AlreadyOpen ∷ NotOpen ∷ BadSize ∷ BadLink ∷ NoSuchField ∷ LinkTaken ∷ NoSuchLink ∷ Conflict ∷ Loop ∷ TextTooLong ∷ [])
+    n BadHex
 
 pub refusal-at : (r : Refusal) → refusalAt (getD (refusalBytes r) 0 0) ≡ r
 refusal-at BadHex = refl

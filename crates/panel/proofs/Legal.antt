@@ -11,7 +11,7 @@ use borrow.Author.Tests.{lt-ltb, eq-eqb, eqb-true}
 use lib.ListN.{length, set, length-set, List·getD-eq-default}
 use lib.Seq.{getD-set-same, getD-set-other}
 use Rattle.fieldset.specs.Tables.{at}
-use Rattle.fieldset.specs.Fields.{size, member}
+use Rattle.fieldset.specs.Fields.{member}
 use Rattle.fieldset.proofs.Numbers.{clash}
 use Rattle.fieldset.proofs.Fields.{member-only}
 use Rattle.panel.specs.declared.Standing.{Standing}

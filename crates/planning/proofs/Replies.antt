@@ -1,5 +1,5 @@
--- A legal panel's plan, the length of the reply to it, and the panel that it leaves. Without a loop the plan lists every field (`plan-long`), with three
--- bytes each; the laws of the reply are by cases on whether the panel is open.
+-- A legal panel's plan, the length of the reply to it, and the panel that it leaves. Without a loop the plan lists every field (`plan-long`), with
+-- three bytes each; the laws of the reply are by cases on whether the panel is open.
 use Prim.Native.Nat.{ℕ, _*_, _<_}
 use mathlib.Core.Path.{_≡_, refl, sym, ap, _∙_}
 use mathlib.Core.Bool.{Bool, true, false, not}
@@ -51,7 +51,8 @@ plan-length p h = go (ltb 0 (p .size)) refl where
 pub plan-rest : (p : Panel) (r : Reply) → Legal p → replyBytes r ≡ take 2 (performed p planning .reply) → planRest r ≡ 3 * p .size
 unfolding checked planStep
 plan-rest p r h e = go (ltb 0 (p .size)) refl r e where
-  go : (b : Bool) → ltb 0 (p .size) ≡ b → (r : Reply) → replyBytes r ≡ take 2 (checked p (check (not b) NotOpen ∷ []) (planStep p) .reply) → planRest r ≡ 3 * p .size
+  go : (b : Bool) → ltb 0 (p .size) ≡ b → (r : Reply) → replyBytes r ≡ take 2 (checked p (check (not b) NotOpen ∷ []) (planStep p) .reply)
+      → planRest r ≡ 3 * p .size
   go true o (Accepted n) e = let same : n ≡ p .size = ap (λ (b : List ℕ). at b 1) e in omega arith
   go true o (Refused x) e = let z : _≡_ {A = ℕ} 255 0 = ap (λ (b : List ℕ). at b 0) e in absurd (omega arith)
   go false o (Accepted n) e = let z : _≡_ {A = ℕ} 0 255 = ap (λ (b : List ℕ). at b 0) e in absurd (omega arith)

@@ -13,7 +13,7 @@ use Rattle.fieldset.proofs.Tables.{length-tabulate, getD-tabulate}
 use Rattle.panel.specs.declared.Standing.the-variants.{Holding}
 use Rattle.panel.specs.declared.Panel.{Panel}
 use Rattle.panel.specs.declared.Step.{Step}
-use Rattle.panel.specs.Items.{link, linkAt, itemOf}
+use Rattle.panel.specs.Items.{linkAt, itemOf}
 use Rattle.panel.specs.Panels.{freed}
 use Rattle.panel.specs.Solution.{reversed}
 use Rattle.panel.specs.Outcomes.{altered, taken, Takes}

@@ -165,7 +165,8 @@ module _ {p : Panel} {f : ℕ} {cmd : Command} {place : List ℕ} (x : Front p f
             sym (resolved-loop p k (p .size) place named Waiting (unmoved p (x .legal) k named same place) cmd path (stay f)
             (front-as (Carrying (stay f)) (front-but .carrying)) (front-as (λ q. isLooped q ≡ false) (front-but .loopless)) front-force fresh others reads
             (front-as (λ q. Tabled q fresh others reads) front-tabled)
-            front-waits 16 (only f) (only f) front-level refl refl e (front-as (λ q. isBlocked q (stay f) ≡ true → performed p cmd ≡ reverseStep p q (stay f)) touch-reverses))
+            front-waits 16 (only f) (only f) front-level refl refl e
+            (front-as (λ q. isBlocked q (stay f) ≡ true → performed p cmd ≡ reverseStep p q (stay f)) touch-reverses))
 
         resolved-done : (t : Verdict) → t ≢ Looped → Resolves t → Decides p k cmd path (stepOf t (p .size) place named Waiting 128)
         resolved-done t ne e =

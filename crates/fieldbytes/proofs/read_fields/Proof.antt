@@ -1,6 +1,6 @@
--- `fieldbytes::read_fields` meets its contract. The loop's invariant (`Reading`): what is read, with the bytes that are left, is what the whole list of
--- bytes has; the measure is how many are left. `read-more` reads a byte, by cases on its bit 7 (`reads-output`, `reads-input`) and on whether it is
--- too low or has bit 6 (`reads-low`, `reads-bit`, `reads-rising`).
+-- `fieldbytes::read_fields` meets its contract. The loop's invariant (`Reading`): what is read, with the bytes that are left, is what the whole list
+-- of bytes has; the measure is how many are left. `read-more` reads a byte, by cases on its bit 7 (`reads-output`, `reads-input`) and on whether it
+-- is too low or has bit 6 (`reads-low`, `reads-bit`, `reads-rising`).
 use Prim.Native.Nat.{_-_}
 use mathlib.Core.Path.{_∙_}
 use mathlib.Core.Logic.{⊎-elim}

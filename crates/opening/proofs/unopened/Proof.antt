@@ -1,5 +1,5 @@
--- `opening::unopened` meets its contract. The loop's invariant (`mapped`, of `fieldset`): the first f places are their fields' numbers; the measure is
--- 64 - f. The panel of these parts is the unopened one (`made-unopened`).
+-- `opening::unopened` meets its contract. The loop's invariant (`mapped`, of `fieldset`): the first f places are their fields' numbers; the measure
+-- is 64 - f. The panel of these parts is the unopened one (`made-unopened`).
 use Prim.Native.Nat.{_≤_, _-_}
 use mathlib.Core.Path.{_≡_, refl, sym}
 use borrow.Author.Needs.{needs}

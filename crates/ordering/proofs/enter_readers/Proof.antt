@@ -1,5 +1,5 @@
--- `ordering::enter_readers` meets its contract. The loop's invariant (`Entering`): the field is entered for all of the set but the rest; the measure is
--- the rest. `entering-step` takes the lowest field of the rest.
+-- `ordering::enter_readers` meets its contract. The loop's invariant (`Entering`): the field is entered for all of the set but the rest; the measure
+-- is the rest. `entering-step` takes the lowest field of the rest.
 use mathlib.Core.Path.{ap}
 use native.Mathlib.Omega.{arith}
 use lib.ListN.{set}

@@ -77,7 +77,8 @@ loop-again c =
     let next = listing c in
     let loop = looping next in
     let s = start loop in
-    planning-step (s .pre .0) (loop .loop .inv) (next .first .ensures) (loop .before .before .before .readers-of .ensures) (readied .ready2 .ensures) (s .pre .1)
+    planning-step (s .pre .0) (loop .loop .inv) (next .first .ensures) (loop .before .before .before .readers-of .ensures)
+    (readied .ready2 .ensures) (s .pre .1)
     (others .before .without .ensures) (others .without-lowest .ensures) (c .union .ensures) refl
 
 returns : tie.Need-returns Inv-loop μ-loop

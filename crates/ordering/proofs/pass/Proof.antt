@@ -1,5 +1,5 @@
--- `ordering::pass` meets its contract. The loop's invariant (`Passing`): what is left of the set, with the rest yet to be looked at; the measure is the
--- rest. `passing-step` looks at its lowest field.
+-- `ordering::pass` meets its contract. The loop's invariant (`Passing`): what is left of the set, with the rest yet to be looked at; the measure is
+-- the rest. `passing-step` looks at its lowest field.
 use native.Mathlib.Omega.{arith}
 use Rattle.fieldset.specs.Tables.{at}
 use Rattle.fieldset.proofs.Emptying.{first-falls}

@@ -1,5 +1,5 @@
--- `ordering::ready` meets its contract. The loop's invariant (`Filtering`, of `fieldset`): what is gathered are the fields of the set, but for the rest,
--- that pass the test; the measure is the rest. Each field is gathered or passed over (`filter-step`).
+-- `ordering::ready` meets its contract. The loop's invariant (`Filtering`, of `fieldset`): what is gathered are the fields of the set, but for the
+-- rest, that pass the test; the measure is the rest. Each field is gathered or passed over (`filter-step`).
 use mathlib.Core.Path.{ap, sym, _∙_}
 use mathlib.Core.Bool.{not}
 use mathlib.Core.Logic.{⊎-elim, inl, inr}

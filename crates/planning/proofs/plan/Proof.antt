@@ -1,6 +1,6 @@
--- `planning::plan` meets its contract. An unopened panel is refused (`plan-closed`). Else the fields of the plan are listed (`listing`) and their rows
--- written one by one. The loop's invariant (`Written`): the rows of the first i fields stand at the start of the buffer, whose bytes behind are as they
--- were; the measure is how many are left. With all of them written the reply and the rows are the plan's (`plan-done`).
+-- `planning::plan` meets its contract. An unopened panel is refused (`plan-closed`). Else the fields of the plan are listed (`listing`) and their
+-- rows written one by one. The loop's invariant (`Written`): the rows of the first i fields stand at the start of the buffer, whose bytes behind are
+-- as they were; the measure is how many are left. With all of them written the reply and the rows are the plan's (`plan-done`).
 use Prim.Native.Nat.{ℕ, _-_, _<_}
 use mathlib.Core.Path.{refl, _∙_}
 use mathlib.Core.List.{List}

@@ -39,7 +39,8 @@ loop-again c =
     let low = next .loop-test .taken in (
       omega arith,
       tabled-set _ _ (loop .f) (loop .f + 1) (loop .f) _ _ _ low (λ f x y z l ne. (omega arith, λ s. s))
-          (entry-setting _ (loop .f) _ _ _ _ refl (ap (linkAt (p .links)) (c .before .before .before .wide .ensures)) refl (c .setter-entry .ensures)) (loop .inv .1),
+          (entry-setting _ (loop .f) _ _ _ _ refl (ap (linkAt (p .links)) (c .before .before .before .wide .ensures)) refl (c .setter-entry .ensures))
+          (loop .inv .1),
     )
 
 returns : tie.Need-returns Inv-loop μ-loop

@@ -1,5 +1,5 @@
--- `tables::stay_levels` meets its contract. The loop's invariant (`mapped`, of `fieldset`): the levels of the first f fields are by the places, the others
--- as they were; the measure is 64 - f.
+-- `tables::stay_levels` meets its contract. The loop's invariant (`mapped`, of `fieldset`): the levels of the first f fields are by the places, the
+-- others as they were; the measure is 64 - f.
 use Prim.Native.Nat.{ℕ, _-_, _≤_}
 use mathlib.Core.Path.{_≡_, sym, ap, _∙_}
 use mathlib.Core.List.{List}

@@ -1,5 +1,5 @@
--- `touching::to_front` meets its contract. The loop's invariant (`mapped`, of `fieldset`): the first g places that stood before f's are one further; the
--- measure is 64 - g. With f's place 0 after it, they are the definition's (`front-set`).
+-- `touching::to_front` meets its contract. The loop's invariant (`mapped`, of `fieldset`): of the first g places those before f's are one further,
+-- and all others are as they were; the measure is 64 - g. With f's own place 0 they are the definition's (`front-set`).
 use Prim.Native.Nat.{ℕ, _≤_, _-_}
 use mathlib.Core.Path.{_≡_, sym, ap, _∙_}
 use borrow.Author.Needs.{needs}

@@ -1,5 +1,5 @@
--- `writing::put_all` meets its contract. The loop's invariant (`Written`): the digits of the first i bytes are written; the measure is how many bytes are
--- left. The buffer keeps its length (`same`), so that every store is inside.
+-- `writing::put_all` meets its contract. The loop's invariant (`Written`): the digits of the first i bytes are written; the measure is how many bytes
+-- are left. The buffer keeps its length (`same`), so that every store is inside.
 use mathlib.Core.Path.{_≡_, refl, ap, _∙_}
 use Prim.Native.Nat.{_+_, _-_, _*_}
 use native.Mathlib.Omega.{arith}

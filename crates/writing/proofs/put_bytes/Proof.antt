@@ -1,5 +1,5 @@
--- `writing::put_bytes` meets its contract. Where all digits fit, by `put_all`'s. Else the loop's invariant (`Written`): the digits of the first i bytes are
--- written as far as they fit; the measure is how many bytes are left.
+-- `writing::put_bytes` meets its contract. Where all digits fit, by `put_all`'s. Else the loop's invariant (`Written`): the digits of the first i
+-- bytes are written as far as they fit; the measure is how many bytes are left.
 use mathlib.Core.Path.{_≡_, refl, ap, _∙_}
 use Prim.Native.Nat.{_-_}
 use native.Mathlib.Omega.{arith}
