@@ -20,7 +20,8 @@ ghost use Prim.Native.Nat.{_≤_, _%_};
 ghost use lib.ListN.{length};
 ghost use Rattle.panel.specs.Items.{linkAt};
 ghost use Rattle.panel.specs.Panels.{waitingLink};
-ghost use Rattle.panel.specs.Commands.{adding};
+ghost use Rattle.panel.specs.Answers.{replyBytes};
+ghost use Rattle.panel.specs.Commands.{checkReply, adding};
 ghost use Rattle.panel.specs.Legal.{Legal};
 ghost use Rattle.panel.specs.Outcomes.{Decides};
 ghost use Rattle.tables.specs.Tables.{Tabled};
@@ -53,7 +54,7 @@ fn is_bad_link(id: u8, level: u8, covered: u64, outputs: u64, rising: bool) -> b
 // The reply of an add's checks: the refusal of the first that applies, else acceptance.
 fn check_add(n: usize, id: u8, level: u8, fields: Fields, used: bool) -> Reply
     requires { ⌜ n ≤ 64 ⌝ }
-    ensures { λ r. ⌜ r ≡ checkAdd n id level (fields .covered) (fields .outputs) (fields .rising) used ⌝ }
+    ensures { λ r. ⌜ replyBytes r ≡ checkReply (checkAdd n id level (fields .covered) (fields .outputs) (fields .rising) used) ⌝ }
 {
     if n == 0 {
         return Reply::Refused(Refusal::NotOpen);

@@ -1,10 +1,11 @@
--- Laws of field bytes: of the sets of their fields, of the scan that reads them, and of the check of an add.
+-- Laws of field bytes: of the sets of their fields, of the scan that reads them, and of the check of an add. By induction on the bytes; that they
+-- rise from a field on (`goodFrom`) lets a scan go from the front. Bytes that rise have as many fields as bytes, so the count of ones is their number
+-- and the two forms of the check are equal (`add-check`).
 use Prim.Native.Nat.{ℕ, suc, _+_, _/_, _%_, _^_, _≤_, _<_}
 use mathlib.Core.Path.{_≡_, refl, sym, ap, _∙_}
 use mathlib.Core.Bool.{Bool, true, false, not, _&&_, _||_, cond, and-assoc, and-true, and-false, or-assoc, or-comm, or-false}
 use mathlib.Core.List.{List, [], _∷_}
 use native.Mathlib.Decide.{ℕ-discrete, decLt}
-use native.Mathlib.Nat.{mod-lt}
 use native.Mathlib.Numerals.{add-one}
 use native.Mathlib.Omega.{arith}
 use borrow.Author.Tests.{lt-ltb, le-ltb, le-leb, lt-leb, eq-eqb, ne-eqb, eqb-false, ltb-true}
@@ -18,11 +19,8 @@ use Rattle.fieldset.proofs.Numbers.{clash, any-here, any-cong}
 use Rattle.fieldset.proofs.Fields.{ext-member, member-empty, member-with, member-with-same, member-with-other, member-without-same, member-without-other, member-union, member-below, with-lt, without-lt, union-lt, size-empty, size-with, within-true}
 use Rattle.fieldset.proofs.Tests.{and-left, and-right, not-or}
 use Rattle.panel.specs.Commands.{fieldOf, isOutput, hasBit6, anyOf, fieldsIn, coveredIn, outputsIn, isRising, areFieldBytes}
-use Rattle.panel.proofs.Checks.{fields-lt}
+use Rattle.panel.proofs.Checks.{field-small, fields-lt}
 use Rattle.fieldbytes.specs.Bytes.{FieldsOf}
-
-field-lt : (b : ℕ) → fieldOf b < 64
-field-lt b = mod-lt b {m = 64} (omega arith)
 
 -- ---- the sets of fields
 
@@ -31,22 +29,6 @@ covered-lt bytes = fields-lt (λ b. true) bytes
 
 pub outputs-lt : (bytes : List ℕ) → outputsIn bytes < 2 ^ 64
 outputs-lt bytes = fields-lt isOutput bytes
-
--- a set of some of the fields is a set of covered fields
-pub fields-covered : (q : ℕ → Bool) (bytes : List ℕ) (u : ℕ) → u < 64 → member (fieldsIn q bytes) u ≡ true → member (coveredIn bytes) u ≡ true
-unfolding fieldsIn
-fields-covered q [] u l e = e
-fields-covered q (b ∷ bs) u l e = go (q b) (ℕ-discrete u (fieldOf b)) (fields-covered q bs u l) e
-  where
-    go : (t : Bool) → Dec (u ≡ fieldOf b) → (member (fieldsIn q bs) u ≡ true → member (coveredIn bs) u ≡ true)
-        → member (elim t [ true ↦ with (fieldsIn q bs) (fieldOf b) | false ↦ fieldsIn q bs ]) u ≡ true
-        → member (with (coveredIn bs) (fieldOf b)) u ≡ true
-    go t (yes d) ih e = rw d (member-with-same (coveredIn bs) (fieldOf b) (field-lt b))
-    go true (no d) ih e = member-with-other (coveredIn bs) (fieldOf b) u l d ∙ ih (sym (member-with-other (fieldsIn q bs) (fieldOf b) u l d) ∙ e)
-    go false (no d) ih e = member-with-other (coveredIn bs) (fieldOf b) u l d ∙ ih e
-
-pub outputs-covered : (bytes : List ℕ) (u : ℕ) → u < 64 → member (outputsIn bytes) u ≡ true → member (coveredIn bytes) u ≡ true
-outputs-covered bytes u l e = fields-covered isOutput bytes u l e
 
 -- the set is empty where no byte passes
 pub fields-none : (q : ℕ → Bool) (bytes : List ℕ) → eqb (fieldsIn q bytes) 0 ≡ not (anyOf q bytes)
@@ -58,7 +40,7 @@ fields-none q (b ∷ bs) = go (q b) (fields-none q bs)
         → eqb (elim t [ true ↦ with (fieldsIn q bs) (fieldOf b) | false ↦ fieldsIn q bs ]) 0 ≡ not (t || anyOf q bs)
     go true ih =
         ne-eqb (with (fieldsIn q bs) (fieldOf b)) 0
-        (λ e. clash (member-with-same (fieldsIn q bs) (fieldOf b) (field-lt b)) (rw e (member-empty (fieldOf b))))
+        (λ e. clash (member-with-same (fieldsIn q bs) (fieldOf b) (field-small b)) (rw e (member-empty (fieldOf b))))
     go false ih = ih
 
 pub outputs-none : (bytes : List ℕ) → eqb (outputsIn bytes) 0 ≡ not (anyOf isOutput bytes)
@@ -82,7 +64,7 @@ rising-above a [] j e h = member-empty j
 rising-above a (b ∷ bs) j e h =
     let low : fieldOf a < fieldOf b = ltb-true (fieldOf a) (fieldOf b) (and-left (ltb (fieldOf a) (fieldOf b)) (isRising (b ∷ bs)) e) in
     let apart : j ≡ fieldOf b → ⊥ = (λ d. omega arith) in
-    member-with-other (coveredIn bs) (fieldOf b) j (omega (arith, field-lt b)) apart
+    member-with-other (coveredIn bs) (fieldOf b) j (omega (arith, field-small b)) apart
     ∙ rising-above b bs j (rising-tail a (b ∷ bs) e) (omega arith)
 
 -- there are as many covered fields as bytes
@@ -90,7 +72,7 @@ pub covered-size : (bytes : List ℕ) → isRising bytes ≡ true → size (cove
 unfolding fieldsIn
 covered-size [] e = size-empty
 covered-size (b ∷ bs) e =
-    size-with (coveredIn bs) (fieldOf b) (field-lt b) (rising-above b bs (fieldOf b) e (omega arith))
+    size-with (coveredIn bs) (fieldOf b) (field-small b) (rising-above b bs (fieldOf b) e (omega arith))
     ∙ ap suc (covered-size bs (rising-tail b bs e))
 
 -- ---- fields of the panel
@@ -122,8 +104,8 @@ pub covered-within : (n : ℕ) (bytes : List ℕ) → within (coveredIn bytes) (
 unfolding fieldsIn anyOf
 covered-within n [] = within-true 0 (below n) (λ i l e. absurd (clash e (member-empty i)))
 covered-within n (b ∷ bs) =
-    within-with (coveredIn bs) (fieldOf b) (below n) (field-lt b)
-    ∙ rw (member-below n (fieldOf b) (field-lt b), ltb-not (fieldOf b) n, covered-within n bs)
+    within-with (coveredIn bs) (fieldOf b) (below n) (field-small b)
+    ∙ rw (member-below n (fieldOf b) (field-small b), ltb-not (fieldOf b) n, covered-within n bs)
     (sym (not-or (leb n (fieldOf b)) (anyOf (λ b. leb n (fieldOf b)) bs)))
 
 -- ---- reading from the front
@@ -187,7 +169,8 @@ fields-more : (q : ℕ → Bool) (b : ℕ) (bs : List ℕ) (m : ℕ) → union (
 unfolding fieldsIn
 fields-more q b bs m = go (q b)
   where
-    go : (t : Bool) → union (cond t (with m (fieldOf b)) m) (fieldsIn q bs) ≡ union m (elim t [ true ↦ with (fieldsIn q bs) (fieldOf b) | false ↦ fieldsIn q bs ])
+    go : (t : Bool)
+        → union (cond t (with m (fieldOf b)) m) (fieldsIn q bs) ≡ union m (elim t [ true ↦ with (fieldsIn q bs) (fieldOf b) | false ↦ fieldsIn q bs ])
     go true = union-with m (fieldsIn q bs) (fieldOf b)
     go false = refl
 
@@ -265,13 +248,15 @@ check-rising false false false false o = refl
 -- an add is a bad link: as defined, and by the sets of its fields
 pub add-check : (id level : ℕ) (bytes : List ℕ)
     → (ltb 127 id || ltb 15 level || not (areFieldBytes bytes) || not (isRising bytes) || not (anyOf isOutput bytes))
-    ≡ (ltb 127 id || ltb 15 level || not (isRising bytes && not (anyOf hasBit6 bytes)) || eqb (size (coveredIn bytes)) 0 || ltb 8 (size (coveredIn bytes)) || eqb (outputsIn bytes) 0)
+    ≡ (ltb 127 id || ltb 15 level || not (isRising bytes && not (anyOf hasBit6 bytes))
+    || eqb (size (coveredIn bytes)) 0 || ltb 8 (size (coveredIn bytes)) || eqb (outputsIn bytes) 0)
 unfolding areFieldBytes
 add-check id level bytes = go (isRising bytes) refl
   where
     go : (r : Bool) → isRising bytes ≡ r
         → (ltb 127 id || ltb 15 level || not (leb 1 (length bytes) && leb (length bytes) 8 && not (anyOf hasBit6 bytes)) || not r || not (anyOf isOutput bytes))
-        ≡ (ltb 127 id || ltb 15 level || not (r && not (anyOf hasBit6 bytes)) || eqb (size (coveredIn bytes)) 0 || ltb 8 (size (coveredIn bytes)) || eqb (outputsIn bytes) 0)
+        ≡ (ltb 127 id || ltb 15 level || not (r && not (anyOf hasBit6 bytes))
+        || eqb (size (coveredIn bytes)) 0 || ltb 8 (size (coveredIn bytes)) || eqb (outputsIn bytes) 0)
     go false e =
         check-unordered (ltb 127 id || ltb 15 level) (not (leb 1 (length bytes) && leb (length bytes) 8 && not (anyOf hasBit6 bytes)))
         (eqb (size (coveredIn bytes)) 0) (ltb 8 (size (coveredIn bytes))) (eqb (outputsIn bytes) 0) (not (anyOf isOutput bytes))

@@ -1,4 +1,5 @@
--- What the machine's operations on numbers of 64 bits do to sets of fields.
+-- What the machine's operations on numbers of 64 bits do to sets of fields. Each law compares members: two sets with the same ones are equal
+-- (`ext-member`), and the members of `a | b`, `a & b` and `!a` are by digits (`member-or`, `member-and`, `member-not`).
 use Prim.Native.Nat.{ℕ, zero, suc, _+_, _-_, _*_, _/_, _%_, _^_, _≤_, _<_, min, max}
 use mathlib.Core.Path.{_≡_, refl, sym, ap, _∙_}
 use mathlib.Core.Bool.{Bool, true, false, not, _&&_, _||_, cond, and-true, Bool·not-not}

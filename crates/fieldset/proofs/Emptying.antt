@@ -1,4 +1,5 @@
--- A loop over the fields of a set, which takes the lowest that is left until none is: the set is what is done and what is left.
+-- A loop over the fields of a set, which takes the lowest that is left until none is: the set is what is done and what is left. What is said of each
+-- field changes for the taken one alone (`empty-step`); the measure is what is left (`first-falls`).
 use Prim.Native.Nat.{ℕ, _^_, _<_}
 use mathlib.Core.Path.{_≡_, sym, _∙_}
 use mathlib.Core.Bool.{Bool, true, false, not, _&&_, and-true, and-false, and-not-self}

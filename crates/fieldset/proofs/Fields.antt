@@ -1,4 +1,5 @@
--- Laws of sets of fields: membership, bounds, equality by members, the lowest field, the size.
+-- Laws of sets of fields: membership, bounds, equality by members, the lowest field, the size. A set is the sum of its members' powers (`setOf-sum`),
+-- so two sets with the same members are equal (`ext-member`) and the other laws compare members.
 use Prim.Native.Nat.{ℕ, zero, suc, _+_, _*_, _/_, _%_, _^_, _≤_, _<_}
 use mathlib.Core.Path.{_≡_, refl, sym, ap, _∙_}
 use mathlib.Core.Bool.{Bool, true, false, not, _&&_, _||_, cond, and-false, or-true, or-false}
@@ -95,6 +96,11 @@ member-setOf p n i = go (decLt i n)
 pub member-empty : (i : ℕ) → member 0 i ≡ false
 unfolding member
 member-empty i = rw (zero-div (2 ^ i))
+
+-- a set with a member is not 0
+pub member-some : (m i : ℕ) → member m i ≡ true → 0 < m
+member-some zero i e = absurd (clash e (member-empty i))
+member-some (suc m) i e = omega arith
 
 -- a set with no member is empty
 pub empty-of-none : (k m : ℕ) → m < 2 ^ k → ((i : ℕ) → i < k → member m i ≡ false) → m ≡ 0

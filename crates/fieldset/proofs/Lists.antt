@@ -1,4 +1,5 @@
--- Laws of lists: members, what all entries have, lists without repeats, lists of the numbers below n, and places.
+-- Laws of lists: members, what all entries have, lists without repeats, lists of the numbers below n, and places. By induction on the list; n numbers
+-- below n without repeats are all of them by the pigeonhole (`whole-in`).
 use Prim.Native.Nat.{ℕ, zero, suc, _≤_, _<_, zero-le, suc-le-suc}
 use mathlib.Core.Path.{_≡_, refl, sym, ap, _∙_}
 use mathlib.Core.Bool.{Bool, true, false, cond}
@@ -61,7 +62,8 @@ module _ {A : Type 0} where
   pub passing-in : (q : A → Bool) (xs : List A) → All (λ x. In x xs × (q x ≡ true)) (passing q xs)
   unfolding passing
   passing-in q [] = tt
-  passing-in q (y ∷ ys) = go (q y) refl (all-map (λ x. In x ys × (q x ≡ true)) (λ x. In x (y ∷ ys) × (q x ≡ true)) (λ x (m, e). (inr m, e)) (passing q ys) (passing-in q ys))
+  passing-in q (y ∷ ys) = go (q y) refl (all-map (λ x. In x ys × (q x ≡ true)) (λ x. In x (y ∷ ys) × (q x ≡ true))
+      (λ x (m, e). (inr m, e)) (passing q ys) (passing-in q ys))
     where
       go : (b : Bool) → q y ≡ b → All (λ x. In x (y ∷ ys) × (q x ≡ true)) (passing q ys)
           → All (λ x. In x (y ∷ ys) × (q x ≡ true)) (cond b (y ∷ passing q ys) (passing q ys))

@@ -1,4 +1,5 @@
--- Tables that are written from the front: the first entries are a function's, the rest is as it was.
+-- Tables that are written from the front: the first entries are a function's, the rest is as it was. Two tables with the same entries are equal, and
+-- an entry is that of the part it stands in.
 use Prim.Native.Nat.{ℕ, suc, _+_, _≤_, _<_}
 use mathlib.Core.Path.{_≡_, refl, sym, ap, _∙_}
 use mathlib.Core.List.{List, [], _∷_, _++_, append-assoc, append-nil}

@@ -1,4 +1,5 @@
--- Laws of the numbers below n that pass a test: of sums over them, of how many there are, and of the lowest.
+-- Laws of the numbers below n that pass a test: of sums over them, of how many there are, and of the lowest. All are by induction on n; what holds of
+-- a count holds of the sum of ones, and what holds of the lowest follows from there being only one (`lowest-same`).
 use Prim.Native.Nat.{ℕ, zero, suc, _+_, _≤_, _<_, zero-le}
 use mathlib.Core.Path.{_≡_, refl, sym, ap, _∙_}
 use mathlib.Core.Bool.{Bool, true, false, not, _&&_, _||_, cond, and-true, and-false, and-not-self, or-true, true≢false}

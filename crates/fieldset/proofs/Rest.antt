@@ -1,4 +1,4 @@
--- What is left of the first n entries of a buffer behind i of them.
+-- What is left of the first n entries of a buffer behind i of them: the next entry and the rest behind it, or nothing.
 use Prim.Native.Nat.{ℕ, _+_, _≤_, _<_}
 use mathlib.Core.Path.{_≡_, _∙_}
 use mathlib.Core.List.{List, [], _∷_}

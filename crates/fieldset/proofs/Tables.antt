@@ -1,4 +1,4 @@
--- Laws of tables, and of runs of stores.
+-- Laws of tables, by induction on their length, and of runs of stores, by induction on what is stored.
 use Prim.Native.Nat.{ℕ, zero, suc, _+_, _-_, _<_}
 use mathlib.Core.Path.{_≡_, refl, sym, ap, _∙_}
 use mathlib.Core.Bool.{cond}

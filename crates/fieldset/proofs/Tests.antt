@@ -1,4 +1,4 @@
--- Laws of tests that are joined.
+-- Laws of tests that are joined, by cases on each.
 use mathlib.Core.Path.{_≡_, refl}
 use mathlib.Core.Bool.{Bool, true, false, not, _&&_, _||_, and-eq-true-iff}
 

@@ -1,4 +1,5 @@
--- The lines of a text: where a line ends, and what is behind it. Assumes nothing.
+-- The lines of a text: where a line ends, and what is behind it. By induction on the text, by cases on whether its first character is LF: the first
+-- line is what stands before the first LF, and the other lines are those of the text behind it (`lines-on`).
 use mathlib.Core.Path.{_≡_, refl, sym, ap, ap₂, _∙_}
 use mathlib.Core.Bool.{Bool, true, false, cond}
 use mathlib.Core.List.{List, [], _∷_}

@@ -1,4 +1,5 @@
--- The unopened panel, made of its parts.
+-- The unopened panel, made of its parts: with all places written the table is that of the definition (`mapped-all`), and the panel at opening is
+-- legal.
 use mathlib.Core.Path.{_≡_, refl, sym, ap, _∙_, subst}
 use mathlib.Core.List.{List}
 use Prim.Native.Nat.{ℕ, _≤_, zero-le}

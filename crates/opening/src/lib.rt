@@ -14,7 +14,8 @@ ghost use mathlib.Core.List.{List};
 ghost use lib.ListN.{length};
 ghost use Rattle.panel.specs.Items.{linkAt};
 ghost use Rattle.panel.specs.Panels.{opened};
-ghost use Rattle.panel.specs.Commands.{opening};
+ghost use Rattle.panel.specs.Answers.{replyBytes};
+ghost use Rattle.panel.specs.Commands.{checkReply, opening};
 ghost use Rattle.panel.specs.Legal.{Legal};
 ghost use Rattle.panel.specs.Outcomes.{Decides};
 ghost use Rattle.opening.specs.Checks.{checkOpen};
@@ -40,7 +41,7 @@ pub fn unopened() -> Panel
 
 // The reply of the checks of an opening with n fields, on a panel that has `size`.
 fn check_open(size: usize, n: u8) -> Reply
-    ensures { λ r. ⌜ r ≡ checkOpen size n ⌝ }
+    ensures { λ r. ⌜ replyBytes r ≡ checkReply (checkOpen size n) ⌝ }
 {
     if size != 0 {
         return Reply::Refused(Refusal::AlreadyOpen);

@@ -118,7 +118,8 @@ module _ (reads : ℕ → ℕ) (n : ℕ) (s : StuckFields reads n) where
 -- ---- a plan that leaves a field out leaves stuck fields
 
 -- where the plan stops, the unlisted fields are stuck
-stop-stuck : (reads : ℕ → ℕ) (n L : ℕ) → Inside reads n → ((f : ℕ) → f < n → able reads L f ≡ false) → (f : ℕ) → f < n → member L f ≡ false → StuckFields reads n
+stop-stuck : (reads : ℕ → ℕ) (n L : ℕ) → Inside reads n → ((f : ℕ) → f < n → able reads L f ≡ false) → (f : ℕ) → f < n → member L f ≡ false
+    → StuckFields reads n
 stop-stuck reads n L a none f l e = record {
   test = λ f. ltb f n && not (member L f);
   low = λ f t. ltb-true f n (and-left (ltb f n) (not (member L f)) t);
@@ -151,7 +152,8 @@ module _ (reads : ℕ → ℕ) (n : ℕ) (a : Inside reads n) where
           let c = unlisted-step reads n (a .few) L f (s .low) (s .unlisted) in
           lists (ih f (omega arith))
         where
-          lists : (length (following reads n k (with L f)) ≡ count (unlisted? (with L f)) n) ⊎ StuckFields reads n → (length (following reads n (suc k) L) ≡ count (unlisted? L) n) ⊎ StuckFields reads n
+          lists : (length (following reads n k (with L f)) ≡ count (unlisted? (with L f)) n) ⊎ StuckFields reads n
+              → (length (following reads n (suc k) L) ≡ count (unlisted? L) n) ⊎ StuckFields reads n
           lists (inl e) = inl (rw (s .is) (ap suc e ∙ sym (unlisted-step reads n (a .few) L f (s .low) (s .unlisted))))
           lists (inr t) = inr t
       go (inr s) ih = stops (any (unlisted? L) n) refl s

@@ -1,4 +1,5 @@
--- Laws of the passes of the loop test.
+-- Laws of the passes of the loop test. A pass takes no field of a stuck set, and takes none only where the whole set is stuck (`Passing`, `Passed`);
+-- so what is left after all passes is empty or stuck (`Looking`), and that is the loop of the definition (`looking-stuck`, `looking-none`).
 use Prim.Native.Nat.{ℕ, _^_, _≤_, _<_}
 use mathlib.Core.Path.{_≡_, refl, sym, ap, subst, _∙_}
 use mathlib.Core.Bool.{Bool, true, false, not, cond}
@@ -78,7 +79,8 @@ module _ {reads : ℕ → ℕ} {set left rest f : ℕ} (p : Passing reads set le
       falls : without left f < left
       falls = without-falls left (p .fits) f (taken-was (p .loop) U ∙ taken-in (p .loop) U)
 
-      go : (test : ℕ → Bool) → Stuck reads test → ((f : ℕ) → test f ≡ true → member set f ≡ true) → (g : ℕ) → test g ≡ true → Dec (g ≡ f) → member (without left f) g ≡ true
+      go : (test : ℕ → Bool) → Stuck reads test → ((f : ℕ) → test f ≡ true → member set f ≡ true) → (g : ℕ) → test g ≡ true → Dec (g ≡ f)
+          → member (without left f) g ≡ true
       go test s h g e (yes d) =
           let (i, l, r, t) = s .reads-one g e in
           absurd (clash (p .keeps test s h i t) (meets-not (reads f) left m i l (rw (sym d) r)))

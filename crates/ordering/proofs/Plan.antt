@@ -1,4 +1,5 @@
--- Laws of the plan: what it lists, in which order, and that it goes by the reads alone.
+-- Laws of the plan: what it lists, in which order, and that it goes by the reads alone. All go along the list by `step`: a field comes next
+-- (`Lists`), or nothing can (`Stops`).
 use Prim.Native.Nat.{ℕ, zero, suc, _≤_, _<_}
 use mathlib.Core.Path.{_≡_, refl, sym, ap, _∙_, subst}
 use mathlib.Core.Bool.{Bool, true, false, not, _&&_, _||_}
@@ -112,8 +113,11 @@ module _ (reads : ℕ → ℕ) (n : ℕ) (few : n ≤ 64) where
       go : ((f : ℕ) × Lists reads n k L f) ⊎ Stops reads n k L → ((f : ℕ) → Distinct (following reads n k (with L f)))
           → Distinct (following reads n (suc k) L)
       go (inl (f, s)) ih =
-          rw (s .is)
-          (all-map (New (with L f)) (λ g. f ≢ g) (λ g (l, e). with-unlisted L f g (omega arith) e .1) (following reads n k (with L f)) (following-new k (with L f)), ih f)
+          rw (s .is) (
+            all-map (New (with L f)) (λ g. f ≢ g) (λ g (l, e). with-unlisted L f g (omega arith) e .1)
+                (following reads n k (with L f)) (following-new k (with L f)),
+            ih f,
+          )
       go (inr s) ih = rw (s .is) tt
 
   -- a field that is listed is one unlisted field less
@@ -150,7 +154,8 @@ module _ (reads : ℕ → ℕ) (n g f : ℕ) (l : f < 64) (e : member (reads g) 
   following-before zero L = λ m. absurd m
   following-before (suc k) L = go (step reads n k L) (λ x. following-before k (with L x))
     where
-      go : ((x : ℕ) × Lists reads n k L x) ⊎ Stops reads n k L → ((x : ℕ) → Before f g (with L x) (following reads n k (with L x))) → Before f g L (following reads n (suc k) L)
+      go : ((x : ℕ) × Lists reads n k L x) ⊎ Stops reads n k L → ((x : ℕ) → Before f g (with L x) (following reads n k (with L x)))
+          → Before f g L (following reads n (suc k) L)
       go (inl (x, s)) ih = subst (Before f g L) (sym (s .is)) (before-cons L x (following reads n k (with L x)) (s .reads-listed) (ih x))
       go (inr s) ih = subst (Before f g L) (sym (s .is)) (λ m. absurd m)
 

@@ -1,4 +1,5 @@
--- Laws of the plan's loop: what is left, what can be listed, and what stands in the buffer.
+-- Laws of the plan's loop: what is left, what can be listed, and what stands in the buffer. The lowest field that can be listed is the definition's
+-- next (`next-ready`); after it, of the fields that are left only its readers can have become ready (`planning-step`).
 use Prim.Native.Nat.{ℕ, zero, suc, _+_, _^_, _≤_, _<_}
 use mathlib.Core.Path.{_≡_, refl, sym, ap, ap₂, _∙_}
 use mathlib.Core.Bool.{Bool, true, false, not, _&&_, _||_, and-true, and-false, and-assoc, and-comm, or-false}
@@ -35,7 +36,8 @@ ready-is reads set left e g l = rw e (member-filter (λ f. not (meets (reads f) 
 abbrev Apart : ℕ → ℕ → ℕ → Type 0
 Apart n listed left = (f : ℕ) → f < n → not (member listed f) ≡ member left f
 
-module _ (reads : ℕ → ℕ) (n listed left ready : ℕ) (a : Inside reads n) (low : (f : ℕ) → member left f ≡ true → f < n) (apart : Apart n listed left) (r : Ready reads left left ready) where
+module _ (reads : ℕ → ℕ) (n listed left ready : ℕ) (a : Inside reads n)
+    (low : (f : ℕ) → member left f ≡ true → f < n) (apart : Apart n listed left) (r : Ready reads left left ready) where
   able-ready : (g : ℕ) → g < n → able reads listed g ≡ member ready g
   unfolding within meets
   able-ready g l =
@@ -79,7 +81,8 @@ pub record Planning (reads : ℕ → ℕ) (n : ℕ) (before out : List ℕ) (lef
   pub enough : count (unlisted? listed) n ≤ fuel
   pub plan : order reads n ≡ prefix ++ following reads n fuel listed
 
-pub planning-start : {reads : ℕ → ℕ} {n : ℕ} {before : List ℕ} {left ready : ℕ} → n ≤ 64 → left ≡ below n → ready ≡ readyOf reads left left → Planning reads n before before left ready 0
+pub planning-start : {reads : ℕ → ℕ} {n : ℕ} {before : List ℕ} {left ready : ℕ} → n ≤ 64 → left ≡ below n → ready ≡ readyOf reads left left
+    → Planning reads n before before left ready 0
 unfolding order
 planning-start {reads} {n} {before} {left} {ready} few e r = record {
   fits = rw e (below-lt n);
@@ -100,10 +103,12 @@ planning-start {reads} {n} {before} {left} {ready} few e r = record {
 pub planning-end : {reads : ℕ → ℕ} {n : ℕ} {before out : List ℕ} {left ready k : ℕ} → Inside reads n → Planning reads n before out left ready k → ready ≡ 0
     → (k ≡ length (order reads n)) × (out ≡ order reads n ++ drop k before)
 planning-end {reads} {n} {before} {out} {left} {ready} {k} a p z =
-    let e : order reads n ≡ p .prefix = p .plan ∙ rw (following-none reads n (p .fuel) (p .listed) (next-none reads n (p .listed) left ready a (p .low) (p .apart) (p .readies) z)) (append-nil (p .prefix)) in
+    let none = next-none reads n (p .listed) left ready a (p .low) (p .apart) (p .readies) z in
+    let e : order reads n ≡ p .prefix = p .plan ∙ rw (following-none reads n (p .fuel) (p .listed) none) (append-nil (p .prefix)) in
     (sym (p .long) ∙ ap length (sym e), p .out-is ∙ ap (λ xs. xs ++ drop k before) (sym e))
 
-module _ {reads : ℕ → ℕ} {n : ℕ} {before out : List ℕ} {left ready k : ℕ} (a : Inside reads n) (p : Planning reads n before out left ready k) {f : ℕ} (U : First ready f) where
+module _ {reads : ℕ → ℕ} {n : ℕ} {before out : List ℕ} {left ready k : ℕ} (a : Inside reads n)
+    (p : Planning reads n before out left ready k) {f : ℕ} (U : First ready f) where
   in-left : member left f ≡ true
   in-left = ready-left reads n (p .listed) left ready a (p .low) (p .apart) (p .readies) f (U .field) (U .is-in) .0
 
@@ -165,8 +170,18 @@ module _ {reads : ℕ → ℕ} {n : ℕ} {before out : List ℕ} {left ready k :
             rw (member-without ready f g l, p .readies g l, meets-some (reads g) left f (U .field) m in-left, and-false (member left g))
             (more-is true m ∙ rw (and-true (ltb g n), reads-f m))
         go false m =
-            rw (more-is false m, and-false (ltb g n), or-false (member (without ready f) g), member-without ready f g l, p .readies g l, ← meets-without (reads g) left f m, member-without left f g l)
-            (and-assoc (member left g) none (not (eqb g f)) ∙ ap (λ b. member left g && b) (and-comm none (not (eqb g f))) ∙ sym (and-assoc (member left g) (not (eqb g f)) none))
+            rw (
+              more-is false m,
+              and-false (ltb g n),
+              or-false (member (without ready f) g),
+              member-without ready f g l,
+              p .readies g l,
+              ← meets-without (reads g) left f m,
+              member-without left f g l,
+            )
+            (and-assoc (member left g) none (not (eqb g f))
+            ∙ ap (λ b. member left g && b) (and-comm none (not (eqb g f)))
+            ∙ sym (and-assoc (member left g) (not (eqb g f)) none))
 
     planning-next : length before ≡ 64 → Planning reads n before (set out k f) (without left f) (union (without ready f) more) (k + 1)
     planning-next long =
@@ -201,7 +216,8 @@ module _ {reads : ℕ → ℕ} {n : ℕ} {before out : List ℕ} {left ready k :
         closed′ g l i (no d) = p .closed g l (sym (member-without-other left f g (omega (arith, a .few)) d) ∙ i)
 
   -- the same of the code's values
-  pub planning-step : {readers out′ : List ℕ} {left′ ready′ rest more : ℕ} → Readers reads n readers → more ≡ readyOf reads (at readers f) left′ → length before ≡ 64
+  pub planning-step : {readers out′ : List ℕ} {left′ ready′ rest more : ℕ} → Readers reads n readers → more ≡ readyOf reads (at readers f) left′
+      → length before ≡ 64
       → left′ ≡ without left f → rest ≡ without ready (lowestOf ready) → ready′ ≡ union rest more → out′ ≡ set out k f
       → Planning reads n before out′ left′ ready′ (k + 1)
   planning-step {readers} {more = more} rs mr long el er e eo =

@@ -1,4 +1,5 @@
--- Laws of the readers of each field.
+-- Laws of the readers of each field: of the loop that enters one field as a reader (`Entering`), and of that over all fields (`ReadersUpTo`). An
+-- entry of the table changes only for the fields that are read (`entering-step`), and gains the one bit (`readers-step`).
 use Prim.Native.Nat.{ℕ, suc, _+_, _≤_, _<_, zero-le}
 use mathlib.Core.Path.{_≡_, refl, ap, _∙_}
 use mathlib.Core.Bool.{Bool, true, false, _&&_, cond}
@@ -53,7 +54,8 @@ readers-start {reads} = record {
   };
 }
 
-pub readers-step : {reads : ℕ → ℕ} {n f : ℕ} {before after : List ℕ} → n ≤ 64 → f < n → ReadersUpTo reads n f before → length after ≡ 64 → Entered f (reads f) before after
+pub readers-step : {reads : ℕ → ℕ} {n f : ℕ} {before after : List ℕ} → n ≤ 64 → f < n → ReadersUpTo reads n f before → length after ≡ 64
+    → Entered f (reads f) before after
     → ReadersUpTo reads n (f + 1) after
 readers-step {reads} {n} {f} {before} {after} few l t long e = rw (add-one f) (record {
   few = l;
@@ -66,7 +68,8 @@ readers-step {reads} {n} {f} {before} {after} few l t long e = rw (add-one f) (r
     low : f < 64
     low = omega arith
 
-    go : (g j : ℕ) → g < 64 → j < 64 → (b : Bool) → member (reads f) g ≡ b → Dec (j ≡ f) → member (cond b (with (at before g) f) (at before g)) j ≡ (ltb j (suc f) && member (reads j) g)
+    go : (g j : ℕ) → g < 64 → j < 64 → (b : Bool) → member (reads f) g ≡ b → Dec (j ≡ f)
+        → member (cond b (with (at before g) f) (at before g)) j ≡ (ltb j (suc f) && member (reads j) g)
     go g j l k true m (yes d) = rw (d, m, lt-ltb f (suc f) (le-refl (suc f))) (member-with-same (at before g) f low)
     go g j l k false m (yes d) = rw (d, m, lt-ltb f (suc f) (le-refl (suc f))) (t .readers-of .each g f l low ∙ rw (le-ltb f f (le-refl f)))
     go g j l k b m (no d) = kept b ∙ t .readers-of .each g j l k ∙ ap (λ x. x && member (reads j) g) (ltb-suc j f d)

@@ -1,4 +1,4 @@
--- Laws of tests and of two sets of fields.
+-- Laws of tests and of two sets of fields: within and meets, by a field that the one has and the other has or lacks.
 use Prim.Native.Nat.{ℕ, _<_}
 use mathlib.Core.Path.{_≡_, refl, sym, ap, _∙_}
 use mathlib.Core.Bool.{Bool, true, false, not, _&&_, _||_, and-comm}

@@ -1,4 +1,5 @@
--- The numbers and values of an answer: how many there are, and that they tell its cases apart. Assumes nothing.
+-- The numbers and values of an answer: how many there are, and that they tell its cases apart. A refusal is read back from its number
+-- (`refusal-at`).
 use mathlib.Core.Path.{_≡_, refl, sym, ap, _∙_}
 use mathlib.Core.List.{List, [], _∷_}
 use Prim.Native.Nat.{ℕ, suc}
@@ -13,7 +14,9 @@ use Rattle.panel.specs.Answers.{refusalBytes, replyBytes}
 -- the refusal of a number
 abbrev pub refusalAt : ℕ → Refusal
 refusalAt n =
-    getD (BadHex ∷ BadHex ∷ BadFrame ∷ AlreadyOpen ∷ NotOpen ∷ BadSize ∷ BadLink ∷ NoSuchField ∷ LinkTaken ∷ NoSuchLink ∷ Conflict ∷ Loop ∷ TextTooLong ∷ []) n BadHex
+    getD
+    (BadHex ∷ BadHex ∷ BadFrame ∷ AlreadyOpen ∷ NotOpen ∷ BadSize ∷ BadLink ∷ NoSuchField ∷ LinkTaken ∷ NoSuchLink ∷ Conflict ∷ Loop ∷ TextTooLong ∷ [])
+    n BadHex
 
 pub refusal-at : (r : Refusal) → refusalAt (getD (refusalBytes r) 0 0) ≡ r
 refusal-at BadHex = refl

@@ -1,4 +1,5 @@
--- The panel at opening, and the changes that come before a reversal, are legal: a new link, a link dropped, a stay moved to the front.
+-- The panel at opening, and the changes that come before a reversal, are legal: a new link, a link dropped, a stay moved to the front. Each is shown
+-- part by part (places, links, setters, no loop): a link that sets nothing changes no setter's reads, and the moved places are again without ties.
 use Prim.Native.Nat.{ℕ, _+_, _≤_, _<_}
 use mathlib.Core.Path.{_≡_, refl, sym, ap, _∙_, subst}
 use mathlib.Core.Bool.{Bool, true, false}

@@ -1,16 +1,17 @@
--- What holds where no check applies.
+-- What holds where no check applies, and what a reply of checks says. `checks-say` goes along two lists of checks that agree, check by check; the
+-- laws of field bytes go along the list of bytes. `addable`, `removable`, `touchable` and `openable` then read off what a command needs that passes
+-- its checks.
 use Prim.Native.Nat.{ℕ, zero, suc, _+_, _^_, _≤_, _<_}
-use mathlib.Core.Path.{_≡_, refl, sym, ap, _∙_}
-use mathlib.Core.Bool.{Bool, true, false, not, _&&_, _||_, or-false, or-comm, cond}
+use mathlib.Core.Path.{_≡_, refl, sym, ap, _∙_, subst}
+use mathlib.Core.Bool.{Bool, true, false, not, _&&_, _||_, or-false, or-comm}
 use mathlib.Core.List.{List, [], _∷_}
 use native.Mathlib.Omega.{arith}
 use borrow.Author.Tests.{ltb-true, ltb-false, leb-true, leb-false, eqb-true, eqb-false, eq-eqb, not-false}
 use lib.Dec.{eqb, leb, ltb}
 use lib.ListN.{length}
-use Rattle.fieldset.specs.Lists.{All}
 use Rattle.fieldset.specs.Fields.{member, with, without, size}
 use Rattle.fieldset.proofs.Numbers.{clash}
-use Rattle.fieldset.proofs.Fields.{member-with, member-with-same, member-without-same, member-without-other, member-empty, with-lt, size-without, size-mono, size-empty}
+use Rattle.fieldset.proofs.Fields.{member-with, member-with-same, member-without-same, member-without-other, member-empty, member-some, with-lt, size-without, size-mono, size-empty}
 use Rattle.fieldset.proofs.Tests.{and-left, and-right}
 use Rattle.panel.specs.declared.Link.{Link}
 use Rattle.panel.specs.declared.Panel.{Panel}
@@ -18,15 +19,14 @@ use Rattle.panel.specs.declared.Refusal.{Refusal}
 use Rattle.panel.specs.declared.Reply.{Reply}
 use Rattle.panel.specs.declared.Reply.the-variants.{Accepted, Refused}
 use Rattle.panel.specs.Items.{linkAt}
-use Rattle.panel.specs.Answers.{Answer, refused}
+use Rattle.panel.specs.Answers.{Answer, refused, replyBytes}
 use Rattle.panel.specs.Panels.{waitingLink}
-use Rattle.panel.specs.Commands.{fieldOf, isOutput, hasBit6, anyOf, fieldsIn, coveredIn, outputsIn, isRising, areFieldBytes, Check, check, checked, isOpen, openChecks, addChecks, removeChecks, touchChecks, Command, performed}
+use Rattle.panel.specs.Commands.{fieldOf, isOutput, hasBit6, anyOf, fieldsIn, coveredIn, outputsIn, isRising, areFieldBytes, Check, checked, checkReply, isOpen, openChecks, addChecks, removeChecks, touchChecks}
 use Rattle.panel.specs.Legal.{Formed}
+use Rattle.panel.proofs.Answers.{replies-apart}
+pub use Rattle.panel.specs.Commands.{NoneApply}
 
 -- ---- checks in turn
-
-abbrev pub NoneApply : List Check → Type 0
-NoneApply = All (λ c. c .applies ≡ false)
 
 -- what holds of the panel before, and of that after the step where no check applies, holds of that after the command
 pub checked-panel : (P : Panel → Type 0) (p : Panel) (cs : List Check) (step : Answer) → P p → (NoneApply cs → P (step .panel))
@@ -39,28 +39,51 @@ checked-panel P p (c ∷ cs) step h k = go (c .applies) refl (λ e. checked-pane
     go true e ih = rw e h
     go false e ih = rw e (ih e)
 
--- by the first check: it applies, or it does not
-pub applies : (p : Panel) (b : Bool) (r : Refusal) (cs : List Check) (step : Answer) → b ≡ true → refused p r ≡ checked p (check b r ∷ cs) step
+-- ---- the reply of checks
+
+-- the same refusals in turn, of which each applies in both lists or in neither; only where no earlier one applies does this matter
+abbrev pub Agree : List Check → List Check → Type 0
+Agree [] [] = Unit {0}
+Agree [] (d ∷ ds) = ⊥
+Agree (c ∷ cs) [] = ⊥
+Agree (c ∷ cs) (d ∷ ds) = (c .applies ≡ d .applies) × (c .refusal ≡ d .refusal) × (d .applies ≡ false → Agree cs ds)
+
+pub agree-same : (cs : List Check) → Agree cs cs
+agree-same [] = tt
+agree-same (c ∷ cs) = (refl, refl, λ e. agree-same cs)
+
+-- what a reply of checks says of an answer: a refusal is the answer, and acceptance is that the step is carried out
+abbrev Says : Panel → List Check → Answer → Reply → Type 0
+Says p ds step (Refused x) = refused p x ≡ checked p ds step
+Says p ds step (Accepted m) = (m ≡ 0) × NoneApply ds × (checked p ds step ≡ step)
+
+says-same : (p : Panel) (ds : List Check) (step : Answer) (r s : Reply) → replyBytes r ≡ replyBytes s → Says p ds step s → Says p ds step r
+says-same p ds step r s e h = subst (Says p ds step) (sym (replies-apart r s e)) h
+
+-- one check more, which does not apply
+says-more : (p : Panel) (d : Check) (ds : List Check) (step : Answer) (r : Reply) → d .applies ≡ false → Says p ds step r → Says p (d ∷ ds) step r
 unfolding checked
-applies p b r cs step e = rw e
+says-more p d ds step (Refused x) e h = rw e h
+says-more p d ds step (Accepted m) e (z, n, h) = (z, (e, n), rw e h)
 
-pub passes : (p : Panel) (b : Bool) (r : Refusal) (cs : List Check) (step a : Answer) → b ≡ false → a ≡ checked p cs step → a ≡ checked p (check b r ∷ cs) step
-unfolding checked
-passes p b r cs step a e t = rw e t
+checks-say : (p : Panel) (cs ds : List Check) (step : Answer) (r : Reply) → Agree cs ds → replyBytes r ≡ checkReply cs → Says p ds step r
+unfolding checked checkReply
+checks-say p [] [] step r a e = says-same p [] step r (Accepted 0) e (refl, tt, refl)
+checks-say p [] (d ∷ ds) step r a e = absurd a
+checks-say p (c ∷ cs) [] step r a e = absurd a
+checks-say p (c ∷ cs) (d ∷ ds) step r (b, x, a) e = go (d .applies) refl (λ f. checks-say p cs ds step r (a f))
+  where
+    go : (t : Bool) → d .applies ≡ t → (d .applies ≡ false → replyBytes r ≡ checkReply cs → Says p ds step r) → Says p (d ∷ ds) step r
+    go true f ih = says-same p (d ∷ ds) step r (Refused (d .refusal)) (rw (b, f, x) at e) (rw f refl)
+    go false f ih = says-more p d ds step r f (ih f (rw (b, f) at e))
 
-pub none-left : (p : Panel) (step a : Answer) → a ≡ step → a ≡ checked p [] step
-unfolding checked
-none-left p step a t = t
+-- the checks of an operation, which has the numbers alone, agree with the command's: its reply is the command's refusal, or the command passes
+module _ (p : Panel) (cs ds : List Check) (step : Answer) (agree : Agree cs ds) (r : Reply) (bytes : replyBytes r ≡ checkReply cs) where
+  pub reply-refused : (x : Refusal) → r ≡ Refused x → refused p x ≡ checked p ds step
+  reply-refused x e = subst (Says p ds step) e (checks-say p cs ds step r agree bytes)
 
--- what the reply of a command's checks says: a refusal is the command's, and what is accepted has a property
-abbrev pub Says : Panel → Command → Type 0 → Reply → Type 0
-Says p c P (Refused x) = refused p x ≡ performed p c
-Says p c P (Accepted m) = (m ≡ 0) × P
-
-pub says : (p : Panel) (c : Command) (P : Type 0) (b : Bool) (x : Refusal) (y : Reply) → (b ≡ true → refused p x ≡ performed p c) → (b ≡ false → Says p c P y)
-    → Says p c P (cond b (Refused x) y)
-says p c P true x y t e = t refl
-says p c P false x y t e = e refl
+  pub reply-accepted : (m : ℕ) → r ≡ Accepted m → (m ≡ 0) × NoneApply ds × (checked p ds step ≡ step)
+  reply-accepted m e = subst (Says p ds step) e (checks-say p cs ds step r agree bytes)
 
 or-left : (a b : Bool) → (a || b) ≡ false → a ≡ false
 or-left true b e = e
@@ -172,7 +195,7 @@ new-formed n level bytes low few some inside = record {
   outputs-small = fields-lt isOutput bytes;
   inside = λ u l e. covered-inside u (anyOf-found (λ b. true && eqb u (fieldOf b)) bytes (sym (member-fields (λ b. true) bytes u l) ∙ e));
   subset = λ u l e. outputs-covered u l (anyOf-found (λ b. isOutput b && eqb u (fieldOf b)) bytes (sym (member-fields isOutput bytes u l) ∙ e));
-  some-output = positive (outputsIn bytes) f (member-fields isOutput bytes f (field-small (out .byte)) ∙ output-any);
+  some-output = member-some (outputsIn bytes) f (member-fields isOutput bytes f (field-small (out .byte)) ∙ output-any);
   few = omega (arith, size-fields (λ b. true) bytes);
 }
   where
@@ -195,10 +218,6 @@ new-formed n level bytes low few some inside = record {
 
     output-any : anyOf (λ b. isOutput b && eqb f (fieldOf b)) bytes ≡ true
     output-any = found-any isOutput (λ b. isOutput b && eqb f (fieldOf b)) bytes out (rw (out .passes) (eq-eqb f f refl))
-
-    positive : (m u : ℕ) → member m u ≡ true → 0 < m
-    positive zero u e = absurd (clash e (member-empty u))
-    positive (suc m) u e = omega arith
 
 pub record Addable (p : Panel) (id level : ℕ) (bytes : List ℕ) : Type 0 where
   pub is-open : 0 < p .size

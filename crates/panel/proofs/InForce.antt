@@ -1,4 +1,4 @@
--- What is known of a link in force. But for the computed items, nothing else looks into the definition.
+-- What is known of a link in force, by cases on its use and its standing. But for the computed items, nothing else looks into the definition.
 use Prim.Native.Nat.{ℕ}
 use mathlib.Core.Path.{_≡_}
 use mathlib.Core.Bool.{true, false}

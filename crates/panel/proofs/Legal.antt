@@ -1,4 +1,5 @@
--- A legal panel by its parts (places, links, setters), the same with one item that sets nothing left open, and what follows from it.
+-- A legal panel by its parts (places, links, setters), the same with one item that sets nothing left open, and what follows from it. `legal` and
+-- `carrying` go from the one to the other; `held-step` is the one step of a reversal: the open item takes a field, and its setter is open then.
 use Prim.Native.Nat.{ℕ, _≤_, _<_}
 use mathlib.Core.Path.{_≡_, refl, sym, ap, _∙_, subst}
 use mathlib.Core.Bool.{true, false}
@@ -10,7 +11,7 @@ use borrow.Author.Tests.{lt-ltb, eq-eqb, eqb-true}
 use lib.ListN.{length, set, length-set, List·getD-eq-default}
 use lib.Seq.{getD-set-same, getD-set-other}
 use Rattle.fieldset.specs.Tables.{at}
-use Rattle.fieldset.specs.Fields.{size, member}
+use Rattle.fieldset.specs.Fields.{member}
 use Rattle.fieldset.proofs.Numbers.{clash}
 use Rattle.fieldset.proofs.Fields.{member-only}
 use Rattle.panel.specs.declared.Standing.{Standing}

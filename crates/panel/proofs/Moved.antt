@@ -1,4 +1,5 @@
--- Which fields get another setter when a path is reversed, and how many moved.
+-- Which fields get another setter when a path is reversed, and how many moved. A field off the path keeps its setter; one on it gets the setter of
+-- the field before it, which is another one, since no item sets two fields. The moved count is the size of that set.
 use Prim.Native.Nat.{ℕ, zero, suc, _≤_, _<_}
 use mathlib.Core.Path.{_≡_, refl, sym, ap, _∙_}
 use mathlib.Core.Bool.{Bool, true, false, not}
@@ -8,7 +9,6 @@ use native.Mathlib.Decide.{ℕ-discrete, decLt}
 use native.Mathlib.Omega.{arith}
 use borrow.Author.Tests.{eq-eqb, ne-eqb, eqb-true, eqb-false}
 use lib.Dec.{eqb}
-use lib.ListN.{set}
 use lib.Seq.{getD-set-other}
 use Rattle.fieldset.specs.Numbers.{count}
 use Rattle.fieldset.specs.Tables.{at}
@@ -100,7 +100,8 @@ reversed-changes q c vs h route f = go (anyOf (eqb f) vs) refl
     go : (b : Bool) → anyOf (eqb f) vs ≡ b → b ≡ not (eqb (at (q .setter) f) (at (reversed q c vs .setter) f))
     go true e =
         sym (ap not (ne-eqb (at (q .setter) f) (at (reversed q c vs .setter) f) (λ d.
-        reversal-on (q .size) (setterOf (q .setter)) c vs (route .distinct) (leads-all (q .size) (outputsOf (q .links)) (setterOf (q .setter)) c vs (route .leads)) (setter-single q c h) (h .held .idle) f
+        reversal-on (q .size) (setterOf (q .setter)) c vs (route .distinct) (leads-all (q .size) (outputsOf (q .links)) (setterOf (q .setter)) c vs (route .leads))
+        (setter-single q c h) (h .held .idle) f
         (any-in f vs e)
         (sym (ap (λ (s : ℕ → Item). s f) (route-setters q c vs h route)) ∙ ap (λ (x : ℕ). itemOf x f) (sym d)))))
     go false e = sym (ap not (eq-eqb (at (q .setter) f) (at (reversed q c vs .setter) f) (sym (reversed-off q c vs f (any-off f vs e)))))

@@ -1,4 +1,5 @@
--- Steps: what a step leaves as it was, and the step that leaves the panel as it is.
+-- Steps: what a step leaves as it was, and the step that leaves the panel as it is. The step that frees nothing and reverses nothing gives the
+-- altered panel (`taken-still`); the link of the number put back, that is the panel before but for its size (`altered-size`).
 use Prim.Native.Nat.{ℕ}
 use mathlib.Core.Path.{_≡_, refl, sym, ap, _∙_}
 use mathlib.Core.Bool.{not}
@@ -47,7 +48,8 @@ module _ (p : Panel) (k : ℕ) (named : Link) (reply : Reply) (same : named ≡ 
   altered-size n = ap (λ (l : List Link). record { size = n; links = l; place = p .place; setter = p .setter }) (rw same (set-getD (p .links) k noLink))
 
   -- the panel with so many fields, and no other setter
-  pub takes-size : (path : List ℕ) → length path ≡ 64 → (n : ℕ) (after : Panel) → record { size = n; links = p .links; place = p .place; setter = p .setter } ≡ after
+  pub takes-size : (path : List ℕ) → length path ≡ 64 → (n : ℕ) (after : Panel)
+      → record { size = n; links = p .links; place = p .place; setter = p .setter } ≡ after
       → Takes p k path (unchanged n (p .place) named reply) after
   takes-size path long n after e =
       let s = unchanged n (p .place) named reply in
@@ -74,7 +76,8 @@ module _ (p : Panel) (k : ℕ) (named : Link) (reply : Reply) (same : named ≡ 
   decides-unchanged c path long a e panel answer = decides-size c path long (p .size) a e panel answer
 
 -- a refusal
-pub decides-refused : (p : Panel) (k : ℕ) (named : Link) (reply : Reply) (c : Command) (path : List ℕ) → length path ≡ 64 → (x : Refusal) (s : Step) → named ≡ linkAt (p .links) k → reply ≡ Refused x
+pub decides-refused : (p : Panel) (k : ℕ) (named : Link) (reply : Reply) (c : Command) (path : List ℕ) → length path ≡ 64 → (x : Refusal) (s : Step)
+    → named ≡ linkAt (p .links) k → reply ≡ Refused x
     → refused p x ≡ performed p c → s ≡ unchanged (p .size) (p .place) named reply → Decides p k c path s
 decides-refused p k named reply c path long x s same is e eq =
     rw eq (decides-unchanged p k named reply same c path long (refused p x) (sym e) refl (ap replyBytes is))

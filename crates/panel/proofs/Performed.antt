@@ -1,4 +1,5 @@
--- Every command leaves a legal panel legal.
+-- Every command leaves a legal panel legal: a refusal leaves it as it is; a step makes a change that is legal (`Changes`), and then reverses a path
+-- without a loop (`legal-reversed`) or is refused.
 use Prim.Native.Nat.{ℕ, _<_}
 use mathlib.Core.Path.{_≡_, refl}
 use mathlib.Core.Bool.{Bool, true, false}

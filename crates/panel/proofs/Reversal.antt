@@ -1,4 +1,6 @@
--- The reversal of a path in a legal panel: it is legal again where it has no loop.
+-- The reversal of a path in a legal panel: it is legal again where it has no loop. Along a route each item may set the field that it is put at, so
+-- the open item moves on to the last setter (`route-carrying`), which is not required and waits. The path for a blocked item is such a route
+-- (`route-for`): its first field is stronger than the item, and it ends at a setter of that strength.
 use Prim.Native.Nat.{ℕ, _≤_, _<_}
 use mathlib.Core.Path.{_≡_, sym, ap, _∙_, subst, fun-ext}
 use mathlib.Core.Bool.{Bool, true, false, _&&_}

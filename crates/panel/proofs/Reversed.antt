@@ -1,4 +1,5 @@
--- What the reversal of a path does: the setters along it move one field on, and of the links only the standings change.
+-- What the reversal of a path does: the setters along it move one field on, and of the links only the standings change. By induction on the path, one
+-- item that takes a field at a time (`holding`); the setters are then a function of the field, which the path changes (`reversedSetters`).
 use Prim.Native.Nat.{ℕ, _≤_, _<_}
 use mathlib.Core.Path.{_≡_, refl, sym, ap, _∙_, fun-ext}
 use mathlib.Core.Bool.{true, cond}

@@ -1,10 +1,11 @@
--- What follows of the setters of a legal panel: what they may set and read, ranks, and which items wait.
+-- What follows of the setters of a legal panel: what they may set and read, ranks, and which items wait. Each law reads its fact off the setter's
+-- link, which is in force and well formed, or off the stay; where there is no loop the places in the plan are ranks.
 use Prim.Native.Nat.{ℕ, _≤_, _<_}
 use mathlib.Core.Path.{_≡_, refl, sym, ap, _∙_}
 use mathlib.Core.Bool.{Bool, true, false, not, _&&_}
 use mathlib.Core.List.{List}
 use mathlib.Core.Logic.{_≢_, _⊎_, inl, inr}
-use native.Mathlib.Decide.{ℕ-discrete, decLt}
+use native.Mathlib.Decide.{decLt}
 use native.Mathlib.Omega.{arith}
 use borrow.Author.Tests.{lt-ltb, ltb-true, eqb-true}
 use lib.Dec.{eqb, ltb}
@@ -12,7 +13,7 @@ use lib.ListN.{length, set}
 use Rattle.fieldset.specs.Tables.{at}
 use Rattle.fieldset.specs.Fields.{member, without, only}
 use Rattle.fieldset.proofs.Numbers.{clash}
-use Rattle.fieldset.proofs.Fields.{member-only, member-without, member-without-same, member-without-other, member-empty}
+use Rattle.fieldset.proofs.Fields.{member-only, member-without, member-without-other, member-empty, without-cases}
 use Rattle.strength.proofs.Depth.{Falls}
 use Rattle.ordering.specs.Order.{hasLoop}
 use Rattle.fieldset.specs.Ranks.{Ranked}
@@ -36,14 +37,6 @@ whole p h = carrying p (stay (p .size)) h (λ f l e. let d = setter-own (p .sett
 
 -- ---- what an item may set and read
 
--- a member of a set but for f
-pub but-in : (m f u : ℕ) → u < 64 → member (without m f) u ≡ true → (member m u ≡ true) × (u ≢ f)
-but-in m f u l e = go (ℕ-discrete u f)
-  where
-    go : Dec (u ≡ f) → (member m u ≡ true) × (u ≢ f)
-    go (yes d) = absurd (clash e (rw d (member-without-same m f)))
-    go (no d) = (sym (member-without-other m f u l d) ∙ e, d)
-
 -- the other outputs of an item in force are read by it, wherever it stands; what it reads is below n
 module _ (n : ℕ) (links : List Link) (h : Filled n links) where
   formed : (i : ℕ) → isInForce (linkAt links i) ≡ true → Formed n (linkAt links i)
@@ -52,14 +45,14 @@ module _ (n : ℕ) (links : List Link) (h : Filled n links) where
   pub others-read : (c : Item) (f u : ℕ) → inForce n links c ≡ true → u < 64 → member (without (outputsOf links c) f) u ≡ true
       → member (outputsOf links c) f ≡ true → f < 64 → member (readsOf links c f) u ≡ true
   others-read (link i) f u k l e o m =
-      let (a, d) = but-in (linkAt links i .outputs) f u l e in
+      let (a, d) = without-cases (linkAt links i .outputs) f u l e in
       member-without-other (linkAt links i .covered) f u l d ∙ formed i k .subset u l a
   others-read (stay g) f u k l e o m =
-      let (a, d) = but-in (only g) f u l e in
+      let (a, d) = without-cases (only g) f u l e in
       absurd (d (eqb-true u g (sym (member-only g u l) ∙ a) ∙ sym (eqb-true f g (sym (member-only g f m) ∙ o))))
 
   pub reads-inside : (c : Item) (f u : ℕ) → inForce n links c ≡ true → u < 64 → member (readsOf links c f) u ≡ true → u < n
-  reads-inside (link i) f u k l e = formed i k .inside u l (but-in (linkAt links i .covered) f u l e .0)
+  reads-inside (link i) f u k l e = formed i k .inside u l (without-cases (linkAt links i .covered) f u l e .0)
   reads-inside (stay g) f u k l e = absurd (clash e (member-empty u))
 
   pub outputs-inside : (c : Item) (u : ℕ) → inForce n links c ≡ true → u < 64 → member (outputsOf links c) u ≡ true → u < n
@@ -83,7 +76,7 @@ module _ (p : Panel) (c : Item) (h : Carrying c p) where
       others-read (p .size) (p .links) (h .filled) (setterOf (p .setter) f) f u (setter-force f l) k e (setter-output f l) (omega (arith, h .few))
 
   pub others-out : (f u : ℕ) → u < 64 → member (setterOthers p f) u ≡ true → member (outputsOf (p .links) (setterOf (p .setter) f)) u ≡ true
-  others-out f u l e = but-in (outputsOf (p .links) (setterOf (p .setter) f)) f u l e .0
+  others-out f u l e = without-cases (outputsOf (p .links) (setterOf (p .setter) f)) f u l e .0
 
   pub setter-reads-inside : Inside (setterReads p) (p .size)
   setter-reads-inside = record {

@@ -1,15 +1,17 @@
 -- The checks 3 to 9, and the commands: each is its checks and its step.
 use Prim.Native.Nat.{ℕ, _/_, _%_}
+use mathlib.Core.Path.{_≡_}
 use mathlib.Core.Bool.{Bool, true, false, not, _&&_, _||_}
 use mathlib.Core.List.{List, [], _∷_}
 use lib.Dec.{eqb, leb, ltb}
 use lib.ListN.{length}
+use Rattle.fieldset.specs.Lists.{All}
 use Rattle.fieldset.specs.Fields.{with}
 use Rattle.panel.specs.declared.Panel.{Panel}
 use Rattle.panel.specs.declared.Refusal.{Refusal}
 use Rattle.panel.specs.declared.Refusal.the-variants.{AlreadyOpen, NotOpen, BadSize, BadLink, NoSuchField, LinkTaken, NoSuchLink}
 use Rattle.panel.specs.Items.{linkAt}
-use Rattle.panel.specs.Answers.{Answer, refused}
+use Rattle.panel.specs.Answers.{Answer, refusalBytes, refused}
 use Rattle.panel.specs.Steps.{openStep, addStep, removeStep, touchStep, planStep}
 
 -- ---- field bytes
@@ -64,6 +66,15 @@ check b r = record { applies = b; refusal = r }
 unfoldable pub checked : Panel → List Check → Answer → Answer
 checked p [] step = step
 checked p (c ∷ cs) step = elim (c .applies) [ true ↦ refused p (c .refusal) | false ↦ checked p cs step ]
+
+-- the bytes that checks alone reply: the refusal of the first that applies; where none does, `00 00`
+unfoldable pub checkReply : List Check → List ℕ
+checkReply [] = 0x00 ∷ 0 ∷ []
+checkReply (c ∷ cs) = elim (c .applies) [ true ↦ 0xFF ∷ refusalBytes (c .refusal) | false ↦ checkReply cs ]
+
+-- a command that passes its checks
+abbrev pub NoneApply : List Check → Type 0
+NoneApply = All (λ c. c .applies ≡ false)
 
 abbrev pub isOpen : Panel → Bool
 isOpen p = ltb 0 (p .size)

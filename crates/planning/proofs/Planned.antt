@@ -1,4 +1,5 @@
--- What a plan's rows are written from, and what the operation then gives.
+-- What a plan's rows are written from, and what the operation then gives. The order over the table of reads is the panel's plan, since that goes by
+-- the reads alone (`plan-listed`); the rows of all its fields, by the strengths in the table, are those of the definition (`plan-done`).
 use mathlib.Core.Path.{_≡_, refl, sym, ap, _∙_}
 use mathlib.Core.List.{List, _++_}
 use Prim.Native.Nat.{ℕ, _≤_, _<_}

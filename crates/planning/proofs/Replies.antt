@@ -1,4 +1,5 @@
--- A legal panel's plan, the length of the reply to it, and the panel that it leaves.
+-- A legal panel's plan, the length of the reply to it, and the panel that it leaves. Without a loop the plan lists every field (`plan-long`), with
+-- three bytes each; the laws of the reply are by cases on whether the panel is open.
 use Prim.Native.Nat.{ℕ, _*_, _<_}
 use mathlib.Core.Path.{_≡_, refl, sym, ap, _∙_}
 use mathlib.Core.Bool.{Bool, true, false, not}

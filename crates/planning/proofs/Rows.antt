@@ -1,4 +1,4 @@
--- The rows of a plan, written one after the other.
+-- The rows of a plan, written one after the other: a row behind those that stand there is one run of stores with them (`written-more`).
 use mathlib.Core.Path.{_≡_, refl, sym, ap, _∙_}
 use mathlib.Core.List.{List, [], _∷_, _++_}
 use Prim.Native.Nat.{ℕ, _+_, _*_, _≤_, _<_}

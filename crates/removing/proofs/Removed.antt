@@ -1,19 +1,20 @@
--- What a removal decides: by its checks, by the link's standing, and by what is blocked then.
+-- What a removal decides: by its checks, by the link's standing, and by what is blocked then. The checks agree with the command's (`remove-agree`). A
+-- waiting link is dropped and nothing else (`remove-waiting`). For one that holds v the tables with v's stay are the panel's without the link
+-- (`tabled`), so what is chosen is the definition's least blocked item; with none the drop is the step, else the verdict on it gives the answer
+-- (`comes`), by the laws of a reversal (`found-refused`, `decides-path`).
 use mathlib.Core.Path.{_≡_, refl, sym, ap, _∙_, subst}
 use mathlib.Core.Logic.{_≢_, _⊎_, inl, inr}
-use mathlib.Core.Bool.{Bool, true, false, not, cond}
+use mathlib.Core.Bool.{true, not}
 use mathlib.Core.List.{List}
 use mathlib.Core.Option.{some}
-use Prim.Native.Nat.{ℕ, zero, suc, _+_, _%_, _<_}
+use Prim.Native.Nat.{ℕ, _+_, _%_, _<_}
 use native.Mathlib.Nat.{mod-eq-of-lt}
 use native.Mathlib.Omega.{arith}
 use borrow.Author.Tests.{eqb-true, lt-ltb, ltb-true, ltb-false}
-use lib.Dec.{ltb}
 use lib.ListN.{length, set}
 use Rattle.fieldset.specs.Tables.{at}
 use Rattle.fieldset.specs.Fields.{member, below}
-use Rattle.fieldset.proofs.Numbers.{clash}
-use Rattle.fieldset.proofs.Fields.{member-empty, member-below, member-only}
+use Rattle.fieldset.proofs.Fields.{member-some, member-below, member-only}
 use Rattle.strength.specs.Strength.{greatest, strength}
 use Rattle.strength.specs.Filling.{Acyclic, Within}
 use Rattle.panel.specs.declared.Standing.{Standing}
@@ -21,16 +22,16 @@ use Rattle.panel.specs.declared.Standing.the-variants.{Waiting, Holding}
 use Rattle.panel.specs.declared.Link.{Link}
 use Rattle.panel.specs.declared.Panel.{Panel}
 use Rattle.panel.specs.declared.Refusal.{Refusal}
-use Rattle.panel.specs.declared.Refusal.the-variants.{NotOpen, BadLink, NoSuchLink, Loop}
+use Rattle.panel.specs.declared.Refusal.the-variants.{Loop}
 use Rattle.panel.specs.declared.Reply.{Reply}
 use Rattle.panel.specs.declared.Reply.the-variants.{Accepted, Refused}
 use Rattle.panel.specs.declared.Step.{Step}
 use Rattle.panel.specs.Items.{Item, link, stay, noLink, linkAt, outputsOf, inForce}
-use Rattle.panel.specs.Answers.{refused}
+use Rattle.panel.specs.Answers.{refused, replyBytes}
 use Rattle.panel.specs.Panels.{withLink, freed, dropped}
 use Rattle.panel.specs.Solution.{isBlocked, leastBlocked}
 use Rattle.panel.specs.Steps.{settled, dropStep, removeStep}
-use Rattle.panel.specs.Commands.{checked, isOpen, removing, performed}
+use Rattle.panel.specs.Commands.{checkReply, removeChecks, removing, performed}
 use Rattle.panel.specs.Legal.{Legal}
 use Rattle.panel.specs.Outcomes.{unchanged, Decides}
 use Rattle.panel.proofs.InForce.{unused-off}
@@ -38,7 +39,7 @@ use Rattle.panel.proofs.Reversed.{link-here}
 use Rattle.panel.proofs.Legal.{Filled, LegalBut, force-formed}
 use Rattle.panel.proofs.Setters.{outputs-inside, waits-force}
 use Rattle.panel.proofs.Reversal.{Blocking, blocking, legal-waits}
-use Rattle.panel.proofs.Checks.{Says}
+use Rattle.panel.proofs.Checks.{Agree, reply-refused, reply-accepted, removable}
 use Rattle.panel.proofs.Outcomes.{decides-unchanged}
 use Rattle.tables.specs.Tables.{Tabled, StrengthsOf}
 use Rattle.fieldset.proofs.Maps.{tableOf}
@@ -54,38 +55,22 @@ use Rattle.removing.proofs.Dropped.{sets-holds, field-small, Held, step
 
 -- ---- the checks
 
-module _ (p : Panel) (id : ℕ) where
-  -- the step is carried out
-  abbrev pub Passed : Type 0
-  Passed = (id < 128) × (performed p (removing id) ≡ removeStep p id)
-
-  says : (used : Bool) → (id < 128 → used ≡ linkAt (p .links) id .used) → Says p (removing id) Passed (checkRemove (p .size) id used)
-  unfolding checked
-  says used same = go (isOpen p) refl (ltb 127 id) refl used refl
+-- the checks agree with the command's: the number is in use where its link is, once it is one of 128
+module _ (p : Panel) (id : ℕ) (old : Link) (same : old ≡ linkAt (p .links) (id % 128)) where
+  remove-agree : Agree (checkRemove (p .size) id (old .used)) (removeChecks p id)
+  remove-agree = (refl, refl, λ is-open. (refl, refl, λ low. (ap not (used-is (omega (arith, ltb-false 127 id low))), refl, λ used. tt)))
     where
-      go : (a : Bool) → isOpen p ≡ a → (b : Bool) → ltb 127 id ≡ b → (c : Bool) → used ≡ c
-          → Says p (removing id) Passed (cond (not a) (Refused NotOpen) (cond b (Refused BadLink) (cond (not c) (Refused NoSuchLink) (Accepted 0))))
-      go false e b f c u = rw e refl
-      go true e true f c u = rw (e, f) refl
-      go true e false f c u = known c u (omega (arith, ltb-false 127 id f))
-        where
-          known : (c : Bool) → used ≡ c → id < 128 → Says p (removing id) Passed (cond (not c) (Refused NoSuchLink) (Accepted 0))
-          known false u l = rw (e, f, sym (same l) ∙ u) refl
-          known true u l = (refl, (l, rw (e, f, sym (same l) ∙ u) refl))
+      used-is : id < 128 → old .used ≡ linkAt (p .links) id .used
+      used-is l = ap (λ (x : Link). x .used) same ∙ ap (λ (i : ℕ). linkAt (p .links) i .used) (mod-eq-of-lt l)
 
-  module _ (old : Link) (same : old ≡ linkAt (p .links) (id % 128)) (reply : Reply) (checks : reply ≡ checkRemove (p .size) id (old .used)) where
-    said : Says p (removing id) Passed reply
-    said =
-        subst (Says p (removing id) Passed) (sym checks)
-        (says (old .used) (λ l. ap (λ (x : Link). x .used) same ∙ ap (λ (i : ℕ). linkAt (p .links) i .used) (mod-eq-of-lt l)))
+  module _ (reply : Reply) (checks : replyBytes reply ≡ checkReply (checkRemove (p .size) id (old .used))) where
+    pub remove-refused : (x : Refusal) → reply ≡ Refused x → refused p x ≡ performed p (removing id)
+    remove-refused = reply-refused p (checkRemove (p .size) id (old .used)) (removeChecks p id) (removeStep p id) remove-agree reply checks
 
-    pub remove-refused : (x : Refusal) (path : List ℕ) (s : Step) → length path ≡ 64 → reply ≡ Refused x → s ≡ unchanged (p .size) (p .place) old reply
-        → Decides p (id % 128) (removing id) path s
-    remove-refused x path s long e is =
-        rw (is, e) (decides-unchanged p (id % 128) old (Refused x) same (removing id) path long (refused p x) (sym (subst (Says p (removing id) Passed) e said)) refl refl)
-
-    pub remove-passes : (m : ℕ) → reply ≡ Accepted m → Passed
-    remove-passes m e = subst (Says p (removing id) Passed) e said .1
+    pub remove-passes : (m : ℕ) → reply ≡ Accepted m → (id < 128) × (performed p (removing id) ≡ removeStep p id)
+    remove-passes m e =
+        let (_, none, step) = reply-accepted p (checkRemove (p .size) id (old .used)) (removeChecks p id) (removeStep p id) remove-agree reply checks m e in
+        (removable p id none .number, step)
 
 -- ---- the change
 
@@ -119,11 +104,6 @@ module _ (p : Panel) (h : Legal p) (id : ℕ) (small : id < 128) where
       (pass ∙ ap (λ (t : Standing). dropStep p (freed (withLink p id noLink) t) t) rests))
 
 -- ---- a link that held v
-
--- a set that has a member
-some-of : (m u : ℕ) → member m u ≡ true → 0 < m
-some-of zero u e = absurd (clash e (member-empty u))
-some-of (suc m) u e = omega arith
 
 -- what an item in force covers are fields of the panel
 cover-inside : (n : ℕ) (links : List Link) → Filled n links → (d : Item) → inForce n links d ≡ true → (u : ℕ) → u < 64
@@ -174,7 +154,7 @@ module _ {p : Panel} {id v : ℕ} {levels others reads : List ℕ} (x : Held p i
       force = waits-force (q .size) (q .links) (q .setter) d (block .waits-now)
 
       some-output : 0 < outputsOf (q .links) d
-      some-output = some-of (outputsOf (q .links) d) (block .field) (block .output)
+      some-output = member-some (outputsOf (q .links) d) (block .field) (block .output)
 
       outputs-in : Within (outputsOf (q .links) d) (below (p .size))
       outputs-in u l e = member-below (p .size) u l ∙ lt-ltb u (p .size) (outputs-inside (q .size) (q .links) (but .carrying .filled) d u force l e)

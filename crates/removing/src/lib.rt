@@ -24,7 +24,8 @@ ghost use mathlib.Core.Path.{_≡_};
 ghost use Prim.Native.Nat.{_%_};
 ghost use lib.ListN.{length};
 ghost use Rattle.panel.specs.Items.{linkAt};
-ghost use Rattle.panel.specs.Commands.{removing};
+ghost use Rattle.panel.specs.Answers.{replyBytes};
+ghost use Rattle.panel.specs.Commands.{checkReply, removing};
 ghost use Rattle.panel.specs.Legal.{Legal};
 ghost use Rattle.panel.specs.Outcomes.{Decides};
 ghost use Rattle.tables.specs.Tables.{Tabled};
@@ -33,7 +34,7 @@ ghost use Rattle.removing.specs.Choice.{OfField, chosenOf};
 
 // The reply of the checks of a removal, on a panel of n fields; `used` where the number is in use.
 fn check_remove(n: usize, id: u8, used: bool) -> Reply
-    ensures { λ r. ⌜ r ≡ checkRemove n id used ⌝ }
+    ensures { λ r. ⌜ replyBytes r ≡ checkReply (checkRemove n id used) ⌝ }
 {
     if n == 0 {
         return Reply::Refused(Refusal::NotOpen);

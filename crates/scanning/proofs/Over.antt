@@ -1,4 +1,5 @@
--- Laws of what is blocked, by a table of the strengths.
+-- Laws of what is blocked, by a table of the strengths. The outputs of an item are fields of the panel, where the table has the strengths, so the
+-- test over the table is the definition's; a stay has one output (`any-only`).
 use Prim.Native.Nat.{ℕ, _≤_, _<_}
 use mathlib.Core.Path.{_≡_, refl, sym, ap, _∙_}
 use mathlib.Core.Bool.{Bool, true, false, _&&_, and-false}

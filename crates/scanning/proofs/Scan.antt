@@ -1,4 +1,5 @@
--- The first of least level in a list: of two lists joined, and of a scan from the front that keeps what it found and its level.
+-- The first of least level in a list: of two lists joined, and of a scan from the front that keeps what it found and its level. Of two lists the
+-- first one's find stays unless the second one's has less level; the scan joins one item at a time.
 use Prim.Native.Nat.{ℕ, _+_, _≤_, _<_}
 use mathlib.Core.Path.{_≡_, refl, _∙_}
 use mathlib.Core.Bool.{Bool, true, false, cond}

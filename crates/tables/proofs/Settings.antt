@@ -1,4 +1,5 @@
--- What the tables hold of each field: from a setter's entry, after a store, and in another panel that agrees.
+-- What the tables hold of each field: from a setter's entry, after a store, and in another panel that agrees. A field's setting goes by its setter
+-- alone, so it stays where the setter's level, outputs and reads do (`same-setting`, `placed-setting`).
 use Prim.Native.Nat.{ℕ, _+_, _%_, _≤_, _<_}
 use mathlib.Core.Path.{_≡_, refl, sym, ap, _∙_}
 use mathlib.Core.Bool.{Bool, true, false, cond, and-not-self}
@@ -107,7 +108,8 @@ tabled-same p q same t = record {
 }
 
 -- with another entry of v: it is q's, and the others were
-pub tabled-set : (p q : Panel) (n m : ℕ) {l o r : List ℕ} (v x y z : ℕ) → v < 64 → ((f x y z : ℕ) → f < m → f ≢ v → (f < n) × (Setting p f x y z → Setting q f x y z))
+pub tabled-set : (p q : Panel) (n m : ℕ) {l o r : List ℕ} (v x y z : ℕ) → v < 64
+    → ((f x y z : ℕ) → f < m → f ≢ v → (f < n) × (Setting p f x y z → Setting q f x y z))
     → Setting q v x y z → TabledTo n p l o r → TabledTo m q (set l v x) (set o v y) (set r v z)
 tabled-set p q n m {l} {o} {r} v x y z lv same s t = record {
   levels-full = length-set l v x ∙ t .levels-full;
@@ -118,6 +120,11 @@ tabled-set p q n m {l} {o} {r} v x y z lv same s t = record {
   where
     go : (f : ℕ) → f < m → Dec (f ≡ v) → Setting q f (at (set l v x) f) (at (set o v y) f) (at (set r v z) f)
     go f k (yes d) =
-        rw (d, getD-set-same l v x 0 (omega (arith, t .levels-full)), getD-set-same o v y 0 (omega (arith, t .others-full)), getD-set-same r v z 0 (omega (arith, t .reads-full))) s
+        rw (
+          d,
+          getD-set-same l v x 0 (omega (arith, t .levels-full)),
+          getD-set-same o v y 0 (omega (arith, t .others-full)),
+          getD-set-same r v z 0 (omega (arith, t .reads-full)),
+        ) s
     go f k (no d) =
         rw (getD-set-other l v f x 0 d, getD-set-other o v f y 0 d, getD-set-other r v f z 0 d) (same f _ _ _ k d .1 (t .setting f (same f 0 0 0 k d .0)))

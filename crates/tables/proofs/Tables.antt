@@ -1,4 +1,6 @@
--- The tables of a panel's setters say what the panel's own functions say: strengths, the greatest strength of a set, the path.
+-- The tables of a panel's setters say what the panel's own functions say: strengths, the greatest strength of a set, the path. Strength and path go
+-- by the level and the other outputs of each field's setter; on these the tables and the panel agree for the panel's fields, and they lead to no other
+-- field (`strength-same`).
 use mathlib.Core.Path.{_≡_, refl, sym, ap, ap₂, _∙_}
 use mathlib.Core.Logic.{_≢_}
 use mathlib.Core.Bool.{Bool, true, false, _&&_}
@@ -129,7 +131,8 @@ module _ (q : Panel) (c : Item) (h : Carrying c q) (loopless : isLooped q ≡ fa
       → (u : ℕ) × Tie (strength (at levels) (at others) (q .size)) s (at others v) u
   table-tied s v l e ne =
       let str = strength (at levels) (at others) (q .size) in
-      let fixed = strength-fixed (at levels) (at others) (table-acyclic .rank) (table-acyclic .ranked .falls) (q .size) v (omega (arith, h .few)) (table-acyclic .ranked .small v l) in
+      let fixed = strength-fixed (at levels) (at others) (table-acyclic .rank) (table-acyclic .ranked .falls)
+      (q .size) v (omega (arith, h .few)) (table-acyclic .ranked .small v l) in
       let below-s : at levels v < s = omega (arith, strength-level (at levels) (at others) (q .size) v (omega arith)) in
       let r = greatest-found (member (at others v)) str 64 (omega arith) in
       (r .0, record { field = r .1; is-in = r .2; strong = r .3 ∙ omega arith })

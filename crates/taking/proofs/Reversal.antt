@@ -1,4 +1,6 @@
--- The reversal of a path one field at a time, with the tables: what sets the next field is a link or a stay.
+-- The reversal of a path one field at a time, with the tables. By cases on whether a number is a link's or a stay's, the code's two stores are
+-- `holding` (`holds`) and its last one `waiting` (`waits`). A table then changes at the field that is set, to its setter's entry, and nowhere else
+-- (`tabled-holding`), since levels, outputs and reads do not go by standings (`alike-setting`).
 use Prim.Native.Nat.{ℕ, _+_, _%_, _≤_, _<_}
 use mathlib.Core.Path.{_≡_, refl, sym, ap, _∙_}
 use mathlib.Core.Bool.{Bool, true, false, cond}
@@ -44,7 +46,8 @@ reversed-stay p c f g vs = go (ltb c 128) vs
     go false (v ∷ vs) = refl
 
 -- the store of the item's link, and of its number
-holds : (p : Panel) (c v : ℕ) → withSetter (withLink p (c % 128) (stood c (linkAt (p .links) (c % 128)) (Holding v))) v (cond (ltb c 128) c 128) ≡ holding p (itemOf c v) v
+holds : (p : Panel) (c v : ℕ)
+    → withSetter (withLink p (c % 128) (stood c (linkAt (p .links) (c % 128)) (Holding v))) v (cond (ltb c 128) c 128) ≡ holding p (itemOf c v) v
 holds p c v = go (ltb c 128) refl
   where
     go : (b : Bool) → ltb c 128 ≡ b
@@ -72,7 +75,8 @@ alike-setting p q f x y z es ep h s =
 
 tabled-waiting : (p : Panel) (c : Item) {l o r : List ℕ} → Tabled p l o r → Tabled (waiting p c) l o r
 tabled-waiting p c t =
-    tabled-same p (waiting p c) (λ f x y z k s. alike-setting p (waiting p c) f x y z (ap (λ (a : List ℕ). setterOf a f) (waiting-setter p c)) (waiting-place p c) (waiting-alike p c) s) t
+    tabled-same p (waiting p c)
+    (λ f x y z k s. alike-setting p (waiting p c) f x y z (ap (λ (a : List ℕ). setterOf a f) (waiting-setter p c)) (waiting-place p c) (waiting-alike p c) s) t
 
 -- the tables without the entry of one field
 pub tabled-but : (p : Panel) (v : ℕ) {l o r : List ℕ} → v < 64 → Tabled p l o r → TabledBut p (Holding v) l o r
@@ -112,7 +116,8 @@ module _ (p : Panel) (c v : ℕ) (full : length (p .setter) ≡ 64) (lv : v < 64
   there : (f : ℕ) → f ≢ v → setterOf (holding p (itemOf c v) v .setter) f ≡ setterOf (p .setter) f
   there f ne = ap (λ (st : ℕ → Item). st f) (holding-sets p v (itemOf c v) full lv fits) ∙ put-there (setterOf (p .setter)) v (itemOf c v) f ne
 
-  setting-here : (e : Entry) → EntryOf c (linkAt (p .links) (c % 128)) (at (p .place) v) v e → Setting (holding p (itemOf c v) v) v (e .level) (e .others) (e .reads)
+  setting-here : (e : Entry) → EntryOf c (linkAt (p .links) (c % 128)) (at (p .place) v) v e
+      → Setting (holding p (itemOf c v) v) v (e .level) (e .others) (e .reads)
   unfolding setterOf
   setting-here e is =
       let now : at (set (p .setter) v c) v ≡ c = getD-set-same (p .setter) v c 0 (omega arith) in
@@ -134,8 +139,12 @@ module _ (p : Panel) (c v : ℕ) (full : length (p .setter) ≡ 64) (lv : v < 64
       go : (f : ℕ) → Dec (f ≡ v) → (Holding v ≡ Holding f) ⊎ Setting p f (at l f) (at o f) (at r f)
           → Setting q f (at (set l v (e .level)) f) (at (set o v (e .others)) f) (at (set r v (e .reads)) f)
       go f (yes d) s =
-          rw (d, getD-set-same l v (e .level) 0 (omega (arith, t .levels-full)), getD-set-same o v (e .others) 0 (omega (arith, t .others-full)), getD-set-same r v (e .reads) 0 (omega (arith, t .reads-full)))
-          (setting-here e is)
+          rw (
+            d,
+            getD-set-same l v (e .level) 0 (omega (arith, t .levels-full)),
+            getD-set-same o v (e .others) 0 (omega (arith, t .others-full)),
+            getD-set-same r v (e .reads) 0 (omega (arith, t .reads-full)),
+          ) (setting-here e is)
       go f (no d) (inl s) = absurd (d cc)
       go f (no d) (inr s) =
           rw (getD-set-other l v f (e .level) 0 d, getD-set-other o v f (e .others) 0 d, getD-set-other r v f (e .reads) 0 d)
@@ -189,7 +198,8 @@ module _ (n : ℕ) (path : List ℕ) {whole : Panel} (long : n ≤ length path) 
       → Reversing n path whole p c i levels others reads → i < n → at path i < 64
       → k ≡ at path i → j ≡ c % 128 → l ≡ stood c (linkAt (p .links) j) (Holding (at path i)) → m ≡ cond (ltb c 128) c 128
       → EntryOf c (linkAt (p .links) j) (at (p .place) k) k e
-      → Reversing n path whole (withSetter (withLink p j l) k m) (at (p .setter) k) (i + 1) (set levels k (e .level)) (set others k (e .others)) (set reads k (e .reads))
+      → Reversing n path whole (withSetter (withLink p j l) k m) (at (p .setter) k) (i + 1)
+      (set levels k (e .level)) (set others k (e .others)) (set reads k (e .reads))
   unfolding reversed setterOf
   reversing-next {p} {c} {i} {levels} {others} {reads} {j} {k} {m} {l} {e} h less lv ek ej el em is =
       let v = at path i in

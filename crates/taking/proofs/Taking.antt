@@ -1,4 +1,6 @@
--- The panel and its tables after the step of a command.
+-- The panel and its tables after the step of a command. The altered panel has the tables with the levels of the new places, but for a field that is
+-- freed (`tabled-altered`): another link of the number changes no other setter. Where setters change, `reverse` makes the panel after the step
+-- (`taken-reversed`); else it is the altered panel (`taken-unmoved`).
 use Prim.Native.Nat.{ℕ, _<_}
 use mathlib.Core.Path.{_≡_, refl, sym, ap, _∙_, subst}
 use mathlib.Core.List.{List}
@@ -11,7 +13,7 @@ use Rattle.fieldset.proofs.Tables.{length-tabulate, getD-tabulate}
 use Rattle.panel.specs.declared.Standing.the-variants.{Holding}
 use Rattle.panel.specs.declared.Panel.{Panel}
 use Rattle.panel.specs.declared.Step.{Step}
-use Rattle.panel.specs.Items.{link, linkAt, itemOf}
+use Rattle.panel.specs.Items.{linkAt, itemOf}
 use Rattle.panel.specs.Panels.{freed}
 use Rattle.panel.specs.Solution.{reversed}
 use Rattle.panel.specs.Outcomes.{altered, taken, Takes}

@@ -1,4 +1,4 @@
--- The places of the stays with one at the front.
+-- The places of the stays with one at the front: entry by entry, f's is 0 and every other one is pushed if it stood before.
 use mathlib.Core.Path.{_≡_, refl, sym, ap, _∙_}
 use mathlib.Core.Bool.{cond}
 use mathlib.Core.List.{List}

@@ -1,11 +1,11 @@
 -- The checks of a touch over its numbers.
 use Prim.Native.Nat.{ℕ}
-use mathlib.Core.Bool.{cond}
-use lib.Dec.{eqb, leb}
+use mathlib.Core.Bool.{not}
+use mathlib.Core.List.{List, [], _∷_}
+use lib.Dec.{leb, ltb}
 use Rattle.panel.specs.declared.Refusal.the-variants.{NotOpen, NoSuchField}
-use Rattle.panel.specs.declared.Reply.{Reply}
-use Rattle.panel.specs.declared.Reply.the-variants.{Accepted, Refused}
+use Rattle.panel.specs.Commands.{Check, check}
 
--- the reply of the checks of a touch of f to a panel of n fields
-abbrev pub checkTouch : ℕ → ℕ → Reply
-checkTouch n f = cond (eqb n 0) (Refused NotOpen) (cond (leb n f) (Refused NoSuchField) (Accepted 0))
+-- the checks of a touch of f, on a panel of n fields (`touchChecks`)
+abbrev pub checkTouch : ℕ → ℕ → List Check
+checkTouch n f = check (not (ltb 0 n)) NotOpen ∷ check (leb n f) NoSuchField ∷ []

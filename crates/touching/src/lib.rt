@@ -22,7 +22,8 @@ ghost use lib.ListN.{length};
 ghost use Rattle.fieldset.specs.Tables.{tabulate};
 ghost use Rattle.panel.specs.Items.{linkAt};
 ghost use Rattle.panel.specs.Panels.{placeAfter};
-ghost use Rattle.panel.specs.Commands.{touching};
+ghost use Rattle.panel.specs.Answers.{replyBytes};
+ghost use Rattle.panel.specs.Commands.{checkReply, touching};
 ghost use Rattle.panel.specs.Legal.{Legal};
 ghost use Rattle.panel.specs.Outcomes.{Decides};
 ghost use Rattle.tables.specs.Tables.{Tabled};
@@ -51,7 +52,7 @@ fn to_front(place: &mut [u8; 64], f: usize)
 
 // The reply of the checks of a touch, on a panel of n fields.
 fn check_touch(n: usize, f: u8) -> Reply
-    ensures { λ r. ⌜ r ≡ checkTouch n f ⌝ }
+    ensures { λ r. ⌜ replyBytes r ≡ checkReply (checkTouch n f) ⌝ }
 {
     if n == 0 {
         return Reply::Refused(Refusal::NotOpen);

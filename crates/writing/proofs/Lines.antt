@@ -1,4 +1,4 @@
--- Writing a line. Assumes nothing.
+-- Writing a line: runs of stores, each behind the one before, are one run (`sets-append`), byte by byte and then part by part.
 use mathlib.Core.Path.{_≡_, refl, sym, ap, ap₂, _∙_}
 use mathlib.Core.List.{List, [], _∷_, _++_}
 use Prim.Native.Nat.{ℕ, _+_, _*_, _/_, _%_, _≤_, _<_}
@@ -16,7 +16,8 @@ hex-append [] b = refl
 hex-append (x ∷ a) b = ap (λ (t : List ℕ). charOf (x / 16) ∷ charOf (x % 16) ∷ t) (hex-append a b)
 
 -- a byte's two digits
-pub byte-put : (o o₁ o₂ : List ℕ) (at b x y : ℕ) → x ≡ charOf (b / 16) → o₁ ≡ set o at x → y ≡ charOf (b % 16) → o₂ ≡ set o₁ (at + 1) y → o₂ ≡ sets o at (hexOf (b ∷ []))
+pub byte-put : (o o₁ o₂ : List ℕ) (at b x y : ℕ) → x ≡ charOf (b / 16) → o₁ ≡ set o at x → y ≡ charOf (b % 16) → o₂ ≡ set o₁ (at + 1) y
+    → o₂ ≡ sets o at (hexOf (b ∷ []))
 unfolding hexOf
 byte-put o o₁ o₂ at b x y ex e₁ ey e₂ =
     e₂ ∙ ap₂ (λ (l : List ℕ) (z : ℕ). set l (at + 1) z) (e₁ ∙ ap (set o at) ex) ey
@@ -41,7 +42,8 @@ written-more bytes o q after p i was less e = record { within = omega arith; dig
   more =
       ap₂ (λ (l : List ℕ) (k : ℕ). sets l k (hexOf (getD bytes i 0 ∷ []))) (was .digits) place
       ∙ sets-append o p (hexOf (take i bytes)) (hexOf (getD bytes i 0 ∷ []))
-      ∙ ap (sets o p) (sym (hex-append (take i bytes) (getD bytes i 0 ∷ [])) ∙ ap hexOf (sym (take-suc bytes i 0 less) ∙ ap (λ (k : ℕ). take k bytes) (sym (add-one i))))
+      ∙ ap (sets o p) (sym (hex-append (take i bytes) (getD bytes i 0 ∷ []))
+      ∙ ap hexOf (sym (take-suc bytes i 0 less) ∙ ap (λ (k : ℕ). take k bytes) (sym (add-one i))))
 
 pub written-all : (bytes o after : List ℕ) (p i : ℕ) → Written bytes o after p i → length bytes ≤ i → after ≡ sets o p (hexOf bytes)
 written-all bytes o after p i was end = was .digits ∙ ap (λ (l : List ℕ). sets o p (hexOf l)) (take-all i bytes end)
@@ -64,7 +66,8 @@ pub line-put : (rest o o₁ o₂ o₃ o₄ : List ℕ) (at a b : ℕ)
     → o₄ ≡ set o₃ (at + 4 + 2 * length rest) 10
     → (o₄ ≡ sets o at (lineOf (a ∷ b ∷ rest))) × (at + 5 + 2 * length rest ≡ at + length (lineOf (a ∷ b ∷ rest)))
 line-put rest o o₁ o₂ o₃ o₄ at a b e₁ e₂ e₃ e₄ = (
-  e₄ ∙ ap (λ (l : List ℕ). set l (at + 4 + 2 * length rest) 10) (e₃ ∙ ap (λ (l : List ℕ). sets l (at + 4) (hexOf rest)) (e₂ ∙ ap (λ (l : List ℕ). sets l (at + 2) (hexOf (b ∷ []))) e₁))
+  e₄ ∙ ap (λ (l : List ℕ). set l (at + 4 + 2 * length rest) 10) (e₃ ∙ ap (λ (l : List ℕ). sets l (at + 4) (hexOf rest))
+      (e₂ ∙ ap (λ (l : List ℕ). sets l (at + 2) (hexOf (b ∷ []))) e₁))
       ∙ line-done o at a b rest,
   omega (arith, length-line (a ∷ b ∷ rest)),
 )

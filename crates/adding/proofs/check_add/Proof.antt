@@ -1,58 +1,72 @@
--- `adding::check_add` meets its contract.
+-- `adding::check_add` meets its contract: at each return the comparisons made decide the checks.
 use mathlib.Core.Path.{refl}
+use native.Mathlib.Omega.{arith}
 use borrow.Author.Needs.{needs}
-use borrow.Author.Tests.{eq-eqb, ne-eqb}
+use borrow.Author.Tests.{lt-ltb, le-ltb}
+use Rattle.panel.specs.Commands.{checkReply}
 use Rattle.adding.proofs.check_add.Statement.{statement}
 use Rattle.adding.proofs.check_add.Tie as tie
 
+-- ---- the places: an open panel, its link looked at, its fields looked at
+
+abbrev opened : tie.After-is-bad-link → tie.Else1
+opened c = c .before
+
+abbrev fine : tie.After-within → tie.Else2
+fine c = c .before .before
+
+-- ---- the needs
+
 returns : tie.Need-returns
-returns c = rw (eq-eqb (c .before .args .n) 0 (c .if1 .taken)) refl
+unfolding checkReply
+returns c = rw (le-ltb 0 (c .before .args .n) (omega arith)) refl
 
 returns-2 : tie.Need-returns-2
+unfolding checkReply
 returns-2 c =
-    let b = c .before in
-    rw (ne-eqb (b .before .before .args .n) 0 (b .before .if1 .left), ← b .is-bad-link .ensures, c .if2 .taken) refl
+    let bad = c .before in
+    rw (lt-ltb 0 (opened bad .before .args .n) (omega arith), ← bad .is-bad-link .ensures, c .if2 .taken) refl
 
 returns-3 : tie.Need-returns-3
+unfolding checkReply
 returns-3 c =
-    let w = c .before in
-    let e = w .before .before in
-    let b = e .before in
+    let inside = c .before in
+    let bad = fine inside .before in
     rw (
-      ne-eqb (b .before .before .args .n) 0 (b .before .if1 .left),
-      ← b .is-bad-link .ensures,
-      e .if2 .left,
-      ← w .before .below .ensures,
-      ← w .within .ensures,
+      lt-ltb 0 (opened bad .before .args .n) (omega arith),
+      ← bad .is-bad-link .ensures,
+      fine inside .if2 .left,
+      ← inside .before .below .ensures,
+      ← inside .within .ensures,
       c .if3 .taken,
     ) refl
 
 returns-4 : tie.Need-returns-4
+unfolding checkReply
 returns-4 c =
-    let w = c .before .before in
-    let e = w .before .before in
-    let b = e .before in
+    let inside = c .before .before in
+    let bad = fine inside .before in
     rw (
-      ne-eqb (b .before .before .args .n) 0 (b .before .if1 .left),
-      ← b .is-bad-link .ensures,
-      e .if2 .left,
-      ← w .before .below .ensures,
-      ← w .within .ensures,
+      lt-ltb 0 (opened bad .before .args .n) (omega arith),
+      ← bad .is-bad-link .ensures,
+      fine inside .if2 .left,
+      ← inside .before .below .ensures,
+      ← inside .within .ensures,
       c .before .if3 .left,
       c .if4 .taken,
     ) refl
 
 returns-5 : tie.Need-returns-5
+unfolding checkReply
 returns-5 c =
-    let w = c .before .before in
-    let e = w .before .before in
-    let b = e .before in
+    let inside = c .before .before in
+    let bad = fine inside .before in
     rw (
-      ne-eqb (b .before .before .args .n) 0 (b .before .if1 .left),
-      ← b .is-bad-link .ensures,
-      e .if2 .left,
-      ← w .before .below .ensures,
-      ← w .within .ensures,
+      lt-ltb 0 (opened bad .before .args .n) (omega arith),
+      ← bad .is-bad-link .ensures,
+      fine inside .if2 .left,
+      ← inside .before .below .ensures,
+      ← inside .within .ensures,
       c .before .if3 .left,
       c .if4 .left,
     ) refl

@@ -1,4 +1,4 @@
--- `fieldset::below` meets its contract.
+-- `fieldset::below` meets its contract: by cases on n < 64, by the laws `shl-below` and `max-below`.
 use borrow.Author.Needs.{needs}
 use native.Mathlib.Omega.{arith}
 use Rattle.fieldset.proofs.Bits.{shl-pos, shl-below, max-below}

@@ -1,4 +1,4 @@
--- `fieldset::first` meets its contract.
+-- `fieldset::first` meets its contract: by the law `first-is`.
 use borrow.Author.Needs.{needs}
 use Rattle.fieldset.proofs.Emptying.{first-is}
 use Rattle.fieldset.proofs.first.Statement.{statement}

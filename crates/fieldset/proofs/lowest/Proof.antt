@@ -1,4 +1,4 @@
--- `fieldset::lowest` meets its contract.
+-- `fieldset::lowest` meets its contract: by the law `trailing-lowest`; the count fits a usize, since it is at most 64.
 use native.Mathlib.Omega.{arith}
 use lib.Count.{trailing-le}
 use Rattle.fieldset.proofs.Bits.{trailing-lowest}

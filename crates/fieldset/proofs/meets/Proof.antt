@@ -1,4 +1,4 @@
--- `fieldset::meets` meets its contract.
+-- `fieldset::meets` meets its contract: by the law `and-meets`.
 use Rattle.fieldset.proofs.Bits.{and-meets}
 use Rattle.fieldset.proofs.meets.Statement.{statement}
 use Rattle.fieldset.proofs.meets.Tie as tie

@@ -1,4 +1,4 @@
--- `fieldset::member` meets its contract.
+-- `fieldset::member` meets its contract: by the law `shr-member`.
 use borrow.Author.Needs.{needs}
 use Rattle.fieldset.proofs.Bits.{shr-member}
 use Rattle.fieldset.proofs.member.Statement.{statement}

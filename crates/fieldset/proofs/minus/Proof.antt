@@ -1,4 +1,4 @@
--- `fieldset::minus` meets its contract.
+-- `fieldset::minus` meets its contract: by the law `and-minus`.
 use Rattle.fieldset.proofs.Bits.{and-minus}
 use Rattle.fieldset.proofs.minus.Statement.{statement}
 use Rattle.fieldset.proofs.minus.Tie as tie

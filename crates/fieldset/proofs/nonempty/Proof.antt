@@ -1,4 +1,5 @@
--- `fieldset::nonempty` meets its contract: the set has those of the first `f` fields whose sets are not empty.
+-- `fieldset::nonempty` meets its contract. The loop's invariant: the set has those of the first f fields whose sets are not empty; the measure is
+-- n - f. By cases on the field's set, `setOf-step` takes the step.
 use Prim.Native.Nat.{_-_, _≤_}
 use mathlib.Core.Path.{_≡_, refl, ap, _∙_}
 use mathlib.Core.Bool.{not}
@@ -24,10 +25,11 @@ loop-holds c = (omega arith, refl)
 
 loop-again : tie.Need-loop-again Inv-loop μ-loop
 loop-again c =
-    let i = c .before .before .before .loop .inv in (
+    let loop = c .before .before .before in (
       omega arith,
-      setOf-step (λ f. not (eqb (at (c .before .before .before .before .args .sets .now) f) 0)) (c .before .before .before .loop .f) (omega arith) (i .1)
-          (⊎-elim (λ w. inl (ap not (ne-eqb _ 0 (w .0 .taken)), w .2 ∙ w .1 .ensures)) (λ w. inr (ap not (eq-eqb _ 0 (w .0 .left)), w .1)) (c .if1 .came)),
+      setOf-step (λ f. not (eqb (at (loop .before .args .sets .now) f) 0)) (loop .loop .f) (omega arith) (loop .loop .inv .1)
+          (⊎-elim (λ w. let (branch, entered, set-is) = w in inl (ap not (ne-eqb _ 0 (branch .taken)), set-is ∙ entered .ensures))
+          (λ w. let (branch, set-is) = w in inr (ap not (eq-eqb _ 0 (branch .left)), set-is)) (c .if1 .came)),
     )
 
 returns : tie.Need-returns Inv-loop μ-loop

@@ -1,4 +1,4 @@
--- `fieldset::only` meets its contract.
+-- `fieldset::only` meets its contract: by the law `shl-only`.
 use borrow.Author.Needs.{needs}
 use Rattle.fieldset.proofs.Bits.{shl-only}
 use Rattle.fieldset.proofs.only.Statement.{statement}

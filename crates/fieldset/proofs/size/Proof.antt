@@ -1,4 +1,4 @@
--- `fieldset::size` meets its contract.
+-- `fieldset::size` meets its contract: by the law `ones-size`; the count fits a usize, since it is at most 64.
 use native.Mathlib.Omega.{arith}
 use lib.Count.{ones-le}
 use Rattle.fieldset.proofs.Bits.{ones-size}

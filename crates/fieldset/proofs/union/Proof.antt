@@ -1,4 +1,4 @@
--- `fieldset::union` meets its contract.
+-- `fieldset::union` meets its contract: by the law `or-union`.
 use Rattle.fieldset.proofs.Bits.{or-union}
 use Rattle.fieldset.proofs.union.Statement.{statement}
 use Rattle.fieldset.proofs.union.Tie as tie

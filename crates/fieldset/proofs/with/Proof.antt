@@ -1,4 +1,4 @@
--- `fieldset::with` meets its contract.
+-- `fieldset::with` meets its contract: by the law `or-with`.
 use borrow.Author.Needs.{needs}
 use Rattle.fieldset.proofs.Bits.{or-with}
 use Rattle.fieldset.proofs.with.Statement.{statement}

@@ -1,4 +1,4 @@
--- `fieldset::within` meets its contract.
+-- `fieldset::within` meets its contract: by the law `and-within`.
 use Rattle.fieldset.proofs.Bits.{and-within}
 use Rattle.fieldset.proofs.within.Statement.{statement}
 use Rattle.fieldset.proofs.within.Tie as tie

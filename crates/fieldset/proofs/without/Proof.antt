@@ -1,4 +1,4 @@
--- `fieldset::without` meets its contract.
+-- `fieldset::without` meets its contract: by the law `and-without`.
 use borrow.Author.Needs.{needs}
 use Rattle.fieldset.proofs.Bits.{and-without}
 use Rattle.fieldset.proofs.without.Statement.{statement}

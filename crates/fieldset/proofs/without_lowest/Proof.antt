@@ -1,4 +1,4 @@
--- `fieldset::without_lowest` meets its contract.
+-- `fieldset::without_lowest` meets its contract: by the law `and-without-lowest`.
 use borrow.Author.Needs.{needs}
 use Rattle.fieldset.proofs.Bits.{and-without-lowest}
 use Rattle.fieldset.proofs.without_lowest.Statement.{statement}

@@ -1,4 +1,4 @@
--- `lines::behind` meets its contract. Assumes nothing.
+-- `lines::behind` meets its contract: by cases on whether the line ends before the text.
 use borrow.Author.Tests.{lt-ltb, le-ltb}
 use Rattle.lines.specs.Lines.{behindOf}
 use borrow.Author.Needs.{needs}

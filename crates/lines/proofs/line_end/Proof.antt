@@ -1,5 +1,5 @@
 -- `lines::line_end` meets its contract. The loop's invariant: from the position on the line ends where it does from the start on.
--- The measure is what is left of the text. Assumes nothing.
+-- The measure is what is left of the text. By cases on the character: `length-stop`, `length-on`; at the text's end `length-end`.
 use borrow.Author.Needs.{needs}
 use mathlib.Core.Path.{_≡_, refl, _∙_}
 use Prim.Native.Nat.{_+_, _-_}
@@ -21,21 +21,18 @@ loop-holds c = refl
 
 returns : tie.Need-returns Inv-loop μ-loop
 returns c =
-    let a = c .before .before .before .loop in
-    let b = c .before .before .before .before in
-    length-stop (b .args .text .now) (a .i) (omega arith) (c .if1 .taken) ∙ a .inv
+    let loop = c .before .before .before in
+    length-stop (loop .before .args .text .now) (loop .loop .i) (omega arith) (c .if1 .taken) ∙ loop .loop .inv
 
 loop-again : tie.Need-loop-again Inv-loop μ-loop
 loop-again c =
-    let a = c .before .before .before .loop in
-    let b = c .before .before .before .before in
-    length-on (b .args .text .now) (a .i) (omega arith) (c .if1 .left) ∙ a .inv
+    let loop = c .before .before .before in
+    length-on (loop .before .args .text .now) (loop .loop .i) (omega arith) (c .if1 .left) ∙ loop .loop .inv
 
 returns-2 : tie.Need-returns-2 Inv-loop μ-loop
 returns-2 c =
-    let a = c .before .loop in
-    let b = c .before .before in
-    length-end (b .args .text .now) (a .i) (omega arith) ∙ a .inv
+    let loop = c .before in
+    length-end (loop .before .args .text .now) (loop .loop .i) (omega arith) ∙ loop .loop .inv
 
 pub line-end-spec : {M : Type 1} → statement M
 line-end-spec =

@@ -1,4 +1,5 @@
--- `opening::unopened` meets its contract: the places passed are their fields'.
+-- `opening::unopened` meets its contract. The loop's invariant (`mapped`, of `fieldset`): the first f places are their fields' numbers; the measure
+-- is 64 - f. The panel of these parts is the unopened one (`made-unopened`).
 use Prim.Native.Nat.{_≤_, _-_}
 use mathlib.Core.Path.{_≡_, refl, sym}
 use borrow.Author.Needs.{needs}
@@ -22,7 +23,8 @@ loop-again c = (omega arith, mapped-more (λ g x. g) _ _ _ _ (omega arith) (c .b
 
 returns : tie.Need-returns Inv-loop μ-loop
 returns c =
-    made-unopened (c .no-link .result) _ _ _ (c .no-link .ensures) (omega arith) (c .before .before .loop .inv .0) refl (c .before .before .loop .inv .1)
+    let loop = c .before .before .loop in
+    made-unopened (c .no-link .result) _ _ _ (c .no-link .ensures) (omega arith) (loop .inv .0) refl (loop .inv .1)
 
 pub unopened-spec : {M : Type 1} → statement M
 unopened-spec =

@@ -1,5 +1,8 @@
--- `ordering::enter_readers` meets its contract.
+-- `ordering::enter_readers` meets its contract. The loop's invariant (`Entering`): the field is entered for all of the set but the rest; the measure
+-- is the rest. `entering-step` takes the lowest field of the rest.
+use mathlib.Core.Path.{ap}
 use native.Mathlib.Omega.{arith}
+use lib.ListN.{set}
 use Rattle.fieldset.proofs.Emptying.{first-falls}
 use Rattle.ordering.proofs.Readers.{Entering, entering-start, entering-step, entering-end}
 use Rattle.ordering.proofs.enter_readers.Statement.{statement}
@@ -10,6 +13,10 @@ Inv-loop f reads readers₀ rest₀ readers rest = Entering f reads readers₀ r
 
 abbrev μ-loop : tie.MeasureT-loop
 μ-loop f reads readers₀ rest₀ readers rest = rest
+
+-- the field whose readers are entered
+abbrev entering : tie.After-without-lowest Inv-loop μ-loop → tie.After-first Inv-loop μ-loop
+entering c = c .before .before .before
 
 loop-holds : tie.Need-loop-holds Inv-loop μ-loop
 loop-holds c = entering-start (c .pre .1)
@@ -30,10 +37,14 @@ element-write-readers : tie.Need-element-write-readers Inv-loop μ-loop
 element-write-readers c = c .before .before .first .ensures .field
 
 loop-less : tie.Need-loop-less Inv-loop μ-loop
-loop-less c = first-falls (c .before .before .before .first .ensures) (c .without-lowest .ensures)
+loop-less c = first-falls (entering c .first .ensures) (c .without-lowest .ensures)
 
 loop-again : tie.Need-loop-again Inv-loop μ-loop
-loop-again c = entering-step (c .before .before .before .before .before .loop .inv) (c .before .before .before .first .ensures) (rw (c .before .with .ensures)) (c .without-lowest .ensures)
+loop-again c =
+    let next = entering c in
+    let loop = next .before .before in
+    entering-step (loop .loop .inv) (next .first .ensures) (ap (set (loop .loop .readers) (next .first .result)) (c .before .with .ensures))
+    (c .without-lowest .ensures)
 
 returns : tie.Need-returns Inv-loop μ-loop
 returns c = (c .before .loop .inv .long, entering-end (c .before .loop .inv) (c .loop-test .left))

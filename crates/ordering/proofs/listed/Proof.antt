@@ -1,4 +1,4 @@
--- `ordering::listed` meets its contract.
+-- `ordering::listed` meets its contract: by cases on whether the field reads something of what is left.
 use mathlib.Core.Path.{sym, _∙_}
 use borrow.Author.Needs.{needs}
 use Rattle.ordering.proofs.listed.Statement.{statement}

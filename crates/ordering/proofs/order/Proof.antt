@@ -1,4 +1,6 @@
--- `ordering::order` meets its contract.
+-- `ordering::order` meets its contract. The loop's invariant (`Planning`): the fields listed stand at the start of the buffer, before what was there,
+-- and `left` has all others; of these `open` has those that read nothing of what is left, so that its lowest field comes next in the plan. The
+-- measure is `left`, which loses that field. `planning-start`, `planning-step` and `planning-end` carry it.
 use Prim.Native.Nat.{_<_}
 use mathlib.Core.Path.{refl}
 use native.Mathlib.Omega.{arith}
@@ -14,6 +16,25 @@ Inv-loop reads n out₀ readers left₀ open₀ count₀ out left «open» count
 abbrev μ-loop : tie.MeasureT-loop
 μ-loop reads n out₀ readers left₀ open₀ count₀ out left «open» count = left
 
+-- ---- the places: the start, the loop, the field that is listed next
+
+abbrev start : tie.At-loop Inv-loop μ-loop → tie.Start Inv-loop μ-loop
+start c = c .before .before .before .before
+
+abbrev looping : tie.After-first Inv-loop μ-loop → tie.At-loop Inv-loop μ-loop
+looping c = c .before .before
+
+abbrev listing : tie.After-union Inv-loop μ-loop → tie.After-first Inv-loop μ-loop
+listing c = c .before .before .before .before
+
+-- there is room in the buffer
+room : (c : tie.After-first Inv-loop μ-loop) → looping c .loop .count < 64
+room c =
+    let among = start (looping c) .pre .0 in
+    omega (arith, among .few, planning-room among (looping c .loop .inv) (c .first .ensures))
+
+-- ---- the needs
+
 readers-of-requires : tie.Need-readers-of-requires Inv-loop μ-loop
 readers-of-requires c κs = c .pre .0 .few
 
@@ -21,13 +42,9 @@ below-requires : tie.Need-below-requires Inv-loop μ-loop
 below-requires c κs = c .before .pre .0 .few
 
 loop-holds : tie.Need-loop-holds Inv-loop μ-loop
-loop-holds c = planning-start (c .before .before .before .pre .0 .few) (c .before .below .ensures) (c .ready .ensures)
-
--- there is room in the buffer
-room : (c : tie.After-first Inv-loop μ-loop) → c .before .before .loop .count < 64
-room c =
-    let a = c .before .before .before .before .before .before .pre .0 in
-    omega (arith, a .few, planning-room a (c .before .before .loop .inv) (c .first .ensures))
+loop-holds c =
+    let all = c .before in
+    planning-start (all .before .before .pre .0 .few) (all .below .ensures) (c .ready .ensures)
 
 cast-out : tie.Need-cast-out Inv-loop μ-loop
 cast-out c = omega (arith, c .first .ensures .field)
@@ -49,28 +66,23 @@ array-read-ready c = c .before .before .first .ensures .field
 
 loop-less : tie.Need-loop-less Inv-loop μ-loop
 loop-less c =
-    rw (c .before .before .before .without .ensures)
-    (planning-falls
-    (c .before .before .before .before .before .before .before .before .before .before .pre .0)
-    (c .before .before .before .before .before .before .loop .inv)
-    (c .before .before .before .before .first .ensures))
+    let next = listing c in
+    let loop = looping next in
+    rw (c .before .before .before .without .ensures) (planning-falls (start loop .pre .0) (loop .loop .inv) (next .first .ensures))
 
 loop-again : tie.Need-loop-again Inv-loop μ-loop
 loop-again c =
-    planning-step
-    (c .before .before .before .before .before .before .before .before .before .before .pre .0)
-    (c .before .before .before .before .before .before .loop .inv)
-    (c .before .before .before .before .first .ensures)
-    (c .before .before .before .before .before .before .before .before .before .readers-of .ensures)
-    (c .before .ready2 .ensures)
-    (c .before .before .before .before .before .before .before .before .before .before .pre .1)
-    (c .before .before .before .without .ensures)
-    (c .before .before .without-lowest .ensures)
-    (c .union .ensures)
-    refl
+    let readied = c .before in
+    let others = readied .before in
+    let next = listing c in
+    let loop = looping next in
+    let s = start loop in
+    planning-step (s .pre .0) (loop .loop .inv) (next .first .ensures) (loop .before .before .before .readers-of .ensures)
+    (readied .ready2 .ensures) (s .pre .1)
+    (others .before .without .ensures) (others .without-lowest .ensures) (c .union .ensures) refl
 
 returns : tie.Need-returns Inv-loop μ-loop
-returns c = planning-end (c .before .before .before .before .before .pre .0) (c .before .loop .inv) (c .loop-test .left)
+returns c = planning-end (start (c .before) .pre .0) (c .before .loop .inv) (c .loop-test .left)
 
 pub order-spec : {M : Type 1} → statement M
 order-spec =

@@ -1,4 +1,5 @@
--- `ordering::readers_of` meets its contract.
+-- `ordering::readers_of` meets its contract. The loop's invariant (`ReadersUpTo`): the sets have the readers among the first f fields; the measure is
+-- n - f. `readers-step` enters the field f as a reader.
 use Prim.Native.Nat.{_-_}
 use native.Mathlib.Omega.{arith}
 use Rattle.fieldset.specs.Tables.{at}
@@ -20,12 +21,9 @@ enter-readers-requires c κs = (omega arith, c .before .before .before .loop .in
 
 loop-again : tie.Need-loop-again Inv-loop μ-loop
 loop-again c =
-    readers-step
-    (c .before .before .before .before .before .pre)
-    (c .before .before .before .loop-test .taken)
-    (c .before .before .before .before .loop .inv)
-    (c .enter-readers .ensures .0)
-    (c .enter-readers .ensures .1)
+    let inside = c .before .before .before in
+    let loop = inside .before in
+    readers-step (loop .before .pre) (inside .loop-test .taken) (loop .loop .inv) (c .enter-readers .ensures .0) (c .enter-readers .ensures .1)
 
 returns : tie.Need-returns Inv-loop μ-loop
 returns c = readers-end (c .before .loop .inv) (c .loop-test .left)

@@ -1,4 +1,5 @@
--- `ordering::ready` meets its contract.
+-- `ordering::ready` meets its contract. The loop's invariant (`Filtering`, of `fieldset`): what is gathered are the fields of the set, but for the
+-- rest, that pass the test; the measure is the rest. Each field is gathered or passed over (`filter-step`).
 use mathlib.Core.Path.{ap, sym, _∙_}
 use mathlib.Core.Bool.{not}
 use mathlib.Core.Logic.{⊎-elim, inl, inr}
@@ -16,6 +17,10 @@ Inv-loop set left reads out₀ rest₀ out rest = Filtering (λ f. not (meets (a
 abbrev μ-loop : tie.MeasureT-loop
 μ-loop set left reads out₀ rest₀ out rest = rest
 
+-- the field that is looked at
+abbrev looking : tie.After-without-lowest Inv-loop μ-loop → tie.After-first Inv-loop μ-loop
+looking c = c .before .before .before .before
+
 loop-holds : tie.Need-loop-holds Inv-loop μ-loop
 loop-holds c = filter-start
 
@@ -29,13 +34,16 @@ with-requires : tie.Need-with-requires Inv-loop μ-loop
 with-requires c κs = c .before .before .before .first .ensures .field
 
 loop-less : tie.Need-loop-less Inv-loop μ-loop
-loop-less c = first-falls (c .before .before .before .before .first .ensures) (c .without-lowest .ensures)
+loop-less c = first-falls (looking c .first .ensures) (c .without-lowest .ensures)
 
 loop-again : tie.Need-loop-again Inv-loop μ-loop
 loop-again c =
-    let m = ap not (sym (c .before .before .meets .ensures)) in
-    filter-step (c .before .before .before .before .before .before .loop .inv) (c .before .before .before .before .first .ensures)
-    (⊎-elim (λ w. inl (m ∙ w .0 .taken, w .2 ∙ w .1 .ensures)) (λ w. inr (m ∙ w .0 .left, w .1)) (c .before .if1 .came)) (c .without-lowest .ensures)
+    let next = looking c in
+    let test = ap not (sym (c .before .before .meets .ensures)) in
+    filter-step (next .before .before .loop .inv) (next .first .ensures)
+    (⊎-elim (λ w. let (branch, gathered, out-is) = w in inl (test ∙ branch .taken, out-is ∙ gathered .ensures))
+    (λ w. let (branch, out-is) = w in inr (test ∙ branch .left, out-is)) (c .before .if1 .came))
+    (c .without-lowest .ensures)
 
 returns : tie.Need-returns Inv-loop μ-loop
 returns c = filter-end (c .before .loop .inv) (c .loop-test .left)

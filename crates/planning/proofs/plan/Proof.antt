@@ -1,6 +1,9 @@
--- `planning::plan` meets its contract: the rows of the fields passed stand in the buffer.
-use Prim.Native.Nat.{_-_, _<_}
+-- `planning::plan` meets its contract. An unopened panel is refused (`plan-closed`). Else the fields of the plan are listed (`listing`) and their
+-- rows written one by one. The loop's invariant (`Written`): the rows of the first i fields stand at the start of the buffer, whose bytes behind are
+-- as they were; the measure is how many are left. With all of them written the reply and the rows are the plan's (`plan-done`).
+use Prim.Native.Nat.{ℕ, _-_, _<_}
 use mathlib.Core.Path.{refl, _∙_}
+use mathlib.Core.List.{List}
 use native.Mathlib.Omega.{arith}
 use borrow.Author.Needs.{needs}
 use Rattle.fieldset.specs.Tables.{at}
@@ -16,18 +19,29 @@ Inv-loop levels others reads rows₀ n setter table listed count i₀ now i = Wr
 abbrev μ-loop : tie.MeasureT-loop
 μ-loop levels others reads rows₀ n setter table listed count i₀ now i = count - i
 
-listing : (o : tie.After-order Inv-loop μ-loop) → Listed (o .before .before .before .before .before .before .args .p) (o .order .last .1 .1 .0) (o .order .result)
-listing o =
-    let s = o .before .before .before .before .before .before in
-    plan-listed (s .args .p) (s .pre .0) _ _ _ (s .pre .1) _ _ _ refl (o .order .ensures .0) (o .order .ensures .1)
+-- ---- the places: the plan listed, the row that is written
 
--- a place passed, and its field
-low : (c : tie.In-loop Inv-loop μ-loop) → (c .before .loop .i < 64) × (at (c .before .before .order .last .1 .1 .0) (c .before .loop .i) < 64)
+abbrev start : tie.After-order Inv-loop μ-loop → tie.Start Inv-loop μ-loop
+start c = c .before .before .before .before .before .before
+
+-- the buffer with the plan's fields
+abbrev fields : tie.After-order Inv-loop μ-loop → List ℕ
+fields c = c .order .last .1 .1 .0
+
+listing : (c : tie.After-order Inv-loop μ-loop) → Listed (start c .args .p) (fields c) (c .order .result)
+listing c =
+    let s = start c in
+    plan-listed (s .args .p) (s .pre .0) _ _ _ (s .pre .1) _ _ _ refl (c .order .ensures .0) (c .order .ensures .1)
+
+-- the place of the row, and its field
+low : (c : tie.In-loop Inv-loop μ-loop) → (c .before .loop .i < 64) × (at (fields (c .before .before)) (c .before .loop .i) < 64)
 low c =
-    let o = c .before .before in
-    let r = listing o in
-    let few = o .before .before .before .before .before .before .pre .0 .few in
-    (omega (arith, c .loop-test .taken, r .counted, few), omega (arith, r .low (c .before .loop .i) (c .loop-test .taken), few))
+    let i = c .before .loop .i in
+    let listed = listing (c .before .before) in
+    let few = start (c .before .before) .pre .0 .few in
+    (omega (arith, c .loop-test .taken, listed .counted, few), omega (arith, listed .low i (c .loop-test .taken), few))
+
+-- ---- the needs
 
 returns : tie.Need-returns Inv-loop μ-loop
 returns c = plan-closed (c .before .args .p) _ (c .if1 .taken)
@@ -57,8 +71,9 @@ array-read-put-row-2 c = let l = low (c .before .before) in omega (arith, c .bef
 
 put-row-requires : tie.Need-put-row-requires Inv-loop μ-loop
 put-row-requires c κs =
-    let b = c .before .before in
-    (low b .0, written-full (b .before .loop .inv) ∙ b .before .before .before .before .before .before .before .before .pre .2)
+    let inside = c .before .before in
+    let loop = inside .before in
+    (low inside .0, written-full (loop .loop .inv) ∙ start (loop .before) .pre .2)
 
 add-i : tie.Need-add-i Inv-loop μ-loop
 add-i c = omega (arith, low (c .before .before .before) .0)
@@ -68,22 +83,24 @@ loop-less c = omega (arith, c .before .before .before .loop-test .taken)
 
 loop-again : tie.Need-loop-again Inv-loop μ-loop
 loop-again c =
-    let b = c .before .before .before in
-    written-more (b .before .loop .inv) _ _ (b .loop-test .taken) (rw (listing (b .before .before) .full) (low b .0)) (c .before .before .wide .ensures)
+    let inside = c .before .before .before in
+    let loop = inside .before in
+    written-more (loop .loop .inv) _ _ (inside .loop-test .taken) (rw (listing (loop .before) .full) (low inside .0)) (c .before .before .wide .ensures)
     (c .put-row .ensures)
 
 cast-t30 : tie.Need-cast-t30 Inv-loop μ-loop
-cast-t30 c = omega (arith, c .before .before .before .before .before .before .before .before .pre .0 .few)
+cast-t30 c = omega (arith, start (c .before .before) .pre .0 .few)
 
 returns-2 : tie.Need-returns-2 Inv-loop μ-loop
 returns-2 c =
-    let a = c .before .loop in
-    let o = c .before .before in
-    let t = o .before .before in
-    let s = t .before .before .before .before in
-    plan-done (s .args .p) _ _ _ _ _ (a .i) (s .pre .0) (omega (arith, t .before .before .before .if1 .left))
-    (panel-strengths (s .args .p) (s .pre .0) _ _ _ (s .pre .1) _ _ refl (t .strengths .ensures))
-    (listing o) (a .inv) (c .loop-test .left)
+    let loop = c .before in
+    let listed = loop .before in
+    let strong = listed .before .before in
+    let opened = strong .before .before .before in
+    let s = start listed in
+    plan-done (s .args .p) _ _ _ _ _ (loop .loop .i) (s .pre .0) (omega (arith, opened .if1 .left))
+    (panel-strengths (s .args .p) (s .pre .0) _ _ _ (s .pre .1) _ _ refl (strong .strengths .ensures))
+    (listing listed) (loop .loop .inv) (c .loop-test .left)
 
 pub plan-spec : {M : Type 1} → statement M
 plan-spec =

@@ -1,4 +1,4 @@
--- `planning::put_row` meets its contract.
+-- `planning::put_row` meets its contract: three stores one after the other are the run of stores.
 use native.Mathlib.Numerals.{add-one, add-two}
 use borrow.Author.Needs.{needs}
 use Rattle.planning.proofs.put_row.Statement.{statement}

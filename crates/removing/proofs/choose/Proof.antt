@@ -1,4 +1,4 @@
--- `removing::choose` meets its contract.
+-- `removing::choose` meets its contract: by cases on what the scan finds.
 use mathlib.Core.Path.{sym, ap, subst}
 use borrow.Author.Needs.{needs}
 use Rattle.removing.specs.Choice.{OfField, chosenOf}

@@ -1,4 +1,7 @@
--- `scanning::find_blocked` meets its contract: the links passed, and then the stays passed, are scanned. Assumes nothing.
+-- `scanning::find_blocked` meets its contract. Each loop's invariant (`Scanned`): what is found is the first of least level among the blocked items
+-- passed, the links up to i, then all links and the stays up to f, and `least` is its level; the measures are how many are left. An item is taken
+-- (`scan-takes`), left as not blocked (`scan-leaves`) or passed over by its level (`scan-keeps`). In the list the links come before
+-- the stays.
 use Prim.Native.Nat.{_-_, _≤_, _<_}
 use mathlib.Core.Path.{refl, sym, _∙_}
 use mathlib.Core.Logic.{⊎-elim}
@@ -26,23 +29,42 @@ Inv-loop2 setter table p found₀ least₀ i n f₀ found least f = (f ≤ n) ×
 abbrev μ-loop2 : tie.MeasureT-loop2
 μ-loop2 setter table p found₀ least₀ i n f₀ found least f = n - f
 
+-- ---- the places: the loops and the start
+
+abbrev start : tie.At-loop Inv-loop μ-loop Inv-loop2 μ-loop2 → tie.Start Inv-loop μ-loop Inv-loop2 μ-loop2
+start c = c .before
+
+abbrev start2 : tie.At-loop2 Inv-loop μ-loop Inv-loop2 μ-loop2 → tie.Start Inv-loop μ-loop Inv-loop2 μ-loop2
+start2 c = start (c .before .before)
+
+-- the stay whose level is worked out
+abbrev looping : tie.After-level Inv-loop μ-loop Inv-loop2 μ-loop2 → tie.At-loop2 Inv-loop μ-loop Inv-loop2 μ-loop2
+looping c = c .before .before
+
+-- ---- the needs
+
 loop-holds : tie.Need-loop-holds Inv-loop μ-loop Inv-loop2 μ-loop2
 loop-holds c = (omega arith, scan-none _)
 
+-- a link of less level is taken where it is blocked, and left where not; one of no less level changes nothing
 loop-again : tie.Need-loop-again Inv-loop μ-loop Inv-loop2 μ-loop2
 loop-again c =
-    let b = c .before .before .before .before .before in
-    let a = c .before .before .before .before .loop in
-    let p = b .args .t1 in
-    let L = b .pre .0 in
-    let l : a .i < 128 = omega arith in
-    let q = link-blocked p (b .args .setter .now) (b .args .table .now) L (b .pre .1) (a .i) l in
-    let e = next-link (a .i) in (
+    let a = c .before .before .before .before in
+    let s = start a in
+    let p = s .args .t1 in
+    let i = a .loop .i in
+    let found = a .loop .inv .1 in
+    let legal = s .pre .0 in
+    let small : i < 128 = omega arith in
+    let is = link-blocked p (s .args .setter .now) (s .args .table .now) legal (s .pre .1) i small in
+    let more = next-link i in (
       omega arith,
-      ⊎-elim (λ w. scan-takes (a .inv .1) (link (a .i)) e (rw (w .3) refl) (rw (w .3) refl) (w .4) (q ∙ sym (w .1 .ensures) ∙ w .2 .taken) (w .0 .taken))
-          (λ w.
-          ⊎-elim (λ v. scan-leaves (a .inv .1) (link (a .i)) e (w .1) (w .2) (q ∙ sym (v .1 .ensures) ∙ v .2 .left))
-          (λ v. scan-keeps (a .inv .1) (link (a .i)) e (w .1) (w .2) (omega (arith, link-level p (a .i) L l)) (v .left)) (w .0 .came))
+      ⊎-elim
+          (λ w. let (less, tested, test, found-is, least-is) = w in
+          scan-takes found (link i) more (rw found-is refl) (rw found-is refl) least-is (is ∙ sym (tested .ensures) ∙ test .taken) (less .taken))
+          (λ w. let (why, found-is, least-is) = w in
+          ⊎-elim (λ v. let (_, tested, test) = v in scan-leaves found (link i) more found-is least-is (is ∙ sym (tested .ensures) ∙ test .left))
+          (λ less. scan-keeps found (link i) more found-is least-is (omega (arith, link-level p i legal small)) (less .left)) (why .came))
           (c .if1 .came),
     )
 
@@ -50,41 +72,48 @@ loop2-holds : tie.Need-loop2-holds Inv-loop μ-loop Inv-loop2 μ-loop2
 loop2-holds c = (omega arith, stays-start (omega arith) (c .before .loop .inv .1))
 
 element-copy-out-level : tie.Need-element-copy-out-level Inv-loop μ-loop Inv-loop2 μ-loop2
-element-copy-out-level c = omega (arith, c .before .before .before .before .pre .0 .few)
+element-copy-out-level c = omega (arith, start2 (c .before) .pre .0 .few)
 
 add-level : tie.Need-add-level Inv-loop μ-loop Inv-loop2 μ-loop2
 add-level c =
-    let L = c .before .before .before .before .before .pre .0 in
-    omega (arith, L .place-small (c .before .before .loop2 .f) (omega arith), L .few)
+    let legal = start2 (looping c) .pre .0 in
+    omega (arith, legal .place-small (looping c .loop2 .f) (omega arith), legal .few)
 
 element-copy-out-if4 : tie.Need-element-copy-out-if4 Inv-loop μ-loop Inv-loop2 μ-loop2
-element-copy-out-if4 c = omega (arith, c .before .before .before .before .before .before .pre .0 .few)
+element-copy-out-if4 c = omega (arith, start2 (looping (c .before)) .pre .0 .few)
 
 element-copy-out-if5 : tie.Need-element-copy-out-if5 Inv-loop μ-loop Inv-loop2 μ-loop2
-element-copy-out-if5 c = omega (arith, c .before .before .before .before .before .before .before .before .pre .0 .few)
+element-copy-out-if5 c = omega (arith, start2 (looping (c .before .before .before)) .pre .0 .few)
 
+-- a stay of less level is taken where it waits and its field is stronger, and left where it is not or where it sets its field
 loop2-again : tie.Need-loop2-again Inv-loop μ-loop Inv-loop2 μ-loop2
 loop2-again c =
-    let b = c .before .before .before .before .before .before in
-    let a = c .before .before .before .loop2 in
-    let p = b .args .t1 in
-    let s = b .args .setter .now in
-    let t = b .args .table .now in
-    let L = b .pre .0 in
-    let S = b .pre .1 in
-    let lev = level p (stay (a .f)) in
-    let l : a .f < p .size = omega arith in
-    let e = next-stay (a .f) in (
+    let a = looping (c .before) in
+    let s = start2 a in
+    let p = s .args .t1 in
+    let setter = s .args .setter .now in
+    let table = s .args .table .now in
+    let f = a .loop2 .f in
+    let found = a .loop2 .inv .1 in
+    let legal = s .pre .0 in
+    let strong = s .pre .1 in
+    let lev = level p (stay f) in
+    let small : f < p .size = omega arith in
+    let more = next-stay f in (
       omega arith,
       ⊎-elim
-          (λ w.
-          scan-takes (a .inv .1) (stay (a .f)) e (rw (w .5) refl) (rw (w .5) tt) (w .6)
-          (stay-over p s t L S (a .f) l (ltb-true (at s (a .f)) 128 (w .2 .taken)) (ltb-true lev (at t (a .f)) (w .4 .taken)))
-          (w .0 .taken))
-          (λ w.
-          ⊎-elim (λ v. scan-leaves (a .inv .1) (stay (a .f)) e (w .1) (w .2) (stay-under p s t L S (a .f) l (ltb-false lev (at t (a .f)) (v .4 .left))))
-          (⊎-elim (λ v. scan-leaves (a .inv .1) (stay (a .f)) e (w .1) (w .2) (stay-sets p s t L S (a .f) l (ltb-false (at s (a .f)) 128 (v .2 .left))))
-          (λ v. scan-keeps (a .inv .1) (stay (a .f)) e (w .1) (w .2) (omega (arith, L .place-small (a .f) l)) (v .left))) (w .0 .came))
+          (λ w. let (less, _, waits, _, over, found-is, least-is) = w in
+          scan-takes found (stay f) more (rw found-is refl) (rw found-is tt) least-is
+          (stay-over p setter table legal strong f small (ltb-true (at setter f) 128 (waits .taken)) (ltb-true lev (at table f) (over .taken)))
+          (less .taken))
+          (λ w. let (why, found-is, least-is) = w in
+          ⊎-elim
+          (λ v. let (_, _, _, _, over) = v in
+          scan-leaves found (stay f) more found-is least-is (stay-under p setter table legal strong f small (ltb-false lev (at table f) (over .left))))
+          (⊎-elim
+          (λ v. let (_, _, waits) = v in
+          scan-leaves found (stay f) more found-is least-is (stay-sets p setter table legal strong f small (ltb-false (at setter f) 128 (waits .left))))
+          (λ less. scan-keeps found (stay f) more found-is least-is (omega (arith, legal .place-small f small)) (less .left))) (why .came))
           (c .if3 .came),
     )
 

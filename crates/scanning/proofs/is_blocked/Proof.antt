@@ -1,4 +1,4 @@
--- `scanning::is_blocked` meets its contract. Assumes nothing.
+-- `scanning::is_blocked` meets its contract: by cases on the standing and on whether the link is in use (`link-waits`, `link-unused`, `link-holds`).
 use Rattle.scanning.proofs.Over.{link-unused, link-holds, link-waits}
 use borrow.Author.Needs.{needs}
 use Rattle.scanning.proofs.is_blocked.Statement.{statement}
@@ -6,9 +6,9 @@ use Rattle.scanning.proofs.is_blocked.Tie as tie
 
 returns : tie.Need-returns
 returns c =
-    let t = c .before .before in
-    let b = t .before .before .args in
-    link-waits (b .table .now) (b .l) (c .is-over .result) (c .before .if1 .taken) (t .enum-told .given .1) (c .is-over .ensures)
+    let waits = c .before .before in
+    let s = waits .before .before .args in
+    link-waits (s .table .now) (s .l) (c .is-over .result) (c .before .if1 .taken) (waits .enum-told .given .1) (c .is-over .ensures)
 
 returns-2 : tie.Need-returns-2
 returns-2 c =

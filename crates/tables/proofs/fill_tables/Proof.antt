@@ -1,8 +1,10 @@
--- `tables::fill_tables` meets its contract: the entries of the fields passed are the panel's.
+-- `tables::fill_tables` meets its contract. The loop's invariant (`TabledTo`): the entries of the first f fields are the panel's; the measure is
+-- 64 - f. The next field's entry is its setter's (`entry-setting`), and its stores leave the other entries (`tabled-set`).
 use Prim.Native.Nat.{_+_, _-_, _≤_}
-use mathlib.Core.Path.{refl}
+use mathlib.Core.Path.{refl, ap}
 use native.Mathlib.Omega.{arith}
 use borrow.Author.Needs.{needs}
+use Rattle.panel.specs.Items.{linkAt}
 use Rattle.tables.specs.Tables.{TabledTo}
 use Rattle.tables.proofs.Settings.{places, entry-setting, tabled-set}
 use Rattle.tables.proofs.fill_tables.Statement.{statement}
@@ -15,25 +17,41 @@ abbrev μ-loop : tie.MeasureT-loop
 μ-loop levels₀ others₀ reads₀ p f₀ levels others reads f = 64 - f
 
 loop-holds : tie.Need-loop-holds Inv-loop μ-loop
-loop-holds c = let s = c .pre in (omega arith, record { levels-full = s .1; others-full = s .2; reads-full = s .3; setting = λ f l. absurd (omega arith) })
+loop-holds c =
+    let (_, levels-full, others-full, reads-full) = c .pre in
+    (omega arith, record { levels-full = levels-full; others-full = others-full; reads-full = reads-full; setting = λ f l. absurd (omega arith) })
+
+-- where the loop is entered for the next field
+abbrev inside : tie.After-setter-entry-arg2 Inv-loop μ-loop → tie.In-loop Inv-loop μ-loop
+inside c = c .before .before .before .before
 
 setter-entry-requires : tie.Need-setter-entry-requires Inv-loop μ-loop
-setter-entry-requires c κs = let a = c .before .before .before .before .before in
-    (places _ (a .before .pre .0) (a .loop .f) (omega (arith, c .before .before .before .before .loop-test .taken)), omega (arith, c .before .before .before .before .loop-test .taken))
+setter-entry-requires c κs =
+    let next = inside c in
+    let loop = next .before in
+    (places _ (loop .before .pre .0) (loop .loop .f) (omega (arith, next .loop-test .taken)), omega (arith, next .loop-test .taken))
 
 loop-again : tie.Need-loop-again Inv-loop μ-loop
 loop-again c =
-    let a = c .before .before .before .before .before .before in
-    let k = c .before .before .before .before .before .loop-test .taken in (
+    let next = inside (c .before) in
+    let loop = next .before .loop in
+    let p = next .before .before .args .t1 in
+    let low = next .loop-test .taken in (
       omega arith,
-      tabled-set _ _ (a .loop .f) (a .loop .f + 1) (a .loop .f) _ _ _ k (λ f x y z l ne. (omega arith, λ s. s))
-          (entry-setting _ (a .loop .f) _ _ _ _ refl (rw (c .before .before .before .wide .ensures) refl) refl (c .setter-entry .ensures)) (a .loop .inv .1),
+      tabled-set _ _ (loop .f) (loop .f + 1) (loop .f) _ _ _ low (λ f x y z l ne. (omega arith, λ s. s))
+          (entry-setting _ (loop .f) _ _ _ _ refl (ap (linkAt (p .links)) (c .before .before .before .wide .ensures)) refl (c .setter-entry .ensures))
+          (loop .inv .1),
     )
 
 returns : tie.Need-returns Inv-loop μ-loop
-returns c = let a = c .before .loop in
-    let t = a .inv .1 in
-    record { levels-full = t .levels-full; others-full = t .others-full; reads-full = t .reads-full; setting = λ f l. t .setting f (omega (arith, c .loop-test .left)) }
+returns c =
+    let tabled = c .before .loop .inv .1 in
+    record {
+      levels-full = tabled .levels-full;
+      others-full = tabled .others-full;
+      reads-full = tabled .reads-full;
+      setting = λ f l. tabled .setting f (omega (arith, c .loop-test .left));
+    }
 
 pub fill-tables-spec : {M : Type 1} → statement M
 fill-tables-spec =

@@ -1,4 +1,4 @@
--- `tables::level_with` meets its contract.
+-- `tables::level_with` meets its contract: by cases on whether the number is a link's.
 use borrow.Author.Needs.{needs}
 use borrow.Author.Tests.{lt-ltb, le-ltb}
 use Rattle.tables.proofs.level_with.Statement.{statement}

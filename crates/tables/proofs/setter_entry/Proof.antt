@@ -1,4 +1,4 @@
--- `tables::setter_entry` meets its contract.
+-- `tables::setter_entry` meets its contract: by cases on whether the number is a link's.
 use borrow.Author.Needs.{needs}
 use borrow.Author.Tests.{lt-ltb, le-ltb}
 use Rattle.tables.proofs.setter_entry.Statement.{statement}

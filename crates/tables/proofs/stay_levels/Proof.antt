@@ -1,4 +1,5 @@
--- `tables::stay_levels` meets its contract: the levels of the fields passed are by the places.
+-- `tables::stay_levels` meets its contract. The loop's invariant (`mapped`, of `fieldset`): the levels of the first f fields are by the places, the
+-- others as they were; the measure is 64 - f.
 use Prim.Native.Nat.{ℕ, _-_, _≤_}
 use mathlib.Core.Path.{_≡_, sym, ap, _∙_}
 use mathlib.Core.List.{List}
@@ -25,25 +26,29 @@ loop-holds : tie.Need-loop-holds Inv-loop μ-loop
 loop-holds c = (omega arith, c .pre .1, sym (mapped-none (by (c .args .setter .now) (c .args .place .now)) (c .args .levels .now)))
 
 level-with-requires : tie.Need-level-with-requires Inv-loop μ-loop
-level-with-requires c κs = let i = c .before .before .before in i .before .before .pre .0 (i .before .loop .f) (i .loop-test .taken)
+level-with-requires c κs =
+    let inside = c .before .before .before in
+    let loop = inside .before in
+    loop .before .pre .0 (loop .loop .f) (inside .loop-test .taken)
 
 loop-again : tie.Need-loop-again Inv-loop μ-loop
 loop-again c =
-    let i = c .before .before .before .before in
-    let a = i .before .loop in
-    let s = i .before .before in (
-      omega (arith, i .loop-test .taken),
-      length-set (a .levels) (a .f) (c .level-with .result) ∙ a .inv .1,
-      mapped-more (by (s .args .setter .now) (s .args .place .now)) (s .args .levels .now) (a .f) _ _ (omega (arith, s .pre .1, i .loop-test .taken)) (a .inv .2) (c .level-with .ensures),
+    let inside = c .before .before .before .before in
+    let loop = inside .before .loop in
+    let s = inside .before .before in (
+      omega (arith, inside .loop-test .taken),
+      length-set (loop .levels) (loop .f) (c .level-with .result) ∙ loop .inv .1,
+      mapped-more (by (s .args .setter .now) (s .args .place .now)) (s .args .levels .now) (loop .f) _ _ (omega (arith, s .pre .1, inside .loop-test .taken))
+          (loop .inv .2) (c .level-with .ensures),
     )
 
 returns : tie.Need-returns Inv-loop μ-loop
 returns c =
-    let a = c .before .loop in
+    let loop = c .before .loop in
     let s = c .before .before in
-    let end : a .f ≡ 64 = omega (arith, a .inv .0, c .loop-test .left) in
-    a .inv .2 ∙ ap (mapped (by (s .args .setter .now) (s .args .place .now)) (s .args .levels .now)) end
-    ∙ mapped-all (by (s .args .setter .now) (s .args .place .now)) (s .args .levels .now) 64 (omega (arith, s .pre .1))
+    let levels-by = by (s .args .setter .now) (s .args .place .now) in
+    let end : loop .f ≡ 64 = omega (arith, loop .inv .0, c .loop-test .left) in
+    loop .inv .2 ∙ ap (mapped levels-by (s .args .levels .now)) end ∙ mapped-all levels-by (s .args .levels .now) 64 (omega (arith, s .pre .1))
 
 pub stay-levels-spec : {M : Type 1} → statement M
 stay-levels-spec =

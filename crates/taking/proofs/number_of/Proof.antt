@@ -1,4 +1,4 @@
--- `taking::number_of` meets its contract.
+-- `taking::number_of` meets its contract: by cases on whether the number is a link's.
 use borrow.Author.Tests.{lt-ltb, le-ltb}
 use Rattle.taking.proofs.number_of.Statement.{statement}
 use Rattle.taking.proofs.number_of.Tie as tie

@@ -1,4 +1,4 @@
--- `taking::standing_of` meets its contract.
+-- `taking::standing_of` meets its contract: by cases on whether the number is a link's.
 use borrow.Author.Tests.{lt-ltb, le-ltb}
 use Rattle.taking.proofs.standing_of.Statement.{statement}
 use Rattle.taking.proofs.standing_of.Tie as tie

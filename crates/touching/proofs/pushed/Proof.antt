@@ -1,14 +1,12 @@
+-- `touching::pushed` meets its contract: by cases on the comparison.
 use borrow.Author.Tests.{lt-ltb, le-ltb}
 use borrow.Author.Needs.{needs}
 use Rattle.touching.proofs.pushed.Statement.{statement}
 use Rattle.touching.proofs.pushed.Tie as tie
 
--- src/lib.rt:213:17
--- src/lib.rt:210:1
 returns : tie.Need-returns
 returns c = simp (lt-ltb _ _ (c .if1 .taken))
 
--- src/lib.rt:210:1
 returns-2 : tie.Need-returns-2
 returns-2 c = simp (le-ltb _ _ (c .if1 .left))
 

@@ -1,5 +1,6 @@
--- `touching::to_front` meets its contract: the places passed are pushed down.
-use Prim.Native.Nat.{_≤_, _-_}
+-- `touching::to_front` meets its contract. The loop's invariant (`mapped`, of `fieldset`): of the first g places those before f's are one further,
+-- and all others are as they were; the measure is 64 - g. With f's own place 0 they are the definition's (`front-set`).
+use Prim.Native.Nat.{ℕ, _≤_, _-_}
 use mathlib.Core.Path.{_≡_, sym, ap, _∙_}
 use borrow.Author.Needs.{needs}
 use native.Mathlib.Omega.{arith}
@@ -15,21 +16,25 @@ Inv-loop place₀ f at g₀ place g = (g ≤ 64) × (place ≡ mapped (pushedAt 
 abbrev μ-loop : tie.MeasureT-loop
 μ-loop place₀ f at g₀ place g = 64 - g
 
+-- what becomes of the places: those before f's are pushed
+abbrev push : tie.Start Inv-loop μ-loop → ℕ → ℕ → ℕ
+push s = pushedAt (at (s .args .place .now) (s .args .f))
+
 loop-holds : tie.Need-loop-holds Inv-loop μ-loop
-loop-holds c = (omega arith, sym (mapped-none (pushedAt (at (c .before .args .place .now) (c .before .args .f))) (c .before .args .place .now)))
+loop-holds c = (omega arith, sym (mapped-none (push (c .before)) (c .before .args .place .now)))
 
 loop-again : tie.Need-loop-again Inv-loop μ-loop
 loop-again c =
-    let l = c .before .before .before in
-    let s = l .before .before in
-    (omega arith, mapped-more (pushedAt (at (s .args .place .now) (s .args .f))) (s .args .place .now) (l .loop .g) _ _ (omega (arith, s .pre .1)) (l .loop .inv .1) (c .pushed .ensures))
+    let loop = c .before .before .before in
+    let s = loop .before .before in
+    (omega arith, mapped-more (push s) (s .args .place .now) (loop .loop .g) _ _ (omega (arith, s .pre .1)) (loop .loop .inv .1) (c .pushed .ensures))
 
 returns : tie.Need-returns Inv-loop μ-loop
 returns c =
-    let s = c .before .before .before in
-    let end : c .before .loop .g ≡ 64 = omega arith in
-    front-set (s .args .place .now) _ _ (s .pre .0) (s .pre .1)
-    (c .before .loop .inv .1 ∙ ap (mapped (pushedAt (at (s .args .place .now) (s .args .f))) (s .args .place .now)) end)
+    let loop = c .before in
+    let s = loop .before .before in
+    let end : loop .loop .g ≡ 64 = omega arith in
+    front-set (s .args .place .now) _ _ (s .pre .0) (s .pre .1) (loop .loop .inv .1 ∙ ap (mapped (push s) (s .args .place .now)) end)
 
 pub to-front-spec : {M : Type 1} → statement M
 to-front-spec =

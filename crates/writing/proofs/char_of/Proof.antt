@@ -1,4 +1,4 @@
--- `writing::char_of` meets its contract. Assumes nothing.
+-- `writing::char_of` meets its contract: by cases on whether the value is below ten.
 use borrow.Author.Tests.{lt-ltb, le-ltb}
 use Rattle.hex.specs.Hex.{charOf}
 use borrow.Author.Needs.{needs}

@@ -1,4 +1,5 @@
--- `writing::put_all` meets its contract: the digits of the first `i` bytes are written. Assumes nothing.
+-- `writing::put_all` meets its contract. The loop's invariant (`Written`): the digits of the first i bytes are written; the measure is how many bytes
+-- are left. The buffer keeps its length (`same`), so that every store is inside.
 use mathlib.Core.Path.{_≡_, refl, ap, _∙_}
 use Prim.Native.Nat.{_+_, _-_, _*_}
 use native.Mathlib.Omega.{arith}
@@ -19,6 +20,9 @@ abbrev μ-loop : tie.MeasureT-loop
 same : (c : tie.At-loop Inv-loop μ-loop) → length (c .loop .out) ≡ length (c .before .before .before .args .out .now)
 same c = ap length (c .loop .inv .digits) ∙ simp length-sets
 
+abbrev looping : tie.After-low-char Inv-loop μ-loop → tie.At-loop Inv-loop μ-loop
+looping c = c .before .before .before .before .before
+
 loop-holds : tie.Need-loop-holds Inv-loop μ-loop
 loop-holds c = written-none _ _ _
 
@@ -27,14 +31,15 @@ slice-write-out c = omega (arith, same (c .before .before .before))
 
 slice-write-out-2 : tie.Need-slice-write-out-2 Inv-loop μ-loop
 slice-write-out-2 c =
-    let l = c .before .before .before .before .before in
-    omega (arith, same l, length-set (l .loop .out) (l .before .before .before .args .at + 2 * l .loop .i) (c .before .before .high-char .result))
+    let loop = looping c in
+    omega (arith, same loop, length-set (loop .loop .out) (loop .before .before .before .args .at + 2 * loop .loop .i) (c .before .before .high-char .result))
 
 loop-again : tie.Need-loop-again Inv-loop μ-loop
 loop-again c =
-    let l = c .before .before .before .before .before .loop in
-    written-more _ _ _ _ _ (l .i) (l .inv) (c .before .before .before .before .loop-test .taken)
-    (byte-put _ _ _ _ _ _ _ (c .before .before .high-char .ensures) refl (c .low-char .ensures) refl)
+    let high = c .before .before in
+    let loop = looping c .loop in
+    written-more _ _ _ _ _ (loop .i) (loop .inv) (high .before .before .loop-test .taken)
+    (byte-put _ _ _ _ _ _ _ (high .high-char .ensures) refl (c .low-char .ensures) refl)
 
 same-length : tie.Need-same-length Inv-loop μ-loop
 same-length c = ap length (c .before .loop .inv .digits) ∙ simp length-sets

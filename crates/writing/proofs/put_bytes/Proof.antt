@@ -1,4 +1,5 @@
--- `writing::put_bytes` meets its contract: all digits at once where they fit, else the digits of the first `i` bytes. Assumes nothing.
+-- `writing::put_bytes` meets its contract. Where all digits fit, by `put_all`'s. Else the loop's invariant (`Written`): the digits of the first i
+-- bytes are written as far as they fit; the measure is how many bytes are left.
 use mathlib.Core.Path.{_≡_, refl, ap, _∙_}
 use Prim.Native.Nat.{_-_}
 use native.Mathlib.Omega.{arith}
@@ -15,6 +16,9 @@ Inv-loop out₀ at bytes n i₀ out i = (n ≡ length bytes) × Written bytes ou
 abbrev μ-loop : tie.MeasureT-loop
 μ-loop out₀ at bytes n i₀ out i = n - i
 
+abbrev looping : tie.After-put Inv-loop μ-loop → tie.At-loop Inv-loop μ-loop
+looping c = c .before .before .before .before
+
 put-all-requires : tie.Need-put-all-requires Inv-loop μ-loop
 put-all-requires c κs = c .before .if1 .taken
 
@@ -23,8 +27,9 @@ loop-holds c = (refl, written-none _ _ _)
 
 loop-again : tie.Need-loop-again Inv-loop μ-loop
 loop-again c =
-    let l = c .before .before .before .before .before .before .loop in
-    (l .inv .0, written-more _ _ _ _ _ (l .i) (l .inv .1) (omega (arith, l .inv .0)) (c .before .before .put .ensures))
+    let byte = c .before .before in
+    let loop = looping byte .loop in
+    (loop .inv .0, written-more _ _ _ _ _ (loop .i) (loop .inv .1) (omega (arith, loop .inv .0)) (byte .put .ensures))
 
 same-length : tie.Need-same-length Inv-loop μ-loop
 same-length c = ap length (c .before .before .put-all .ensures) ∙ simp length-sets

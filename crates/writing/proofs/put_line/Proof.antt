@@ -1,15 +1,29 @@
--- `writing::put_line` meets its contract. Assumes nothing.
+-- `writing::put_line` meets its contract: two bytes, the further ones and LF, each behind what was written before, are the line (`line-put`).
 use borrow.Author.Needs.{needs}
 use Rattle.writing.proofs.Lines.{line-put}
 use Rattle.writing.proofs.put_line.Statement.{statement}
 use Rattle.writing.proofs.put_line.Tie as tie
 
+-- ---- the places: LF stored, the further bytes written, the second byte, the first
+
+abbrev ended : tie.After-slice-known5 → tie.After-store
+ended c = c .before .before
+
+abbrev rest-put : tie.After-store → tie.After-put-bytes
+rest-put c = c .before .before .before .before
+
+abbrev second-put : tie.After-put-bytes → tie.After-put2
+second-put c = c .before .before .before .before
+
+abbrev first-put : tie.After-put2 → tie.After-put
+first-put c = c .before .before .before .before
+
 returns : tie.Need-returns
 returns c =
-    let d = c .before .before in
-    let r = d .before .before .before .before in
-    let q = r .before .before .before .before in
-    line-put _ _ _ _ _ _ _ _ _ (q .before .before .before .before .put .ensures) (q .put2 .ensures) (r .put-bytes .ensures) (d .store .ensures)
+    let lf = ended c in
+    let rest = rest-put lf in
+    let second = second-put rest in
+    line-put _ _ _ _ _ _ _ _ _ (first-put second .put .ensures) (second .put2 .ensures) (rest .put-bytes .ensures) (lf .store .ensures)
 
 pub put-line-spec : {M : Type 1} → statement M
 put-line-spec =

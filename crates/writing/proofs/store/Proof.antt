@@ -1,4 +1,4 @@
--- `writing::store` meets its contract. Assumes nothing.
+-- `writing::store` meets its contract: a store past the end does nothing (`set-out`).
 use mathlib.Core.Path.{sym}
 use lib.Seq.{set-out}
 use borrow.Author.Needs.{needs}
