@@ -22,16 +22,16 @@ use Rattle.panel.specs.Answers.{Answer, isRefusal, refused, refusalBytes}
 use Rattle.panel.specs.Panels.{opened, dropped, moved}
 use Rattle.panel.specs.Solution.{isBlocked, isLooped, pathFor, reversed, leastBlocked, planOf, rowsOf}
 use Rattle.panel.specs.Steps.{accepted, reverseStep, openStep, enterStep, addStep, settled, dropStep, removeStep, touchStep, planStep}
-use Rattle.panel.specs.Commands.{Command, opening, adding, removing, touching, planning, performed, Check, checked, isOpen, openChecks, addChecks, removeChecks, touchChecks, planChecks, coveredIn, outputsIn}
+use Rattle.panel.specs.Commands.{Command, opening, adding, removing, touching, planning, performed, Check, checked, Passes, isOpen, openChecks, addChecks, removeChecks, touchChecks, planChecks, coveredIn, outputsIn}
 use Rattle.panel.proofs.Answers.{refusals-apart}
-use Rattle.panel.proofs.Checks.{NoneApply, newLink}
+use Rattle.panel.proofs.Checks.{newLink}
 use Rattle.optimality.specs.Refusals.{WeakerNeverConflict, TouchNeverConflict, RemoveNeverConflict, RefusedUnchanged}
 
 -- ---- checks
 
 -- what holds of each check's refusal, and of the step where no check applies, holds of the answer
 pub checked-answer : (P : Answer → Type 0) (p : Panel) (cs : List Check) (step : Answer) → All (λ c. P (refused p (c .refusal))) cs
-    → (NoneApply cs → P step) → P (checked p cs step)
+    → (Passes cs → P step) → P (checked p cs step)
 unfolding checked
 checked-answer P p [] step a h = h tt
 checked-answer P p (c ∷ cs) step a h = go (c .applies) refl (λ e. checked-answer P p cs step (a .1) (λ n. h (e, n)))
@@ -41,7 +41,7 @@ checked-answer P p (c ∷ cs) step a h = go (c .applies) refl (λ e. checked-ans
     go false e ih = rw e (ih e)
 
 -- where no check applies the step is carried out
-pub checked-step : (p : Panel) (cs : List Check) (step : Answer) → NoneApply cs → checked p cs step ≡ step
+pub checked-step : (p : Panel) (cs : List Check) (step : Answer) → Passes cs → checked p cs step ≡ step
 unfolding checked
 checked-step p [] step n = refl
 checked-step p (c ∷ cs) step n = rw (n .0) (checked-step p cs step (n .1))

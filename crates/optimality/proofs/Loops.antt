@@ -19,14 +19,14 @@ use Rattle.panel.specs.Answers.{Answer, refused}
 use Rattle.panel.specs.Panels.{withLink, dropped, toFront}
 use Rattle.panel.specs.Solution.{level, setterReads, isBlocked, isLooped, pathFor, reversed, leastBlocked}
 use Rattle.panel.specs.Steps.{accepted, reverseStep, openStep, enterStep, addStep, settled, dropStep, removeStep, touchStep, planStep}
-use Rattle.panel.specs.Commands.{Command, opening, adding, removing, touching, planning, performed, coveredIn, outputsIn}
+use Rattle.panel.specs.Commands.{Command, opening, adding, removing, touching, planning, performed, Passes, coveredIn, outputsIn}
 use Rattle.panel.specs.Legal.{Legal}
 use Rattle.panel.proofs.Reversed.{left}
 use Rattle.panel.proofs.Legal.{Carrying, LegalBut}
 use Rattle.panel.proofs.Setters.{setter-reads-inside}
 use Rattle.panel.proofs.Reversal.{blocking, route-for, route-carrying, legal-waits}
 use Rattle.panel.proofs.Changes.{add-enters, legal-add, legal-dropped, legal-front}
-use Rattle.panel.proofs.Checks.{NoneApply, newLink, addable, removable, touchable}
+use Rattle.panel.proofs.Checks.{newLink, addable, removable, touchable}
 use Rattle.optimality.specs.Condition3.{AfterEveryList, panels, start}
 use Rattle.optimality.specs.Refusals.{checksOf, Reversal, reversing, entering, settling, dropping, reversal, reversedPanel, Loops, LoopExactly}
 use Rattle.optimality.proofs.Graphs.{settersOf}
@@ -110,7 +110,7 @@ module _ (p : Panel) (h : Legal p) where
   drop-exactly q k Waiting = still p (accepted p q) (yes _ _ tt)
   drop-exactly q k (Holding v) = settled-exactly q k (leastBlocked q) (least-blocked q)
 
-  command-exactly : (c : Command) → NoneApply (checksOf p c) → Exactly p (performed p c) (reversal p c)
+  command-exactly : (c : Command) → Passes (checksOf p c) → Exactly p (performed p c) (reversal p c)
   unfolding removeStep planStep reversal
   command-exactly (opening m) n = rw (checked-step p (checksOf p (opening m)) (openStep m) n) (still p (openStep m) (yes _ _ tt))
   command-exactly (adding id level bytes) n =

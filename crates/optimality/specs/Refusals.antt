@@ -5,7 +5,6 @@ use mathlib.Core.Logic.{_↔_}
 use mathlib.Core.Bool.{Bool, true, false}
 use mathlib.Core.List.{List}
 use mathlib.Core.Option.{Option, none, some}
-use Rattle.fieldset.specs.Lists.{All}
 use Rattle.ordering.specs.Walks.{ClosedWalk}
 use Rattle.panel.specs.declared.Standing.{Standing}
 use Rattle.panel.specs.declared.Standing.the-variants.{Waiting, Holding}
@@ -16,7 +15,7 @@ use Rattle.panel.specs.Items.{Item, link, stay, linkAt}
 use Rattle.panel.specs.Answers.{isRefusal, refused}
 use Rattle.panel.specs.Panels.{waitingLink, withLink, dropped, toFront}
 use Rattle.panel.specs.Solution.{setterReads, isBlocked, pathFor, reversed, leastBlocked}
-use Rattle.panel.specs.Commands.{Command, opening, adding, removing, touching, planning, performed, coveredIn, outputsIn, Check, openChecks, addChecks, removeChecks, touchChecks, planChecks}
+use Rattle.panel.specs.Commands.{Command, opening, adding, removing, touching, planning, performed, coveredIn, outputsIn, Check, Passes, openChecks, addChecks, removeChecks, touchChecks, planChecks}
 use Rattle.optimality.specs.Condition3.{Store, entered, Pair, Matching}
 use Rattle.optimality.specs.States.{HoldsRequired}
 
@@ -29,10 +28,6 @@ checksOf p (adding id level bytes) = addChecks p id level bytes
 checksOf p (removing id) = removeChecks p id
 checksOf p (touching f) = touchChecks p f
 checksOf p planning = planChecks p
-
--- none of the checks applies
-abbrev pub Passes : List Check → Type 0
-Passes = All (λ c. c .applies ≡ false)
 
 -- ---- Conflict
 

@@ -21,15 +21,14 @@ use Rattle.panel.specs.declared.Reply.the-variants.{Accepted, Refused}
 use Rattle.panel.specs.Items.{linkAt}
 use Rattle.panel.specs.Answers.{Answer, refused, replyBytes}
 use Rattle.panel.specs.Panels.{waitingLink}
-use Rattle.panel.specs.Commands.{fieldOf, isOutput, hasBit6, anyOf, fieldsIn, coveredIn, outputsIn, isRising, areFieldBytes, Check, checked, checkReply, isOpen, openChecks, addChecks, removeChecks, touchChecks}
+use Rattle.panel.specs.Commands.{fieldOf, isOutput, hasBit6, anyOf, fieldsIn, coveredIn, outputsIn, isRising, areFieldBytes, Check, checked, checkReply, Passes, isOpen, openChecks, addChecks, removeChecks, touchChecks}
 use Rattle.panel.specs.Legal.{Formed}
 use Rattle.panel.proofs.Answers.{replies-apart}
-pub use Rattle.panel.specs.Commands.{NoneApply}
 
 -- ---- checks in turn
 
 -- what holds of the panel before, and of that after the step where no check applies, holds of that after the command
-pub checked-panel : (P : Panel → Type 0) (p : Panel) (cs : List Check) (step : Answer) → P p → (NoneApply cs → P (step .panel))
+pub checked-panel : (P : Panel → Type 0) (p : Panel) (cs : List Check) (step : Answer) → P p → (Passes cs → P (step .panel))
     → P (checked p cs step .panel)
 unfolding checked
 checked-panel P p [] step h k = k tt
@@ -55,7 +54,7 @@ agree-same (c ∷ cs) = (refl, refl, λ e. agree-same cs)
 -- what a reply of checks says of an answer: a refusal is the answer, and acceptance is that the step is carried out
 abbrev Says : Panel → List Check → Answer → Reply → Type 0
 Says p ds step (Refused x) = refused p x ≡ checked p ds step
-Says p ds step (Accepted m) = (m ≡ 0) × NoneApply ds × (checked p ds step ≡ step)
+Says p ds step (Accepted m) = (m ≡ 0) × Passes ds × (checked p ds step ≡ step)
 
 says-same : (p : Panel) (ds : List Check) (step : Answer) (r s : Reply) → replyBytes r ≡ replyBytes s → Says p ds step s → Says p ds step r
 says-same p ds step r s e h = subst (Says p ds step) (sym (replies-apart r s e)) h
@@ -82,7 +81,7 @@ module _ (p : Panel) (cs ds : List Check) (step : Answer) (agree : Agree cs ds) 
   pub reply-refused : (x : Refusal) → r ≡ Refused x → refused p x ≡ checked p ds step
   reply-refused x e = subst (Says p ds step) e (checks-say p cs ds step r agree bytes)
 
-  pub reply-accepted : (m : ℕ) → r ≡ Accepted m → (m ≡ 0) × NoneApply ds × (checked p ds step ≡ step)
+  pub reply-accepted : (m : ℕ) → r ≡ Accepted m → (m ≡ 0) × Passes ds × (checked p ds step ≡ step)
   reply-accepted m e = subst (Says p ds step) e (checks-say p cs ds step r agree bytes)
 
 or-left : (a b : Bool) → (a || b) ≡ false → a ≡ false
@@ -226,7 +225,7 @@ pub record Addable (p : Panel) (id level : ℕ) (bytes : List ℕ) : Type 0 wher
   pub rising : isRising bytes ≡ true
   pub formed : Formed (p .size) (newLink level bytes)
 
-pub addable : (p : Panel) (id level : ℕ) (bytes : List ℕ) → NoneApply (addChecks p id level bytes) → Addable p id level bytes
+pub addable : (p : Panel) (id level : ℕ) (bytes : List ℕ) → Passes (addChecks p id level bytes) → Addable p id level bytes
 unfolding areFieldBytes
 addable p id level bytes (a, (b, (c, (d, _)))) = record {
   is-open = ltb-true 0 (p .size) (not-false (isOpen p) a);
@@ -256,17 +255,17 @@ pub record Removable (p : Panel) (id : ℕ) : Type 0 where
   pub number : id < 128
   pub used : linkAt (p .links) id .used ≡ true
 
-pub removable : (p : Panel) (id : ℕ) → NoneApply (removeChecks p id) → Removable p id
+pub removable : (p : Panel) (id : ℕ) → Passes (removeChecks p id) → Removable p id
 removable p id (a, (b, (c, _))) = record {
   is-open = ltb-true 0 (p .size) (not-false (isOpen p) a);
   number = omega (arith, ltb-false 127 id b);
   used = not-false (linkAt (p .links) id .used) c;
 }
 
-pub touchable : (p : Panel) (f : ℕ) → NoneApply (touchChecks p f) → f < p .size
+pub touchable : (p : Panel) (f : ℕ) → Passes (touchChecks p f) → f < p .size
 touchable p f (a, (b, _)) = leb-false (p .size) f b
 
-pub openable : (p : Panel) (n : ℕ) → NoneApply (openChecks p n) → (p .size ≡ 0) × (0 < n) × (n ≤ 64)
+pub openable : (p : Panel) (n : ℕ) → Passes (openChecks p n) → (p .size ≡ 0) × (0 < n) × (n ≤ 64)
 openable p n (a, (b, _)) = (
   omega (arith, ltb-false 0 (p .size) a),
   positive n (eqb-false n 0 (or-left (eqb n 0) (ltb 64 n) b)),

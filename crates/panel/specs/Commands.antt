@@ -72,9 +72,9 @@ unfoldable pub checkReply : List Check → List ℕ
 checkReply [] = 0x00 ∷ 0 ∷ []
 checkReply (c ∷ cs) = elim (c .applies) [ true ↦ 0xFF ∷ refusalBytes (c .refusal) | false ↦ checkReply cs ]
 
--- a command that passes its checks
-abbrev pub NoneApply : List Check → Type 0
-NoneApply = All (λ c. c .applies ≡ false)
+-- a command passes its checks: none applies
+abbrev pub Passes : List Check → Type 0
+Passes = All (λ c. c .applies ≡ false)
 
 abbrev pub isOpen : Panel → Bool
 isOpen p = ltb 0 (p .size)
