@@ -37,7 +37,7 @@ use Rattle.panel.proofs.Reversed.{setter-stay, link-here, link-there}
 use Rattle.panel.proofs.Legal.{LegalBut, holding-not-waiting}
 use Rattle.panel.proofs.InForce.{unused-off, waiting-force}
 use Rattle.panel.proofs.Changes.{legal-add}
-use Rattle.panel.proofs.Checks.{Agree, reply-refused, reply-accepted, addable}
+use Rattle.panel.proofs.Checks.{Agree, reply-refused, reply-accepted, named-link, addable}
 use Rattle.panel.proofs.Outcomes.{decides-refused}
 use Rattle.tables.specs.Tables.{Setting, Tabled, levelWith}
 use Rattle.tables.proofs.Settings.{placed-setting, tabled-same}
@@ -85,7 +85,7 @@ module _ (p : Panel) (id level₁ : ℕ) (bytes : List ℕ) (c o : ℕ) (r : Boo
       small fine = number-small id level₁ c o r (bad-is ∙ fine)
 
       used-is : id < 128 → old .used ≡ linkAt (p .links) id .used
-      used-is l = ap (λ (x : Link). x .used) same ∙ ap (λ (i : ℕ). linkAt (p .links) i .used) (mod-eq-of-lt l)
+      used-is l = ap (λ (x : Link). x .used) (named-link (p .links) id old same l)
 
   module _ (reply : Reply) (checks : replyBytes reply ≡ checkReply (checkAdd (p .size) id level₁ c o r (old .used))) where
     pub add-refused : (x : Refusal) → reply ≡ Refused x → refused p x ≡ performed p (adding id level₁ bytes)

@@ -1,10 +1,11 @@
 -- What holds where no check applies, and what a reply of checks says. `checks-say` goes along two lists of checks that agree, check by check; the
 -- laws of field bytes go along the list of bytes. `addable`, `removable`, `touchable` and `openable` then read off what a command needs that passes
 -- its checks.
-use Prim.Native.Nat.{ℕ, zero, suc, _+_, _^_, _≤_, _<_}
+use Prim.Native.Nat.{ℕ, zero, suc, _+_, _%_, _^_, _≤_, _<_}
 use mathlib.Core.Path.{_≡_, refl, sym, ap, _∙_, subst}
 use mathlib.Core.Bool.{Bool, true, false, not, _&&_, _||_, or-false, or-comm}
 use mathlib.Core.List.{List, [], _∷_}
+use native.Mathlib.Nat.{mod-eq-of-lt}
 use native.Mathlib.Omega.{arith}
 use borrow.Author.Tests.{ltb-true, ltb-false, leb-true, leb-false, eqb-true, eqb-false, eq-eqb, not-false}
 use lib.Dec.{eqb, leb, ltb}
@@ -83,6 +84,10 @@ module _ (p : Panel) (cs ds : List Check) (step : Answer) (agree : Agree cs ds) 
 
   pub reply-accepted : (m : ℕ) → r ≡ Accepted m → (m ≡ 0) × Passes ds × (checked p ds step ≡ step)
   reply-accepted m e = subst (Says p ds step) e (checks-say p cs ds step r agree bytes)
+
+-- the link that an operation is given under its number
+pub named-link : (links : List Link) (id : ℕ) (old : Link) → old ≡ linkAt links (id % 128) → id < 128 → old ≡ linkAt links id
+named-link links id old same l = same ∙ ap (linkAt links) (mod-eq-of-lt l)
 
 or-left : (a b : Bool) → (a || b) ≡ false → a ≡ false
 or-left true b e = e

@@ -39,7 +39,7 @@ use Rattle.panel.proofs.Reversed.{link-here}
 use Rattle.panel.proofs.Legal.{Filled, LegalBut, force-formed}
 use Rattle.panel.proofs.Setters.{outputs-inside, waits-force}
 use Rattle.panel.proofs.Reversal.{Blocking, blocking, legal-waits}
-use Rattle.panel.proofs.Checks.{Agree, reply-refused, reply-accepted, removable}
+use Rattle.panel.proofs.Checks.{Agree, reply-refused, reply-accepted, named-link, removable}
 use Rattle.panel.proofs.Outcomes.{decides-unchanged}
 use Rattle.tables.specs.Tables.{Tabled, StrengthsOf}
 use Rattle.fieldset.proofs.Maps.{tableOf}
@@ -61,7 +61,7 @@ module _ (p : Panel) (id : ℕ) (old : Link) (same : old ≡ linkAt (p .links) (
   remove-agree = (refl, refl, λ is-open. (refl, refl, λ low. (ap not (used-is (omega (arith, ltb-false 127 id low))), refl, λ used. tt)))
     where
       used-is : id < 128 → old .used ≡ linkAt (p .links) id .used
-      used-is l = ap (λ (x : Link). x .used) same ∙ ap (λ (i : ℕ). linkAt (p .links) i .used) (mod-eq-of-lt l)
+      used-is l = ap (λ (x : Link). x .used) (named-link (p .links) id old same l)
 
   module _ (reply : Reply) (checks : replyBytes reply ≡ checkReply (checkRemove (p .size) id (old .used))) where
     pub remove-refused : (x : Refusal) → reply ≡ Refused x → refused p x ≡ performed p (removing id)
@@ -92,7 +92,7 @@ module _ (p : Panel) (h : Legal p) (id : ℕ) (small : id < 128) where
 
   -- the link under the number
   pub old-standing : (old : Link) → old ≡ linkAt (p .links) (id % 128) → linkAt (p .links) id .standing ≡ old .standing
-  old-standing old same = ap (λ (i : ℕ). linkAt (p .links) i .standing) (sym (mod-eq-of-lt small)) ∙ ap (λ (x : Link). x .standing) (sym same)
+  old-standing old same = ap (λ (x : Link). x .standing) (sym (named-link (p .links) id old same small))
 
   pub remove-waiting : (old l : Link) (path : List ℕ) (s : Step) → length path ≡ 64 → old ≡ linkAt (p .links) (id % 128) → l ≡ noLink → old .standing ≡ Waiting
       → performed p (removing id) ≡ removeStep p id → s ≡ stepOf Free (p .size) (p .place) l (old .standing) 128 → Decides p (id % 128) (removing id) path s
