@@ -28,8 +28,8 @@ fn send(text: &[u8], sent: usize, part: &[u8]) -> Output
 }
 
 // Hands on the output to a text, a buffer at a time. It stops where it cannot be written.
-// The contract rules out, for instance, another line for a text that is too long and another limit (must-fail: line_of_another_refusal,
-// limit_one_less).
+// The contract rules out, for instance, another line for a text that is too long and a part in the wrong place (must-fail: line_of_another_refusal,
+// tally_at_the_start).
 fn answer(text: &[u8]) -> Output
     ensures { λ r. ⌜ (r .whole ≡ true → r .len ≡ length (panelOutput (now (text .entry)))) ⌝ }
 {
