@@ -1,5 +1,5 @@
--- `replies::put_reply` meets its contract: the two bytes and the rows that are handed to `put_line` are the whole reply (`is-reply`), so that its line
--- is the reply's; the rows that are taken are there, since the contract asks for them.
+-- `replies::put_reply` meets its contract: the two bytes and the rows that are handed to `put_line` are the whole reply (`is-reply`), so the line
+-- that it writes is the reply's; the rows that are taken are there, since the contract asks for them.
 use borrow.Author.Needs.{needs}
 use mathlib.Core.Path.{_≡_, sym, ap, ap₂, _∙_}
 use mathlib.Core.List.{List, _∷_, _++_}
