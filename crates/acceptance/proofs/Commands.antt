@@ -1,4 +1,5 @@
--- Lines and the commands that they give. Assumes nothing.
+-- Lines and the commands that they give: a line changes the panel as its command does, or not at all where it gives none, so a text's lines leave
+-- the panel of their commands (by induction on the lines), and condition 3 of these is one of every text. Assumes nothing.
 use mathlib.Core.Path.{_≡_, refl, sym}
 use mathlib.Core.Bool.{true}
 use mathlib.Core.List.{[], _∷_, filterMap}

@@ -1,4 +1,5 @@
--- What follows for a text and for a reply: each part of the statements about lines and texts is used here.
+-- What follows for a text and for a reply: each part of the statements about lines and texts is used here. The parts of a reply are read off its
+-- form (`says`); bytes can be read back from their digits (`bytes-hex`).
 use Prim.Native.Nat.{ℕ, suc, _+_, _*_, _/_, _%_, _≤_, _<_}
 use mathlib.Core.Path.{_≡_, refl, subst, _∙_}
 use mathlib.Core.Bool.{true, false}

@@ -1,4 +1,5 @@
--- The lines of the output: one reply for each line, then the tally. Assumes nothing.
+-- The lines of the output: one reply for each line, then the tally. No digit is an LF, so the output splits into lines where they were written
+-- (`lines-written`, by induction on the replies). Assumes nothing.
 use mathlib.Core.Path.{_≡_, refl, ap, _∙_}
 use mathlib.Core.Bool.{Bool, true, false, cond}
 use mathlib.Core.List.{List, [], _∷_, _++_, map, append-assoc}

@@ -1,4 +1,5 @@
--- Every line has one reply of document 01. The bounds are those of a legal panel, which every command leaves legal.
+-- Every line has one reply of document 01: by cases on the line's command, whose outcome is a refusal or a count or a plan (`outcome`). The bounds
+-- are those of a legal panel, which every command leaves legal; so it goes on over the lines (`replied`).
 use Prim.Native.Nat.{ℕ, _*_, _≤_, _<_}
 use mathlib.Core.Path.{_≡_, refl}
 use mathlib.Core.Bool.{Bool, true, false, cond}

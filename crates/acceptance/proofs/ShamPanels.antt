@@ -1,4 +1,4 @@
--- Each sham panel's output differs from document 01's. By computation; assumes nothing.
+-- Each sham panel's output differs from document 01's: at the first character that is another, by computing both outputs. Assumes nothing.
 use mathlib.Core.Path.{_≡_, refl, ap}
 use mathlib.Core.Bool.{false}
 use mathlib.Core.Logic.{_≢_}

@@ -1,4 +1,6 @@
--- The run over lines, whatever answers them: what the loop keeps, and what its end says. Assumes nothing.
+-- The run over lines, whatever answers them. `Going` says what the loop keeps: the lines done and those from the position on are all; the state,
+-- the tally and the buffer are those after the lines done; and with what still fits from here on they are as many as fit at all. One line more
+-- keeps it (`line-done`); where none fits or none is left, the lines done are those that fit (`finish`). Assumes nothing.
 use mathlib.Core.Path.{_≡_, refl, sym, ap, ap₂, _∙_}
 use mathlib.Core.List.{List, [], _∷_, _++_, append-assoc}
 use Prim.Native.Nat.{ℕ, suc, _+_, _-_, _*_, _≤_, _<_, max}

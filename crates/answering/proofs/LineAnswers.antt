@@ -1,4 +1,5 @@
--- What document 01's panel answers one line: its command's step, once that is taken. Assumes nothing.
+-- What document 01's panel answers one line: the answer to a command is the answer to the line with its bytes, and is legal, both by cases on the
+-- command; so the step of a line, once it is taken, does what the line asks (`did`). Assumes nothing.
 use mathlib.Core.Path.{_≡_, refl, ap, ap₂, _∙_}
 use mathlib.Core.List.{List}
 use Prim.Native.Nat.{ℕ}

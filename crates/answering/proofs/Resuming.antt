@@ -1,4 +1,5 @@
--- A run that goes on, whatever answers the lines. Assumes nothing.
+-- A run that goes on, whatever answers the lines: what stands in the buffer, followed by the output from where the run stands, is the output from
+-- where it began (`resumes`), since the output to lines one after the other is in two parts (`output-append`). Assumes nothing.
 use mathlib.Core.Path.{_≡_, sym, ap, ap₂, _∙_}
 use mathlib.Core.List.{List, _++_}
 use Prim.Native.Nat.{ℕ, _+_, _≤_}

@@ -1,4 +1,5 @@
--- The numbers and values of a line's command tell its cases apart. Assumes nothing.
+-- The number and values of a line's command tell its cases apart: the command is read back from them (`command-at`), so equal ones come from equal
+-- commands. Assumes nothing.
 use mathlib.Core.Path.{_≡_, refl, sym, ap, _∙_}
 use mathlib.Core.Bool.{cond}
 use mathlib.Core.List.{List}

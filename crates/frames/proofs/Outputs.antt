@@ -1,4 +1,5 @@
--- The answers to lines that stand one after the other. Assumes nothing.
+-- The answers to lines that stand one after the other: state, replies, tally and output of `ls ++ ms` are those of `ls` and then of `ms` from where
+-- `ls` leaves off. By induction on `ls`, whatever answers the lines; one line more is the case of a single one. Assumes nothing.
 use mathlib.Core.Path.{_≡_, refl, sym, ap, ap₂, _∙_}
 use mathlib.Core.List.{List, [], _∷_, _++_, append-assoc, append-nil}
 use Prim.Native.Nat.{ℕ}

@@ -1,4 +1,5 @@
--- What reading a frame and a line answers. Assumes nothing.
+-- What reading a frame and a line answers. No kind fits no bytes or as many as the buffer has, so a buffer's first bytes decide as the whole frame
+-- does (`fits-taken`, `known`); then one law for each way that `read_frame` and `read_line` answer. Assumes nothing.
 use mathlib.Core.Path.{_≡_, refl, sym, ap, ap₂, _∙_}
 use mathlib.Core.Bool.{Bool, true, false, not, cond, _&&_, and-false, true≢false}
 use mathlib.Core.List.{List, [], _∷_}

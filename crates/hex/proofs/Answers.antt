@@ -1,4 +1,5 @@
--- The values of an answer tell its cases apart. Assumes nothing.
+-- The values of an answer tell its cases apart: a digit from another character, a frame from a refusal, by cases on both answers; lists of other
+-- lengths or heads clash. Assumes nothing.
 use mathlib.Core.Path.{_≡_, refl}
 use Prim.Native.Nat.{ℕ}
 use native.Mathlib.Omega.{arith}

@@ -1,4 +1,5 @@
--- Lengths and bounds of digits, lines and frames. Assumes nothing.
+-- Lengths of the digits and of the line of some bytes, and the byte at a position of a line: by induction on the list, two characters at a time
+-- where it is a line. Assumes nothing.
 use mathlib.Core.Path.{_≡_, refl, sym, ap₂, _∙_}
 use mathlib.Core.List.{List, [], _∷_}
 use Prim.Native.Nat.{ℕ, zero, suc, _+_, _*_, _/_, _<_}

@@ -1,4 +1,5 @@
--- Digits, one by one and in a line. Assumes nothing.
+-- Digits. One character: what `digitRead` says of it, by where it stands among the characters 0, 9, A and F, and back from what was read. A line:
+-- `Read`, that the characters from a position on decide, with a law for each way on. Assumes nothing.
 use mathlib.Core.Path.{_≡_, refl, sym, ap, _∙_}
 use mathlib.Core.Bool.{Bool, true, false, _&&_, _||_, cond}
 use mathlib.Core.List.{List, [], _∷_}

@@ -1,4 +1,5 @@
--- Decoding a line. Assumes nothing.
+-- Decoding a line: which lines are hexadecimal, by the three tests that `decode` makes; what it answers then; and `Filled`, what the loop of `fill`
+-- keeps, where one more store is the run of stores one byte longer (`sets-more`). Assumes nothing.
 use mathlib.Core.Path.{_≡_, refl, sym, ap, ap₂, _∙_}
 use mathlib.Core.Bool.{Bool, true, false, _&&_, and-false}
 use mathlib.Core.List.{List}

@@ -1,4 +1,5 @@
--- Runs of stores. Assumes nothing.
+-- Runs of stores: those past the end change nothing, so only as many count as fit; and a run with one store more. By induction on what is stored.
+-- Assumes nothing.
 use mathlib.Core.Path.{_≡_, refl, sym, ap, _∙_}
 use mathlib.Core.List.{List, [], _∷_}
 use Prim.Native.Nat.{ℕ, zero, suc, _+_, _≤_, _<_}

@@ -1,4 +1,6 @@
--- Which answers a command may have: a refusal that leaves the panel, or a reply that begins with 00.
+-- Which answers a command may have: a refusal that leaves the panel, or a reply that begins with 00 (`Outcome`). One law for each command, over the
+-- refusals that are allowed and what is said of an accepted answer: by cases along its checks (`checked-answer`) and its step. The theorems take
+-- the refusals that they need: all of them for `refused-unchanged`, all but Conflict for the commands that never give it.
 use Prim.Native.Nat.{ℕ, _≤_}
 use mathlib.Core.Path.{_≡_, refl, ap}
 use mathlib.Core.Bool.{Bool, true, false}

@@ -1,4 +1,6 @@
--- The graph changes around one item: a link is added, or a stay comes to the front. Nothing else becomes blocked.
+-- The graph changes around one item: a link is added, or a stay comes to the front. Nothing else becomes blocked: where levels change by ρ, which
+-- keeps their order, ρ of an old potential is one of the new graph, and blocks nothing that the old one does not (`changed-potential`,
+-- `changed-free`). For a stay at place q that comes to the front ρ moves the levels of the stays before it down one (`pushed`).
 use Prim.Native.Nat.{ℕ, suc, _+_, _≤_, _<_}
 use mathlib.Core.Path.{_≡_}
 use mathlib.Core.Bool.{Bool, true, false, cond}

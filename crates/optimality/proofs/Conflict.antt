@@ -1,4 +1,6 @@
--- Conflict is given exactly when no matching over the store can hold all required links together with the new one.
+-- Conflict is given exactly when no matching over the store can hold all required links together with the new one. If the new link is not blocked,
+-- nothing is, and there is none (`impossible`, by counting); if it is, the reversed path gives one (`possible`). So it goes by whether it is
+-- blocked, which is what Add asks (`enter-conflict`).
 use Prim.Native.Nat.{ℕ}
 use mathlib.Core.Path.{_≡_, refl, ap, _∙_}
 use mathlib.Core.Bool.{Bool, true, false}

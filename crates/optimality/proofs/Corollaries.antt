@@ -1,4 +1,5 @@
--- What follows from the theorems: each part of their statements is used here, for every list of commands.
+-- What follows from the theorems: each part of their statements is used here, for every list of commands. The last part shows what condition 3 does
+-- not say: a system that refuses everything meets it too (`refusing-optimal`).
 use Prim.Native.Nat.{ℕ, zero, suc, _≤_, _<_}
 use mathlib.Core.Path.{_≡_, refl}
 use mathlib.Core.Bool.{true}

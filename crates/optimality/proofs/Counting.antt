@@ -1,4 +1,7 @@
--- No matching has more items up to a level than the setters, where nothing is blocked.
+-- No matching has more items up to a level L than the setters, where nothing is blocked. One injection and one pigeonhole: send each pair to the
+-- field outside W, the fields whose s is at most L, that its item sets, and to the pair's own field where there is none (`seat`). In the second
+-- case the item waits or sets a field of W, so its outputs lie in W (`inner`). No two pairs meet (`seat-ne`), and each seat's setter has level at
+-- most L (`seat-low`).
 use Prim.Native.Nat.{ℕ, _≤_, _<_}
 use mathlib.Core.Path.{_≡_, refl, sym, ap, _∙_}
 use mathlib.Core.Bool.{Bool, true}

@@ -1,4 +1,5 @@
--- Examples, computed, and corollaries: each part of the statements of this crate is needed by one of them.
+-- Examples, computed, and corollaries: each part of the statements of this crate is needed by one of them. The stores and plans are small enough to
+-- be written down; what a definition says of them is computed, and refuted by numbers that differ.
 use Prim.Native.Nat.{ℕ, _≤_, _<_}
 use mathlib.Core.Path.{_≡_, refl, ap}
 use mathlib.Core.List.{List, [], _∷_, map}

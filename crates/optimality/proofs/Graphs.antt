@@ -1,4 +1,6 @@
--- A panel as a constraint graph with setters: its strengths, and its waiting and blocked items, in the argument's terms.
+-- A panel as a constraint graph with setters: its strengths, and its waiting and blocked items, in the argument's terms. The strengths are the
+-- least potential (`strength-potential` by the rank that the plan gives, `strength-least`), so nothing is blocked exactly where some potential
+-- blocks nothing (`unblocked-none`, `none-unblocked`).
 use Prim.Native.Nat.{ℕ, _≤_, _<_}
 use mathlib.Core.Path.{_≡_, refl, _∙_}
 use mathlib.Core.Bool.{Bool, true, false, _&&_}

@@ -1,4 +1,5 @@
--- What a legal panel holds: each field with its setter, in the order of the plan.
+-- What a legal panel holds: each field with its setter, in the order of the plan. Without a loop the plan has all fields, each once; a row names
+-- the setter of its field, so the rows are the pairs (by induction on the fields), and an unopened panel holds none.
 use Prim.Native.Nat.{ℕ, _≤_, _<_}
 use mathlib.Core.Path.{_≡_, refl, sym}
 use mathlib.Core.Bool.{false, cond}

@@ -1,4 +1,5 @@
--- The first item of least level that passes a test, and the list of all items.
+-- The first item of least level that passes a test: by induction on the list, by cases on the test and on the comparison with what is found behind.
+-- And every item in force stands in the list of all items, so that it is least among all.
 use Prim.Native.Nat.{ℕ, _≤_}
 use mathlib.Core.Path.{_≡_, refl}
 use mathlib.Core.Bool.{Bool, true, false, cond}

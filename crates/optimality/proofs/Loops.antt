@@ -1,4 +1,6 @@
--- Loop is given exactly when the state with the path reversed has a closed walk of reads.
+-- Loop is given exactly when the state with the path reversed has a closed walk of reads. A command either makes no reversal and does not answer
+-- Loop (`still`), or makes one and answers Loop exactly where the plan of the reversed panel leaves a field out, which is where there is a closed
+-- walk (`reverse-exactly`). By cases on each command's step.
 use Prim.Native.Nat.{ℕ, _<_}
 use mathlib.Core.Path.{_≡_, refl, sym, subst}
 use mathlib.Core.Bool.{Bool, true, false}

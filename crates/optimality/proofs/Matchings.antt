@@ -1,4 +1,5 @@
--- Matchings as lists of pairs: what they hold up to a level, and the matching that setters make.
+-- Matchings as lists of pairs: what they hold up to a level, and the matching that setters make. Who holds all that another holds up to a level,
+-- and one item more, counts more there: a list without repeats that lies in another is not longer (`holds-more`).
 use Prim.Native.Nat.{ℕ, _≤_, _<_}
 use mathlib.Core.Path.{_≡_, refl, ap, _∙_}
 use mathlib.Core.Bool.{Bool, true}

@@ -1,4 +1,5 @@
--- A sound state is optimal: matchings over the store are matchings of the panel's graph, and what the panel holds is the greatest.
+-- A sound state is optimal: matchings over the store are matchings of the panel's graph, both ways and with the same levels, since store and panel
+-- agree; what the panel holds is one, without a loop, and no matching counts more up to any level (`pairs-most`).
 use Prim.Native.Nat.{ℕ, _+_, _≤_, _<_}
 use mathlib.Core.Path.{_≡_, refl, sym, ap, _∙_}
 use mathlib.Core.Bool.{true, false}

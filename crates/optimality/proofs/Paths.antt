@@ -1,4 +1,6 @@
--- The path for a blocked item of a panel is a reversible path of its graph, and the panel with the path reversed has the graph's setters so.
+-- The path for a blocked item of a panel is a reversible path of its graph (`path-reversible`): its fields all have the strength of the first, and
+-- the strengths are a potential. The panel with the path reversed has the same graph and the graph's setters so reversed (`after-graph`,
+-- `after-setters`), whence nothing is blocked in it where they have a potential that blocks nothing (`after-none`).
 use Prim.Native.Nat.{ℕ, _≤_, _<_}
 use mathlib.Core.Path.{_≡_, refl, sym, ap, _∙_, fun-ext}
 use mathlib.Core.Bool.{Bool, true, false}

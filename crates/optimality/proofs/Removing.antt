@@ -1,4 +1,6 @@
--- A sound state stays sound where a link goes out of force, as through Remove.
+-- A sound state stays sound where a link goes out of force, as through Remove. A link that waits just goes (`drop-waiting`). One that holds v
+-- leaves it to v's stay; if nothing is blocked then, that is the new state (`none-sound`), else the least blocked item goes in, which is
+-- `removal-unblocked` of `Removal` read for panels (`some-sound`).
 use Prim.Native.Nat.{ℕ, _≤_, _<_, min, max}
 use mathlib.Core.Path.{_≡_, refl, sym, ap, _∙_}
 use mathlib.Core.Bool.{Bool, true, false}

@@ -1,5 +1,6 @@
--- Conflict, both ways: a new item of level 0 that is not blocked leaves no matching that holds all items of level 0, and one that is blocked
--- goes in by a reversal that holds them all.
+-- Conflict, both ways. A new item of level 0 that waits while nothing is blocked leaves no matching that holds all items of level 0: it would count
+-- more at level 0 than the setters, which count most (`required-impossible`). One that is blocked goes in by a reversal that holds them all: what
+-- then waits instead has the level K of the path, which is above 0 (`reversal-holds`).
 use Prim.Native.Nat.{ℕ, _≤_, _<_}
 use mathlib.Core.Path.{_≡_, sym}
 use mathlib.Core.Bool.{true}

@@ -1,4 +1,6 @@
--- A reversible path reversed: a potential stays one, what waits afterwards, and nothing is blocked.
+-- A reversible path reversed: a potential stays one, what waits afterwards, and nothing is blocked. By induction on the path, one field set anew at
+-- a time, with an item carried along that the potential has under K; at the end the item left over has level K, and its outputs are at most K, so
+-- that it is not blocked either (`reversal-unblocked`).
 use Prim.Native.Nat.{ℕ, _<_}
 use mathlib.Core.Path.{_≡_, sym, ap, _∙_}
 use mathlib.Core.List.{List, [], _∷_}

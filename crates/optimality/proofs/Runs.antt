@@ -1,4 +1,5 @@
--- Condition 3: every command leaves a sound state sound, so every state after a list of commands is optimal.
+-- Condition 3: every command leaves a sound state sound (`performed-sound`, by cases on the command: opening here, the others in `Steps` and
+-- `Removing`), so every state after a list of commands is sound (`kept-after`, by induction on the list), and a sound state is optimal.
 use Prim.Native.Nat.{ℕ, _≤_, _<_, zero-le}
 use mathlib.Core.Path.{_≡_, refl, ap, _∙_}
 use mathlib.Core.List.{[], _∷_}

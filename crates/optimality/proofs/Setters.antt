@@ -1,4 +1,6 @@
--- The argument's terms: a constraint graph as functions, setters, potentials, reversible paths.
+-- The argument's terms: a constraint graph as functions, setters, potentials, reversible paths. A potential s is at least the level of each field's
+-- setter, and does not rise from a field to its setter's outputs; it stands for the sets of fields whose strength is at most a level, for all
+-- levels at once.
 use Prim.Native.Nat.{ℕ, _≤_, _<_}
 use mathlib.Core.Path.{_≡_}
 use mathlib.Core.Bool.{Bool, true}

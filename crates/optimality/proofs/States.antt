@@ -1,4 +1,5 @@
--- What holds in every state after a list of commands, and that nothing is better than what the panel holds.
+-- What holds in every state after a list of commands: what a sound state says, read off. And nothing is better than what is optimal: what is better
+-- would hold more up to the first level that differs (`optimal-best`).
 use Prim.Native.Nat.{ℕ, _≤_, _<_}
 use mathlib.Core.Path.{_≡_, sym, ap, _∙_}
 use mathlib.Core.Bool.{true}

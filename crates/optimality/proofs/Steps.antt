@@ -1,4 +1,6 @@
--- A sound state stays sound where a link is entered and through Touch: their changes, and a reversal after one.
+-- A sound state stays sound where a link is entered and through Touch. Both change the graph around one item, after which nothing but this item is
+-- blocked (`change-free`); if it is not blocked either, the state is sound (`enter-none`), and if it is, it goes in by a reversal, after which
+-- nothing is (`reverse-sound`). A reversal that has a loop is refused, and the old state stays.
 use Prim.Native.Nat.{ℕ, _+_, _≤_, _<_}
 use mathlib.Core.Path.{_≡_, refl, sym, ap, _∙_}
 use mathlib.Core.Bool.{Bool, true, false, cond}

@@ -1,4 +1,5 @@
--- The number that stands for a text's outcome, from what `text::run_text` tells. Assumes nothing.
+-- The number that stands for a text's outcome, from what `text::run_text` tells: the outcome's numbers determine it (`outcomes-apart`), by cases on
+-- whether the text is too long. Assumes nothing.
 use Prim.Native.Nat.{ℕ}
 use mathlib.Core.Path.{_≡_, ap}
 use mathlib.Core.Bool.{Bool, true, false, cond}

@@ -1,4 +1,5 @@
--- The refusal that a reply tells, and the length of its line. Assumes nothing.
+-- Replies: the refusal that one tells stands in its first two bytes, so what follows them tells none; only a plan has more than these; and no line
+-- of a reply is longer than the longest, since a plan has at most 64 rows. By cases and by lengths. Assumes nothing.
 use mathlib.Core.Path.{_≡_, refl, sym, ap, _∙_}
 use mathlib.Core.Logic.{_⊎_, ⊎-elim}
 use mathlib.Core.List.{List, [], _∷_, _++_}

@@ -1,4 +1,6 @@
--- Deciding on a reversal: what is found on the tables of a panel is what the panel's definitions say.
+-- Deciding on a reversal, for a panel q and a blocked item c: the tables agree with the panel's definitions on its fields, so what is found on them
+-- is what these say: whether c is blocked (`is-blocked`), the path for c (`decided-path`), and whether its reversal has a loop, by the read fields
+-- of the reversed panel (`decided-looped`). So the answer is that of `reverseStep` (`found-refused`, `found-accepted`).
 use mathlib.Core.Path.{_≡_, refl, sym, ap, ap₂, _∙_}
 use mathlib.Core.Bool.{Bool, true, false}
 use mathlib.Core.List.{List, [], _∷_}

@@ -1,4 +1,5 @@
--- The read fields after a reversal, and the set of a path's fields, one field at a time.
+-- The read fields after a reversal, and the set of a path's fields, one field at a time: a loop over a path takes one step of the fold for each field
+-- (`reads-next`, `fields-more`).
 use Prim.Native.Nat.{ℕ, _+_, _≤_, _<_}
 use mathlib.Core.Path.{_≡_, refl, sym, ap, _∙_}
 use mathlib.Core.Bool.{Bool, true, _||_, or-assoc, or-false}

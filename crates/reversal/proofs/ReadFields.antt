@@ -1,4 +1,5 @@
--- The table of read fields after a path is reversed is that of the reversed panel.
+-- The table of read fields after a path is reversed is that of the reversed panel: by induction on the path. What sets a field reads what it covers
+-- but for the field, and covers what it reads and the field (`Covers`), so that one step of the table is one step of the setters (`reading-step`).
 use mathlib.Core.Path.{_≡_, refl, sym, ap, _∙_, subst}
 use mathlib.Core.Logic.{⊎-elim}
 use mathlib.Core.Bool.{true}

@@ -1,4 +1,6 @@
--- The step of a verdict: it gives what its command gives.
+-- The step of a verdict gives what its command gives. One law for any verdict (`decides-verdict`): the fields of the path and the field given free
+-- are those whose setter changes, and their number is the reply's. It is used for a verdict with nothing to reverse (`decides-free`) and for a path
+-- (`decides-path`); `resolved-loop` and `resolved-step` take what `resolve` answers.
 use Prim.Native.Nat.{ℕ, _^_, _≤_, _<_}
 use mathlib.Core.Path.{_≡_, refl, sym, ap, _∙_, subst}
 use mathlib.Core.Bool.{Bool, true, false, not, _||_, or-false}

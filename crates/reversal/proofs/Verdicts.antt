@@ -1,4 +1,5 @@
--- A verdict by its tag, and the step that it gives.
+-- A verdict by its tag, as a match tells it: by cases on the verdict, where another tag is refuted by arithmetic; and the step made of a verdict's
+-- parts (`step-is`).
 use Prim.Native.Nat.{ℕ}
 use mathlib.Core.Path.{_≡_, refl}
 use mathlib.Core.Logic.{_≢_, _⊎_, ⊎-elim}

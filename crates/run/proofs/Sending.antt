@@ -1,4 +1,6 @@
--- The output of a text, handed on part by part. Assumes nothing.
+-- The output of a text, handed on part by part. `Sent`: behind the bytes handed on stands the output from where the run stands. A run that goes on
+-- splits it (`split`), so its part is the next one and the rest is the output from there (`is-part`, `sent-more`); past the last line only the
+-- tally's line is left (`tally-last`), and then all is handed on (`sent-all`). Assumes nothing.
 use mathlib.Core.Path.{_≡_, refl, sym, ap, _∙_}
 use mathlib.Core.Bool.{true, false}
 use mathlib.Core.List.{List, [], _∷_, _++_, append-nil}

@@ -1,5 +1,6 @@
--- Laws of `strength`: below a rank the depth does not matter, and the strength of a field is the largest of its level and the strengths of
--- its setter's other outputs; a potential bounds it.
+-- Laws of `strength`, by induction on the depth. Where a rank falls from each field to the other outputs of its setter, a depth above the rank does
+-- not matter (`strength-stable`); so the strength of a field is the largest of its level and the strengths of those outputs (`strength-fixed`). A
+-- potential, which is at least the level and does not rise to those outputs, bounds it (`strength-bound-in`).
 use Prim.Native.Nat.{ℕ, zero, suc, _≤_, _<_, max, zero-le}
 use mathlib.Core.Path.{_≡_, refl, ap}
 use mathlib.Core.Bool.{true}

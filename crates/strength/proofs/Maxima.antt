@@ -1,4 +1,6 @@
--- Laws of `greatest`: the greatest s u of the numbers u below n that pass a test.
+-- Laws of `greatest`, the greatest s u of the numbers u below n that pass a test: by induction on n, it is the least bound of all and, above 0,
+-- that of one of them. `Topping` is the same for a loop that empties a set: what is done is bounded by the greatest so far, which is no more than
+-- the whole's.
 use Prim.Native.Nat.{ℕ, zero, suc, _≤_, _<_, max, zero-le}
 use mathlib.Core.Path.{_≡_, refl, ap, ap₂, _∙_}
 use mathlib.Core.Bool.{Bool, true, false, false≢true}

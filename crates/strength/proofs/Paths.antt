@@ -1,4 +1,6 @@
--- Laws of `lowestAt`, `strongest` and `path`, and the reversible path as a chain.
+-- Laws of `lowestAt`, `strongest` and `path`. A field stronger than its setter's level has another output of its setter as strong (`path-onto`), so
+-- with fuel above its rank the path is a `Chain`, which ends at a setter of that level; its fields fall in rank, so they are distinct
+-- (`chain-distinct`).
 use Prim.Native.Nat.{ℕ, zero, suc, _≤_, _<_, max}
 use mathlib.Core.Path.{_≡_, refl, ap, ap₂}
 use mathlib.Core.Logic.{_≢_}

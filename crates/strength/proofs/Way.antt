@@ -1,4 +1,6 @@
--- What `path_from` keeps from one round of its loop to the next.
+-- What `path_from` keeps from one round of its loop to the next. `Way`: the fields passed stand in the buffer, and they with the path from the
+-- field at hand are the whole path. Where the level is not the strength, the path goes on (`path-onto`), so the scan of the other outputs finds the
+-- next field (`Scan`, `way-reversal`); where it is, the path ends (`way-stop`).
 use Prim.Native.Nat.{ℕ, zero, suc, _+_, _-_, _<_}
 use mathlib.Core.Path.{_≡_, refl, sym, ap, _∙_}
 use mathlib.Core.Logic.{_≢_}

@@ -1,4 +1,4 @@
--- The tally at its limits, computed: what no run reaches.
+-- The tally at its limits: what no run reaches, since a text has too few lines for it, is shown of the definitions by computation.
 use mathlib.Core.Path.{_≡_, refl}
 use mathlib.Core.List.{[], _∷_, map}
 use Rattle.tally.specs.Tallies.{more, tallied, threeBytes, tallyBytes}

@@ -1,4 +1,5 @@
--- The numbers of a text's answer tell its cases apart; and the answer to a text is what the program writes for it. Assumes nothing.
+-- The numbers of a text's answer tell its cases apart, since they begin with 00 and with FF; and the answer to a text is what the program writes
+-- for it, by cases on whether it is too long and on the answer (`told-output`). Assumes nothing.
 use mathlib.Core.Path.{_≡_, refl, sym, ap, _∙_}
 use mathlib.Core.Bool.{Bool, true, false, cond}
 use mathlib.Core.List.{List, [], _∷_}

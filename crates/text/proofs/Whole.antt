@@ -1,4 +1,6 @@
--- A run over all lines, and the whole output, whatever answers the lines. Assumes nothing.
+-- A run over all lines, and the whole output, whatever answers the lines. With room for a longest reply to each line a run does not stop before the
+-- text's end (`none-left`), so the lines answered are all (`all-done`); the tally's line put behind their replies ends the output (`stored`,
+-- `total`). Assumes nothing.
 use mathlib.Core.Path.{_≡_, refl, sym, ap, ap₂, _∙_}
 use mathlib.Core.Bool.{true, false}
 use mathlib.Core.List.{List, [], _∷_, _++_}

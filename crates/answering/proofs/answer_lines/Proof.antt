@@ -1,6 +1,7 @@
--- `answering::answer_lines` meets its contract. The loop keeps `Going`: the lines that are done, and what the code then holds; its measure is what is left
--- of the text. What one line does is a law for any answer to a line (`line-done`), which asks that the step of the line gives its answer (`did`); that
--- the panel has taken the step, and that the tables are its own again, are the laws of `taking`.
+-- `answering::answer_lines` meets its contract. The loop keeps `Going`: the lines that are done, and what the code then holds; its measure is what
+-- is left of the text. What one line does is a law for any answer to a line (`line-done`), which asks that the step of the line gives its answer
+-- (`did`); that the panel has taken the step, and that the tables are its own again, are the laws of `taking`. The loop ends with the text
+-- (`finish-end`) or where no longest reply fits any more (`finish-full`).
 use borrow.Author.Needs.{needs}
 use borrow.Author.Tests.{leb-true, leb-false}
 use mathlib.Core.Path.{_≡_, refl, sym, ap, _∙_, subst}
@@ -41,39 +42,39 @@ abbrev μ-loop : tie.MeasureT-loop
 μ-loop text from out₀ room at₀ q₀ u₀ n₀ rows₀ path₀ levels₀ others₀ reads₀ out at q u n rows path levels others reads =
     length text - at
 
--- ---- waypoints
+-- ---- the places: the line is read, and the link that its command names is known
 
 abbrev begin : tie.After-reads Inv-loop μ-loop → tie.Start Inv-loop μ-loop
 begin c = c .before .before .before .before .before
 
--- the link that the command names is known, from there the line that was read, the line's end, and the loop's test
-abbrev read-of : tie.After-old Inv-loop μ-loop → tie.After-read-line Inv-loop μ-loop
-read-of c = c .before .before .before
+-- from where the link is known: the line that was read, the line's end, and the round of the loop
+abbrev read : tie.After-old Inv-loop μ-loop → tie.After-read-line Inv-loop μ-loop
+read c = c .before .before .before
 
-abbrev end-of : tie.After-old Inv-loop μ-loop → tie.After-line-end Inv-loop μ-loop
-end-of c = read-of c .before .before
+abbrev ended : tie.After-old Inv-loop μ-loop → tie.After-line-end Inv-loop μ-loop
+ended c = read c .before .before
 
-abbrev loop-of : tie.After-old Inv-loop μ-loop → tie.At-loop Inv-loop μ-loop
-loop-of c = end-of c .before .before .before
+abbrev looped : tie.After-old Inv-loop μ-loop → tie.At-loop Inv-loop μ-loop
+looped c = ended c .before .before .before
 
 abbrev text-of : tie.At-loop Inv-loop μ-loop → List ℕ
 text-of c = begin (c .before .before) .args .text .now
 
-is-legal : (c : tie.After-old Inv-loop μ-loop) → Legal (loop-of c .loop .q)
-is-legal c = loop-of c .loop .inv .3 .legal
+is-legal : (c : tie.After-old Inv-loop μ-loop) → Legal (looped c .loop .q)
+is-legal c = looped c .loop .inv .3 .legal
 
 number-small : (c : tie.After-wide Inv-loop μ-loop) → c .wide .result < 128
 number-small c = omega (arith, c .wide .ensures, c .before .number-of .ensures .1)
 
 -- the link of the command's number
 abbrev command-of : tie.After-old Inv-loop μ-loop → Command
-command-of c = read-of c .read-line .result .command
+command-of c = read c .read-line .result .command
 
 number-is : (c : tie.After-old Inv-loop μ-loop) → c .before .wide .result ≡ numberOf (command-of c)
 number-is c = c .before .wide .ensures ∙ c .before .before .number-of .ensures .0
 
-named-at : (c : tie.After-old Inv-loop μ-loop) → linkAt (loop-of c .loop .q .links) (c .before .wide .result) ≡ linkAt (loop-of c .loop .q .links) (numberOf (command-of c))
-named-at c = ap (linkAt (loop-of c .loop .q .links)) (number-is c)
+named-at : (c : tie.After-old Inv-loop μ-loop) → linkAt (looped c .loop .q .links) (c .before .wide .result) ≡ linkAt (looped c .loop .q .links) (numberOf (command-of c))
+named-at c = ap (linkAt (looped c .loop .q .links)) (number-is c)
 
 -- where the line ends, and where the next begins
 ends : (c : tie.After-line-end Inv-loop μ-loop) → c .line-end .result ≤ length (text-of (c .before .before .before))
@@ -97,40 +98,51 @@ mul-old c = omega (arith, number-small c)
 element-copy-out-old : tie.Need-element-copy-out-old Inv-loop μ-loop
 element-copy-out-old c = omega (arith, number-small c)
 
+-- in the arms of the match, the command is a removal, or another
+abbrev removes : tie.After-levels2 Inv-loop μ-loop → tie.After-command Inv-loop μ-loop
+removes c = c .before .before
+
+abbrev decides : tie.After-levels3 Inv-loop μ-loop → tie.After-old Inv-loop μ-loop
+decides c = c .before .before
+
 remove-requires : tie.Need-remove-requires Inv-loop μ-loop
 remove-requires c κs =
-    let k = c .before .before .before .before .before in
+    let k = removes (c .before .before .before) in
     let n = k .before .before in
-    let l = loop-of n .loop .inv in
-    (is-legal n, l .2, named-at n ∙ ap (λ (x : Command). linkAt (loop-of n .loop .q .links) (numberOf x)) (k .command .given .1), l .1)
+    let l = looped n .loop .inv in
+    (is-legal n, l .2, named-at n ∙ ap (λ (x : Command). linkAt (looped n .loop .q .links) (numberOf x)) (k .command .given .1), l .1)
 
 decide-line-requires : tie.Need-decide-line-requires Inv-loop μ-loop
 decide-line-requires c κs =
-    let n = c .before .before .before .before .before .before in
-    let l = loop-of n .loop .inv in
-    ((is-legal n, l .2, named-at n), (framed _ _ (read-of n .read-line .ensures), l .1, l .0))
+    let n = decides (c .before .before .before .before) in
+    let l = looped n .loop .inv in
+    ((is-legal n, l .2, named-at n), (framed _ _ (read n .read-line .ensures), l .1, l .0))
 
 -- ---- the step of the line, and the panel that has taken it
 
--- the arms of the match meet
-abbrev named-of : tie.After-setter Inv-loop μ-loop → tie.After-old Inv-loop μ-loop
-named-of c = c .before .before .before .before
+-- the arms of the match meet; from there the parts of the step, and the levels of the stays
+abbrev met : tie.After-setter Inv-loop μ-loop → tie.At-match-came Inv-loop μ-loop
+met c = c .before .before .before
 
-abbrev met-of : tie.After-stay-levels Inv-loop μ-loop → tie.At-match-came Inv-loop μ-loop
-met-of c = c .before .before .before .before .before .before .before
+abbrev parts : tie.After-stay-levels Inv-loop μ-loop → tie.After-setter Inv-loop μ-loop
+parts c = c .before .before .before .before
+
+-- the step changes setters
+abbrev changes : tie.After-path3 Inv-loop μ-loop → tie.After-stay-levels Inv-loop μ-loop
+changes c = c .before .before .before
 
 abbrev fields-at : tie.After-old Inv-loop μ-loop → List ℕ
-fields-at c = fieldBytesOf (read-of c .read-line .result)
+fields-at c = fieldBytesOf (read c .read-line .result)
 
 same-command : (c : tie.At-match-came Inv-loop μ-loop) → c .match .command ≡ command-of (c .before)
 same-command c = ⊎-elim (λ w. w .10 ∙ sym (w .1 .given .1)) (λ w. w .9) (c .match .came)
 
 stepped : (c : tie.At-match-came Inv-loop μ-loop)
-    → let n = c .before in let m = c .match in LineStep (loop-of n .loop .q) (n .before .wide .result) (command-of n) (fields-at n) (m .path) (m .rows) (m .step)
+    → let n = c .before in let m = c .match in LineStep (looped n .loop .q) (n .before .wide .result) (command-of n) (fields-at n) (m .path) (m .rows) (m .step)
 stepped c =
     let n = c .before in
     let m = c .match in
-    let l = loop-of n .loop in
+    let l = looped n .loop in
     subst (λ (k : ℕ). LineStep (l .q) k (command-of n) (fields-at n) (m .path) (m .rows) (m .step)) (sym (number-is n))
     (⊎-elim
     (λ w.
@@ -141,90 +153,99 @@ stepped c =
     (m .came))
 
 abbrev after-of : tie.At-match-came Inv-loop μ-loop → Panel
-after-of c = let n = c .before in commandAnswer (loop-of n .loop .q) (command-of n) (fields-at n) .state
+after-of c = let n = c .before in commandAnswer (looped n .loop .q) (command-of n) (fields-at n) .state
 
 legal-after : (c : tie.At-match-came Inv-loop μ-loop) → Legal (after-of c)
 legal-after c = let n = c .before in answer-legal _ (command-of n) (fields-at n) (is-legal n)
 
 mul-link : tie.Need-mul-link Inv-loop μ-loop
-mul-link c = omega (arith, number-small (named-of c .before))
+mul-link c = omega (arith, number-small (met c .before .before))
 
 element-set-from-link : tie.Need-element-set-from-link Inv-loop μ-loop
-element-set-from-link c = number-small (named-of c .before)
+element-set-from-link c = number-small (met c .before .before)
 
 stay-levels-requires : tie.Need-stay-levels-requires Inv-loop μ-loop
 stay-levels-requires c κs =
-    let m = c .before .before .before .before .before .before in
-    (places-taken (stepped m .takes) (legal-after m), loop-of (m .before) .loop .inv .2 .levels-full)
+    let m = met (c .before .before .before) in
+    (places-taken (stepped m .takes) (legal-after m), looped (m .before) .loop .inv .2 .levels-full)
 
 reverse-requires : tie.Need-reverse-requires Inv-loop μ-loop
 reverse-requires c κs =
-    let k = c .before .before .before .before .before .before in
-    let m = met-of k in
-    (stepped m .takes .path-of, places-taken (stepped m .takes) (legal-after m), tabled-altered (stepped m .takes) (legal-after m) (is-legal (m .before)) (number-small (m .before .before)) (loop-of (m .before) .loop .inv .2) (k .stay-levels .ensures))
+    let k = changes (c .before .before .before) in
+    let m = met (parts k) in
+    let t = stepped m .takes in (
+      t .path-of,
+      places-taken t (legal-after m),
+      tabled-altered t (legal-after m) (is-legal (m .before)) (number-small (m .before .before)) (looped (m .before) .loop .inv .2) (k .stay-levels .ensures),
+    )
 
 -- the panel after the line, and its tables
-abbrev joined-of : tie.Joined2 Inv-loop μ-loop → tie.At-match-came Inv-loop μ-loop
-joined-of j = met-of (j .before .before)
+abbrev joined : tie.Joined2 Inv-loop μ-loop → tie.At-match-came Inv-loop μ-loop
+joined j = met (parts (j .before .before))
 
-taken : (j : tie.Joined2 Inv-loop μ-loop) → let t = j .if2 in Taken (after-of (joined-of j)) (t .q) (t .levels) (t .others) (t .reads)
+taken : (j : tie.Joined2 Inv-loop μ-loop) → let t = j .if2 in Taken (after-of (joined j)) (t .q) (t .levels) (t .others) (t .reads)
 taken j =
-    let m = joined-of j in
+    let m = joined j in
     let l = j .before .before .stay-levels .ensures in
     ⊎-elim
     (λ w. rw (w .6, w .7, w .8, w .9) (taken-reversed (stepped m .takes) (legal-after m) (w .5 .ensures .0) (w .5 .ensures .1)))
     (λ w. rw (w .1, w .2, w .3, w .4)
-    (taken-unmoved (stepped m .takes) (legal-after m) (is-legal (m .before)) (number-small (m .before .before)) (loop-of (m .before) .loop .inv .2) l (w .0 .left)))
+    (taken-unmoved (stepped m .takes) (legal-after m) (is-legal (m .before)) (number-small (m .before .before)) (looped (m .before) .loop .inv .2) l (w .0 .left)))
     (j .if2 .came)
 
 -- ---- what one line does
 
 -- the line, and its reply
 abbrev line-of : tie.After-old Inv-loop μ-loop → List ℕ
-line-of c = let l = loop-of c in take (end-of c .line-end .result - l .loop .at) (drop (l .loop .at) (text-of l))
+line-of c = let l = looped c in take (ended c .line-end .result - l .loop .at) (drop (l .loop .at) (text-of l))
 
 abbrev reply-of : tie.Joined2 Inv-loop μ-loop → List ℕ
-reply-of j = let m = joined-of j in wholeReply (command-of (m .before)) (m .match .step .reply) (m .match .rows)
+reply-of j = let m = joined j in wholeReply (command-of (m .before)) (m .match .step .reply) (m .match .rows)
 
 line-does : (j : tie.Joined2 Inv-loop μ-loop)
-    → let n = joined-of j .before in Did lineAnswer Legal (loop-of n .loop .q) (line-of n) (j .if2 .q) (reply-of j)
+    → let n = joined j .before in Did lineAnswer Legal (looped n .loop .q) (line-of n) (j .if2 .q) (reply-of j)
 line-does j =
-    let m = joined-of j in
+    let m = joined j in
     let n = m .before in
     let t = taken j in
-    did _ (line-of n) _ (fields-at n) (read-of n .read-line .ensures .bytes) _ _ _ _ (stepped m) _ (t .panel) (t .legal)
+    did _ (line-of n) _ (fields-at n) (read n .read-line .ensures .bytes) _ _ _ _ (stepped m) _ (t .panel) (t .legal)
 
-is-written : (j : tie.Joined2 Inv-loop μ-loop) → let m = joined-of j in wholeReply (m .match .command) (m .match .step .reply) (m .match .rows) ≡ reply-of j
-is-written j = let m = joined-of j in ap (λ (k : Command). wholeReply k (m .match .step .reply) (m .match .rows)) (same-command m)
+is-written : (j : tie.Joined2 Inv-loop μ-loop) → let m = joined j in wholeReply (m .match .command) (m .match .step .reply) (m .match .rows) ≡ reply-of j
+is-written j = let m = joined j in ap (λ (k : Command). wholeReply k (m .match .step .reply) (m .match .rows)) (same-command m)
 
 slice-aggregate-put-reply : tie.Need-slice-aggregate-put-reply Inv-loop μ-loop
-slice-aggregate-put-reply c = sym (stepped (joined-of (c .before .before)) .rows-full)
+slice-aggregate-put-reply c = sym (stepped (joined (c .before .before)) .rows-full)
 
 put-reply-requires : tie.Need-put-reply-requires Inv-loop μ-loop
 put-reply-requires c κs =
-    let m = joined-of (c .before .before) in
-    let l = loop-of (m .before) in
+    let m = joined (c .before .before) in
+    let l = looped (m .before) in
     let few = ap (λ (k : Command). restOf k (m .match .step .reply)) (same-command m) in
     let short = stepped m .rest in
     (omega (arith, few, short, stepped m .rows-full), omega (arith, few, short, l .loop .inv .3 .fits, begin (l .before .before) .pre .1))
 
-abbrev taken-of : tie.After-behind Inv-loop μ-loop → tie.Joined2 Inv-loop μ-loop
-taken-of c = c .before .before .before .before .before .before .before .before
+-- the reply is written, and its refusal told
+abbrev step-taken : tie.After-put-reply Inv-loop μ-loop → tie.Joined2 Inv-loop μ-loop
+step-taken c = c .before .before .before
+
+abbrev replied : tie.After-refusal-of Inv-loop μ-loop → tie.After-put-reply Inv-loop μ-loop
+replied c = c .before .before .before
 
 loop-less : tie.Need-loop-less Inv-loop μ-loop
 loop-less c =
-    let e = end-of (joined-of (taken-of c) .before) in
+    let e = ended (joined (step-taken (replied (c .before .before))) .before) in
     let l = e .before .before .before in
     omega (arith, c .behind .ensures, behind-on (text-of l) (l .loop .at) (e .line-end .result) (e .before .before .loop-test .taken) (e .line-end .ensures), ends e)
 
 loop-again : tie.Need-loop-again Inv-loop μ-loop
 loop-again c =
-    let j = taken-of c in
-    let m = joined-of j in
+    let r = replied (c .before .before) in
+    let j = step-taken r in
+    let m = joined j in
     let n = m .before in
-    let l = loop-of n .loop in
-    let e = end-of n in
-    let w = c .before .before .before .before .before .put-reply .ensures in (
+    let l = looped n .loop in
+    let e = ended n in
+    let w = r .put-reply .ensures in (
       stepped m .rows-full,
       stepped m .takes .path-of .full,
       taken j .tabled,

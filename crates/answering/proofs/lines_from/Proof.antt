@@ -1,4 +1,4 @@
--- `answering::lines_from` meets its contract.
+-- `answering::lines_from` meets its contract: what `answer_lines` answers with the buffer's length as room, as a run that goes on (`resumed`).
 use borrow.Author.Needs.{needs}
 use Rattle.answering.proofs.Resuming.{resumed}
 use Rattle.answering.proofs.lines_from.Statement.{statement}

@@ -1,4 +1,5 @@
--- `frames::fits_kind` meets its contract: at each kind by computation. Assumes nothing.
+-- `frames::fits_kind` meets its contract: at each kind the comparison is the definition's, once the kind is put for its number (`fits-at`); the
+-- range of an add is two comparisons; no length fits any other kind (`fits-other`). Assumes nothing.
 use mathlib.Core.Path.{sym, ap, _∙_}
 use mathlib.Core.Bool.{Bool, _&&_}
 use lib.Dec.{leb}

@@ -1,5 +1,6 @@
--- `frames::has_bit6` meets its contract. The loop's invariant: some byte from the position on has bit 6 set where some field byte has.
--- The measure is what is left of the frame. Assumes nothing.
+-- `frames::has_bit6` meets its contract. The loop's invariant: some byte from the position on has bit 6 set exactly where some field byte has; the
+-- measure is what is left of the frame. A byte with bit 6 answers yes (`bit6-found`), any other is passed (`bit6-on`), the end answers no
+-- (`bit6-none`). Assumes nothing.
 use borrow.Author.Needs.{needs}
 use mathlib.Core.Path.{_≡_, refl, _∙_}
 use Prim.Native.Nat.{_-_}

@@ -1,4 +1,4 @@
--- `frames::number_of` meets its contract.
+-- `frames::number_of` meets its contract, by cases on the command: an add's and a remove's number is a remainder of 128, the other four name none.
 use mathlib.Core.Path.{sym, ap}
 use native.Mathlib.Omega.{arith}
 use borrow.Author.Needs.{needs}

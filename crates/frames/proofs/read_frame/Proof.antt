@@ -1,4 +1,6 @@
--- `frames::read_frame` meets its contract: by the kind, whose length fits. Assumes nothing.
+-- `frames::read_frame` meets its contract. Bytes that do not fit their kind are refused (`unfit-read`); so is an add with bit 6 set in a field byte
+-- (`bit6-read`). Else a kind with one length has its first bytes (`exact-read`), an add all of them (`range-read`); another kind would not have
+-- fitted (`fits-other`). Assumes nothing.
 use borrow.Author.Needs.{needs}
 use borrow.Author.Tests.{not-true, not-false}
 use mathlib.Core.Path.{_≡_, refl, sym, _∙_}
@@ -15,28 +17,39 @@ use Rattle.frames.proofs.Reading.{fits-other, fits-short, unfit-read, b
 use Rattle.frames.proofs.read_frame.Statement.{statement}
 use Rattle.frames.proofs.read_frame.Tie as tie
 
-returns : tie.Need-returns
-returns c =
-    let s = c .before .before .before in
-    unfit-read (s .args .frame .now) (s .args .n) (s .pre) (sym (c .before .fits-kind .ensures) ∙ not-true _ (c .if1 .taken))
+-- ---- the places: the kind is looked at, its length fits, and of an add bit 6 is looked for
+
+abbrev start : tie.After-fits-kind → tie.Start
+start k = k .before .before
+
+abbrev fitting : tie.After-has-bit6 → tie.Else1
+fitting h = h .before .before
 
 -- where the match begins the length fits the kind
-fits : (c : tie.Else1) → let s = c .before .before .before .args in fitsKind (at (s .frame .now) 0) (s .n) ≡ true
+fits : (c : tie.Else1) → let s = start (c .before) .args in fitsKind (at (s .frame .now) 0) (s .n) ≡ true
 fits c = sym (c .before .fits-kind .ensures) ∙ not-false _ (c .if1 .left)
 
 -- a kind with one length
-exactly : (c : tie.Else1) → let s = c .before .before .before .args in
+exactly : (c : tie.Else1) → let s = start (c .before) .args in
     (k : ℕ) → at (s .frame .now) 0 ≡ k → (m : ℕ) → fitsKind k (s .n) ≡ eqb (s .n) m → eqb k 0x02 && anyOf hasBit6 (drop 3 (take (s .n) (s .frame .now))) ≡ false
     → take m (k ∷ at (s .frame .now) 1 ∷ at (s .frame .now) 2 ∷ drop 3 (s .frame .now)) ≡ checkedFrame (take (s .n) (s .frame .now))
-exactly c k kind m one low = let s = c .before .before .before in exact-read (s .args .frame .now) (s .args .n) (s .pre) k kind (fits c) m one low
+exactly c k kind m one low = let s = start (c .before) in exact-read (s .args .frame .now) (s .args .n) (s .pre) k kind (fits c) m one low
+
+-- ---- the needs
+
+returns : tie.Need-returns
+returns c =
+    let s = start (c .before) in
+    unfit-read (s .args .frame .now) (s .args .n) (s .pre) (sym (c .before .fits-kind .ensures) ∙ not-true _ (c .if1 .taken))
 
 has-bit6-requires : tie.Need-has-bit6-requires
-has-bit6-requires c κs = let s = c .before .before .before .before in (omega (arith, fits-short _ (s .args .n) (fits (c .before))), s .pre)
+has-bit6-requires c κs = let s = start (c .before .before) in (omega (arith, fits-short _ (s .args .n) (fits (c .before))), s .pre)
 
 returns-2 : tie.Need-returns-2
 returns-2 c =
-    let s = c .before .before .before .before .before .before in
-    bit6-read (s .args .frame .now) (s .args .n) (s .pre) 0x02 (c .before .before .match .keys2) (fits (c .before .before .before)) (sym (c .before .has-bit6 .ensures) ∙ c .if2 .taken)
+    let h = c .before in
+    let s = start (fitting h .before) in
+    bit6-read (s .args .frame .now) (s .args .n) (s .pre) 0x02 (h .before .match .keys2) (fits (fitting h)) (sym (h .has-bit6 .ensures) ∙ c .if2 .taken)
 
 returns-3 : tie.Need-returns-3
 unfolding fitsKind
@@ -45,10 +58,10 @@ returns-3 c = exactly (c .before .before) 0x01 (c .before .match .keys1) 2 refl 
 returns-4 : tie.Need-returns-4
 unfolding fitsKind
 returns-4 c =
-    let h = c .before .before in
-    let m = h .before .before in
-    let s = m .before .before .before .before in
-    range-read (s .args .frame .now) (s .args .n) (s .pre) 0x02 (m .match .keys2) (fits (m .before)) 4 11 refl (omega arith) (sym (h .before .has-bit6 .ensures) ∙ h .if2 .left)
+    let e = c .before .before in
+    let h = e .before in
+    let s = start (fitting h .before) in
+    range-read (s .args .frame .now) (s .args .n) (s .pre) 0x02 (h .before .match .keys2) (fits (fitting h)) 4 11 refl (omega arith) (sym (h .has-bit6 .ensures) ∙ e .if2 .left)
 
 returns-5 : tie.Need-returns-5
 unfolding fitsKind
@@ -64,7 +77,7 @@ returns-7 c = exactly (c .before) 0x05 (c .match .keys5) 1 refl refl
 
 returns-8 : tie.Need-returns-8
 returns-8 c =
-    let s = c .before .before .before .before in
+    let s = start (c .before .before) in
     unfit-read (s .args .frame .now) (s .args .n) (s .pre) (sym (fits-other _ _ (c .match .rest)))
 
 pub read-frame-spec : {M : Type 1} → statement M

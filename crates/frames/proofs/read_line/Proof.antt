@@ -5,9 +5,16 @@ use Rattle.frames.proofs.Reading.{full, read-bad, read-good}
 use Rattle.frames.proofs.read_line.Statement.{statement}
 use Rattle.frames.proofs.read_line.Tie as tie
 
+-- ---- the place: the line is decoded, and is a frame
+
+abbrev line : tie.After-known-told → tie.After-decode
+line n = n .before .before .before
+
+-- ---- the needs
+
 read-frame-requires : tie.Need-read-frame-requires
 read-frame-requires c κs =
-    let d = c .before .before .before .before .before .decode in
+    let d = line (c .before .before) .decode in
     full _ _ (d .result) (d .ensures .0) (d .ensures .1)
 
 returns : tie.Need-returns
@@ -17,10 +24,11 @@ returns c =
 
 returns-2 : tie.Need-returns-2
 returns-2 c =
-    let d = c .before .before .before .before .before .before .decode in
-    let n = c .before .before .before .before .d .given in
+    let k = c .before .before in
+    let d = line (k .before) .decode in
+    let n = k .before .before .d .given in
     let r = c .read-frame in
-    read-good _ _ (d .result) (d .ensures .0) (d .ensures .1) (n .0 .0) (n .1) _ (c .before .before .kept .ensures) (r .result) (r .ensures)
+    read-good _ _ (d .result) (d .ensures .0) (d .ensures .1) (n .0 .0) (n .1) _ (k .kept .ensures) (r .result) (r .ensures)
 
 pub read-line-spec : {M : Type 1} → statement M
 read-line-spec =

@@ -1,5 +1,5 @@
--- `hex::are_digits` meets its contract. The loop's invariant: the characters from `i` on decide; the measure is how many are left.
--- Assumes nothing.
+-- `hex::are_digits` meets its contract. The loop's invariant is `Read`: the characters from `i` on decide; the measure is how many are left. A digit
+-- takes the loop a character on (`read-more`), another character answers no (`read-other`), the end of the line yes (`read-end`). Assumes nothing.
 use mathlib.Core.Path.{sym, ap, _∙_}
 use Prim.Native.Nat.{_-_}
 use borrow.Author.Needs.{needs}
@@ -15,18 +15,27 @@ Inv-loop s i₀ i = Read s i
 abbrev μ-loop : tie.MeasureT-loop
 μ-loop s i₀ i = length s - i
 
+-- ---- the place: a round of the loop, whose character is told
+
+abbrev round : tie.After-digit-of Inv-loop μ-loop → tie.In-loop Inv-loop μ-loop
+round d = d .before .before
+
+-- ---- the needs
+
 loop-holds : tie.Need-loop-holds Inv-loop μ-loop
 loop-holds c = read-none _
 
 returns : tie.Need-returns Inv-loop μ-loop
 returns c =
-    read-other _ _ (c .before .before .before .before .before .loop .inv) (c .before .before .before .before .loop-test .taken)
-    (sym (ap digitValues (c .enum-told2 .given .1)) ∙ c .before .before .digit-of .ensures)
+    let d = c .before .before in
+    let r = round d in
+    read-other _ _ (r .before .loop .inv) (r .loop-test .taken) (sym (ap digitValues (c .enum-told2 .given .1)) ∙ d .digit-of .ensures)
 
 loop-again : tie.Need-loop-again Inv-loop μ-loop
 loop-again c =
-    read-more _ _ _ (c .before .before .before .before .before .loop .inv) (c .before .before .before .before .loop-test .taken)
-    (sym (ap digitValues (c .enum-told .given .1)) ∙ c .before .before .digit-of .ensures)
+    let d = c .before .before in
+    let r = round d in
+    read-more _ _ _ (r .before .loop .inv) (r .loop-test .taken) (sym (ap digitValues (c .enum-told .given .1)) ∙ d .digit-of .ensures)
 
 returns-2 : tie.Need-returns-2 Inv-loop μ-loop
 returns-2 c = read-end _ _ (c .before .loop .inv) (c .loop-test .left)

@@ -1,4 +1,4 @@
--- `hex::byte` meets its contract. Assumes nothing.
+-- `hex::byte` meets its contract: the two values are `value`'s, and each is below 16 (`digit-below`), so that nothing is above 255. Assumes nothing.
 use native.Mathlib.Omega.{arith}
 use borrow.Author.Needs.{needs}
 use Rattle.hex.proofs.Digits.{digit-below}

@@ -1,4 +1,5 @@
--- `hex::digit_of` meets its contract. Assumes nothing.
+-- `hex::digit_of` meets its contract: one law for each stretch of characters between the bounds that are compared, below 0 (`below-0`), 0 to 9
+-- (`from-0`), up to A (`below-A`), A to F (`from-A`), behind F (`behind-F`). Assumes nothing.
 use borrow.Author.Needs.{needs}
 use Rattle.hex.proofs.Digits.{below-0, from-0, below-A, from-A, behind-F}
 use Rattle.hex.proofs.digit_of.Statement.{statement}

@@ -1,5 +1,6 @@
--- `hex::fill` meets its contract. The loop's invariant: the first `i` bytes are in the buffer; the measure is how many of the twelve are left.
--- Assumes nothing.
+-- `hex::fill` meets its contract. The loop's invariant is `Filled`: the first `i` bytes are in the buffer; the measure is how many of the twelve are
+-- left. A round stores one byte more (`filled-more`); the loop ends with the line (`filled-end`) or with a full buffer, past which no store counts
+-- (`filled-full`). Assumes nothing.
 use Prim.Native.Nat.{_*_, _+_, _<_, _-_}
 use native.Mathlib.Omega.{arith}
 use borrow.Author.Tests.{ltb-true, ltb-false}
@@ -14,6 +15,16 @@ Inv-loop s frame₀ i₀ frame i = Filled s frame₀ frame i
 
 abbrev μ-loop : tie.MeasureT-loop
 μ-loop s frame₀ i₀ frame i = 12 - i
+
+-- ---- the places: a round of the loop, with both of its characters read; the start
+
+abbrev round : tie.After-shared-slice-known3 Inv-loop μ-loop → tie.At-loop Inv-loop μ-loop
+round c = c .before .before .before .before
+
+abbrev start : tie.At-loop Inv-loop μ-loop → tie.Start Inv-loop μ-loop
+start l = l .before .before
+
+-- ---- the needs
 
 loop-holds : tie.Need-loop-holds Inv-loop μ-loop
 loop-holds c = filled-none _ _ (c .before .pre .1)
@@ -41,10 +52,10 @@ shared-slice-read-byte-2 c = omega (arith, ltb-true)
 
 byte-requires : tie.Need-byte-requires Inv-loop μ-loop
 byte-requires c κs =
-    let a = c .before .before .before .before .loop in
-    let b = c .before .before .before .before .before .before in
-    let h : 2 * a .i + 1 < length (b .args .s .now) = omega (arith, ltb-true) in
-    (digits-at (b .args .s .now) (2 * a .i) (b .pre .0) (omega arith), digits-at (b .args .s .now) (2 * a .i + 1) (b .pre .0) h)
+    let i = round c .loop .i in
+    let b = start (round c) in
+    let h : 2 * i + 1 < length (b .args .s .now) = omega (arith, ltb-true) in
+    (digits-at (b .args .s .now) (2 * i) (b .pre .0) (omega arith), digits-at (b .args .s .now) (2 * i + 1) (b .pre .0) h)
 
 element-write-frame : tie.Need-element-write-frame Inv-loop μ-loop
 element-write-frame c = omega (arith, ltb-true)
@@ -57,14 +68,14 @@ loop-less c = omega (arith, ltb-true)
 
 loop-again : tie.Need-loop-again Inv-loop μ-loop
 loop-again c =
-    let a = c .before .before .before .before .before .loop in
+    let a = round (c .before) .loop in
     filled-more _ _ _ (a .i) _ (a .inv) (omega arith) (omega (arith, ltb-true)) (c .byte .ensures)
 
 returns : tie.Need-returns Inv-loop μ-loop
 returns c = filled-end _ _ _ _ (c .before .before .loop .inv) (omega (arith, ltb-false))
 
 returns-2 : tie.Need-returns-2 Inv-loop μ-loop
-returns-2 c = filled-full _ _ _ _ (c .before .loop .inv) (c .before .before .before .pre .1) (omega arith)
+returns-2 c = filled-full _ _ _ _ (c .before .loop .inv) (start (c .before) .pre .1) (omega arith)
 
 pub fill-spec : {M : Type 1} → statement M
 fill-spec =

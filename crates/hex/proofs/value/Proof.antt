@@ -1,4 +1,5 @@
--- `hex::value` meets its contract. Assumes nothing.
+-- `hex::value` meets its contract, by what `digit_of` tells: a value is that of the digit (`value-read`); another character is not told, since the
+-- one given is a digit (`not-other`). Assumes nothing.
 use mathlib.Core.Path.{sym, ap, _∙_}
 use borrow.Author.Needs.{needs}
 use Rattle.hex.specs.Answers.{digitValues}

@@ -19,10 +19,16 @@ Inv-loop levels others reads rows₀ n setter table listed count i₀ now i = Wr
 abbrev μ-loop : tie.MeasureT-loop
 μ-loop levels others reads rows₀ n setter table listed count i₀ now i = count - i
 
--- ---- the places: the plan listed, the row that is written
+-- ---- the places: the strengths worked out, the plan listed, the row that is written
+
+abbrev begin : tie.After-strengths Inv-loop μ-loop → tie.Start Inv-loop μ-loop
+begin c = c .before .before .before .before
+
+abbrev strong : tie.After-order Inv-loop μ-loop → tie.After-strengths Inv-loop μ-loop
+strong c = c .before .before
 
 abbrev start : tie.After-order Inv-loop μ-loop → tie.Start Inv-loop μ-loop
-start c = c .before .before .before .before .before .before
+start c = begin (strong c)
 
 -- the buffer with the plan's fields
 abbrev fields : tie.After-order Inv-loop μ-loop → List ℕ
@@ -53,7 +59,7 @@ strengths-requires c κs =
 
 order-requires : tie.Need-order-requires Inv-loop μ-loop
 order-requires c κs =
-    let s = c .before .before .before .before .before in
+    let s = begin (c .before) in
     (panel-among (s .args .p) (s .pre .0) _ _ _ (s .pre .1), refl)
 
 loop-holds : tie.Need-loop-holds Inv-loop μ-loop
@@ -95,11 +101,10 @@ returns-2 : tie.Need-returns-2 Inv-loop μ-loop
 returns-2 c =
     let loop = c .before in
     let listed = loop .before in
-    let strong = listed .before .before in
-    let opened = strong .before .before .before in
+    let opened = strong listed .before .before .before in
     let s = start listed in
     plan-done (s .args .p) _ _ _ _ _ (loop .loop .i) (s .pre .0) (omega (arith, opened .if1 .left))
-    (panel-strengths (s .args .p) (s .pre .0) _ _ _ (s .pre .1) _ _ refl (strong .strengths .ensures))
+    (panel-strengths (s .args .p) (s .pre .0) _ _ _ (s .pre .1) _ _ refl (strong listed .strengths .ensures))
     (listing listed) (loop .loop .inv) (c .loop-test .left)
 
 pub plan-spec : {M : Type 1} → statement M

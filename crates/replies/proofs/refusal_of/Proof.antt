@@ -1,4 +1,5 @@
--- `replies::refusal_of` meets its contract.
+-- `replies::refusal_of` meets its contract, by cases on the reply: an accepted one tells none (`accepted-tells`), a refused one the refusal's number
+-- (`refused-tells`).
 use borrow.Author.Needs.{needs}
 use mathlib.Core.Path.{sym, ap, _∙_}
 use Rattle.panel.specs.declared.Reply.{Reply}

@@ -1,4 +1,4 @@
--- `replies::reply_bytes` meets its contract.
+-- `replies::reply_bytes` meets its contract, by cases on the reply: both are the definition's bytes, with the number that `refusal_number` answers.
 use borrow.Author.Needs.{needs}
 use mathlib.Core.Path.{sym, ap, _∙_}
 use mathlib.Core.List.{List, _∷_}

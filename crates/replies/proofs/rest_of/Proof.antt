@@ -1,4 +1,4 @@
--- `replies::rest_of` meets its contract.
+-- `replies::rest_of` meets its contract, by cases on the command: a plan's bytes are those of its rows, any other has none (`no-rest`).
 use mathlib.Core.Path.{sym}
 use borrow.Author.Needs.{needs}
 use Rattle.replies.proofs.Replies.{no-rest}

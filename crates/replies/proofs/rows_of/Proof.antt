@@ -1,4 +1,4 @@
--- `replies::rows_of` meets its contract.
+-- `replies::rows_of` meets its contract, by cases on the reply: an accepted one has three bytes for each field counted, a refused one none.
 use mathlib.Core.Path.{_≡_, _∙_, sym, ap}
 use Prim.Native.Nat.{_*_}
 use native.Mathlib.Omega.{arith}

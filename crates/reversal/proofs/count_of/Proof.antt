@@ -1,4 +1,4 @@
--- `reversal::count_of` meets its contract.
+-- `reversal::count_of` meets its contract: a set has at most 64 fields (`count-le`), so that its size fits a byte.
 use native.Mathlib.Omega.{arith}
 use borrow.Author.Needs.{needs}
 use Rattle.fieldset.specs.Fields.{member, size}

@@ -1,4 +1,5 @@
--- `reversal::held_field` meets its contract.
+-- `reversal::held_field` meets its contract, by cases on the standing: what waits holds no field; what holds one holds one of the panel's, by the
+-- contract, and the set is that of `only`.
 use mathlib.Core.Path.{ap, _∙_, subst, sym}
 use native.Mathlib.Omega.{arith}
 use borrow.Author.Needs.{needs}

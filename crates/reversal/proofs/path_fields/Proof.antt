@@ -1,4 +1,5 @@
--- `reversal::path_fields` meets its contract: the set has the fields passed.
+-- `reversal::path_fields` meets its contract. The loop's invariant: the set has the first `i` fields of the path; the measure is how many are left. A
+-- round puts in one field more (`fields-more`).
 use Prim.Native.Nat.{_-_, _≤_}
 use mathlib.Core.Path.{_≡_, sym, ap, _∙_}
 use native.Mathlib.Omega.{arith}
@@ -16,6 +17,16 @@ Inv-loop path count set₀ i₀ set i = (i ≤ count) × (set ≡ fieldsOf (take
 abbrev μ-loop : tie.MeasureT-loop
 μ-loop path count set₀ i₀ set i = count - i
 
+-- ---- the places: a round of the loop, whose field is read; the start
+
+abbrev round : tie.After-wide Inv-loop μ-loop → tie.At-loop Inv-loop μ-loop
+round f = f .before .before .before
+
+abbrev start : tie.At-loop Inv-loop μ-loop → tie.Start Inv-loop μ-loop
+start l = l .before
+
+-- ---- the needs
+
 loop-holds : tie.Need-loop-holds Inv-loop μ-loop
 loop-holds c = (omega arith, sym (fields-none (c .args .path .now)))
 
@@ -23,14 +34,15 @@ element-copy-out-wide : tie.Need-element-copy-out-wide Inv-loop μ-loop
 element-copy-out-wide c = omega (arith, c .before .before .pre .few)
 
 with-requires : tie.Need-with-requires Inv-loop μ-loop
-with-requires c κs = omega (arith, c .before .before .before .before .pre .fields (c .before .before .before .loop .i) (omega arith))
+with-requires c κs = let l = round c in omega (arith, start l .pre .fields (l .loop .i) (omega arith))
 
 loop-again : tie.Need-loop-again Inv-loop μ-loop
 loop-again c =
-    let b = c .before .before .before .before .before in
-    let a = c .before .before .before .before .loop in (
+    let f = c .before in
+    let b = start (round f) in
+    let a = round f .loop in (
       omega arith,
-      c .with .ensures ∙ fields-more (b .args .path .now) (a .i) (a .set) (c .before .wide .result) (omega (arith, b .pre .few)) (a .inv .1) (c .before .wide .ensures),
+      c .with .ensures ∙ fields-more (b .args .path .now) (a .i) (a .set) (f .wide .result) (omega (arith, b .pre .few)) (a .inv .1) (f .wide .ensures),
     )
 
 returns : tie.Need-returns Inv-loop μ-loop

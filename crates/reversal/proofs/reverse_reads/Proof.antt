@@ -1,5 +1,6 @@
--- `reversal::reverse_reads` meets its contract: the reversal of what is left of the path gives the whole.
-use Prim.Native.Nat.{_-_, _≤_}
+-- `reversal::reverse_reads` meets its contract. The loop's invariant: the reversal of what is left of the path gives that of the whole; the measure
+-- is how many fields are left. A round is one step of the definition (`reads-next`); with no field left it gives the table (`reads-end`).
+use Prim.Native.Nat.{_-_, _≤_, _<_}
 use mathlib.Core.Path.{_≡_, refl, sym, _∙_}
 use native.Mathlib.Omega.{arith}
 use borrow.Author.Needs.{needs}
@@ -16,34 +17,52 @@ Inv-loop reads₀ covered path count cover₀ i₀ reads cover i = (i ≤ count)
 abbrev μ-loop : tie.MeasureT-loop
 μ-loop reads₀ covered path count cover₀ i₀ reads cover i = count - i
 
+-- ---- the places: a round of the loop, whose field is read; the start
+
+abbrev round : tie.After-wide Inv-loop μ-loop → tie.At-loop Inv-loop μ-loop
+round f = f .before .before .before
+
+abbrev start : tie.At-loop Inv-loop μ-loop → tie.Start Inv-loop μ-loop
+start l = l .before
+
+abbrev field : tie.After-without Inv-loop μ-loop → tie.After-wide Inv-loop μ-loop
+field c = c .before .before .before
+
+-- a field of the path is one of 64
+small : (f : tie.After-wide Inv-loop μ-loop) → f .wide .result < 64
+small f = let l = round f in omega (arith, start l .pre .0 .fields (l .loop .i) (omega arith))
+
+-- ---- the needs
+
 loop-holds : tie.Need-loop-holds Inv-loop μ-loop
 loop-holds c = (omega arith, refl)
 
 mul-with : tie.Need-mul-with Inv-loop μ-loop
-mul-with c = omega (arith, c .before .before .before .before .pre .0 .fields (c .before .before .before .loop .i) (omega arith))
+mul-with c = omega (arith, small c)
 
 element-copy-out-with : tie.Need-element-copy-out-with Inv-loop μ-loop
-element-copy-out-with c = omega (arith, c .before .before .before .before .pre .0 .fields (c .before .before .before .loop .i) (omega arith))
+element-copy-out-with c = omega (arith, small c)
 
 with-requires : tie.Need-with-requires Inv-loop μ-loop
-with-requires c κs = omega (arith, c .before .before .before .before .before .pre .0 .fields (c .before .before .before .before .loop .i) (omega arith))
+with-requires c κs = omega (arith, small (c .before))
 
 without-requires : tie.Need-without-requires Inv-loop μ-loop
-without-requires c κs = omega (arith, c .before .before .before .before .before .before .pre .0 .fields (c .before .before .before .before .before .loop .i) (omega arith))
+without-requires c κs = omega (arith, small (c .before .before))
 
 mul-reads : tie.Need-mul-reads Inv-loop μ-loop
-mul-reads c = omega (arith, c .before .before .before .before .before .before .before .pre .0 .fields (c .before .before .before .before .before .before .loop .i) (omega arith))
+mul-reads c = omega (arith, small (field c))
 
 element-write-reads : tie.Need-element-write-reads Inv-loop μ-loop
-element-write-reads c = omega (arith, c .before .before .before .before .before .before .before .pre .0 .fields (c .before .before .before .before .before .before .loop .i) (omega arith))
+element-write-reads c = omega (arith, small (field c))
 
 loop-again : tie.Need-loop-again Inv-loop μ-loop
 loop-again c =
-    let b = c .before .before .before .before .before .before .before in
-    let a = c .before .before .before .before .before .before .loop in (
+    let f = field c in
+    let b = start (round f) in
+    let a = round f .loop in (
       omega arith,
-      reads-next (b .args .count) (b .args .path .now) (omega arith) (a .reads) (a .cover) (a .i) (c .before .before .before .wide .result) (c .without .result) (c .before .with .result)
-          (omega arith) (c .before .before .before .wide .ensures) (c .without .ensures) (c .before .with .ensures)
+      reads-next (b .args .count) (b .args .path .now) (omega arith) (a .reads) (a .cover) (a .i) (f .wide .result) (c .without .result) (c .before .with .result)
+          (omega arith) (f .wide .ensures) (c .without .ensures) (c .before .with .ensures)
           ∙ a .inv .1,
     )
 

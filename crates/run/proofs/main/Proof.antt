@@ -1,4 +1,5 @@
--- `run::main` is safe: no more is read than the buffer holds. Assumes nothing.
+-- `run::main` is safe: the part of the buffer that goes to `answer` is there, since no more is read than the buffer holds (`read_text`'s contract).
+-- Assumes nothing.
 use mathlib.Core.Path.{sym}
 use native.Mathlib.Omega.{arith}
 use lib.Seq.{length-take-le}

@@ -1,4 +1,5 @@
--- `run::read_text` meets its contract: the text keeps its length, and no more is read than it holds. Assumes nothing.
+-- `run::read_text` meets its contract. The loop's invariant: the text keeps its length, and no more is read than it holds; the measure is the room
+-- that is left, and a round that reads nothing ends the loop. The needs are found by search. Assumes nothing.
 use borrow.Author.Needs.{needs}
 use mathlib.Core.Path.{_≡_}
 use Prim.Native.Nat.{_-_, _≤_}

@@ -1,4 +1,5 @@
--- `strength::enter_levels` meets its contract: the levels of the first `v` fields are entered.
+-- `strength::enter_levels` meets its contract. The loop's invariant: the levels of the first `v` fields are entered, and behind them the table is
+-- as it was; the measure is how many fields are left. A round is one store at the end of what is entered (`store-next`).
 use Prim.Native.Nat.{ℕ, _+_, _-_, _≤_}
 use mathlib.Core.Path.{_≡_, refl, sym, ap, _∙_}
 use mathlib.Core.List.{List, _++_}

@@ -1,4 +1,5 @@
--- `strength::greatest` meets its contract: `fill` from an empty set of known fields; strengths at depth 64 are those at depth n.
+-- `strength::greatest` meets its contract: `fill` is asked with no field known (`fill-below`, `none-known`), and what it leaves at depth 64 is so at
+-- depth n, since n is above every rank (`topped`).
 use mathlib.Core.Path.{refl}
 use Rattle.strength.proofs.Gather.{none-below, none-known, fill-below, topped}
 use Rattle.strength.proofs.greatest.Statement.{statement}

@@ -1,4 +1,4 @@
--- `strength::larger` meets its contract.
+-- `strength::larger` meets its contract: by arithmetic in both cases of the comparison.
 use native.Mathlib.Omega.{arith}
 use Rattle.strength.proofs.larger.Statement.{statement}
 use Rattle.strength.proofs.larger.Tie as tie

@@ -1,4 +1,4 @@
--- `strength::lowest_at` meets its contract.
+-- `strength::lowest_at` meets its contract: the lowest-numbered of the tied fields is the lowest-numbered field at the strength (`lowest-ties`).
 use mathlib.Core.Path.{ap, _∙_}
 use Rattle.fieldset.specs.Tables.{at}
 use Rattle.fieldset.specs.Fields.{lowestOf}

@@ -1,4 +1,5 @@
--- `strength::top_of` meets its contract. The loop keeps `Topping`, and its measure is what is left of the set.
+-- `strength::top_of` meets its contract. The loop's invariant is `Topping`: `most` is the greatest strength of the fields that are done; the
+-- measure is what is left of the set. A round takes the lowest field that is left (`top-step`); at the end all are done (`top-end`).
 use native.Mathlib.Omega.{arith}
 use borrow.Author.Needs.{needs}
 use Rattle.fieldset.specs.Tables.{at}
@@ -13,6 +14,16 @@ Inv-loop table set top₀ rest₀ top rest = Topping (at table) set 0 top rest
 abbrev μ-loop : tie.MeasureT-loop
 μ-loop table set top₀ rest₀ top rest = rest
 
+-- ---- the places: a round of the loop and its field
+
+abbrev field : tie.After-larger Inv-loop μ-loop → tie.After-first Inv-loop μ-loop
+field m = m .before .before
+
+abbrev round : tie.After-first Inv-loop μ-loop → tie.At-loop Inv-loop μ-loop
+round f = f .before .before
+
+-- ---- the needs
+
 loop-holds : tie.Need-loop-holds Inv-loop μ-loop
 loop-holds c = top-start
 
@@ -20,11 +31,12 @@ element-copy-out-larger : tie.Need-element-copy-out-larger Inv-loop μ-loop
 element-copy-out-larger c = c .first .ensures .field
 
 loop-less : tie.Need-loop-less Inv-loop μ-loop
-loop-less c = first-falls (c .before .before .before .first .ensures) (c .without-lowest .ensures)
+loop-less c = first-falls (field (c .before) .first .ensures) (c .without-lowest .ensures)
 
 loop-again : tie.Need-loop-again Inv-loop μ-loop
 loop-again c =
-    top-step (c .before .before .before .before .before .loop .inv) (c .before .before .before .first .ensures) (c .before .larger .ensures) (c .without-lowest .ensures)
+    let f = field (c .before) in
+    top-step (round f .loop .inv) (f .first .ensures) (c .before .larger .ensures) (c .without-lowest .ensures)
 
 returns : tie.Need-returns Inv-loop μ-loop
 returns c = omega (arith, top-end (c .before .loop .inv) (c .loop-test .left))

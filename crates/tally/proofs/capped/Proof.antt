@@ -1,4 +1,4 @@
--- `tally::capped` meets its contract. Assumes nothing.
+-- `tally::capped` meets its contract: by arithmetic in both cases of the comparison. Assumes nothing.
 use native.Mathlib.Omega.{arith}
 use Rattle.tally.proofs.capped.Statement.{statement}
 use Rattle.tally.proofs.capped.Tie as tie

@@ -1,4 +1,4 @@
--- `tally::more` meets its contract. Assumes nothing.
+-- `tally::more` meets its contract: by cases on the comparison, which the definition makes too. Assumes nothing.
 use borrow.Author.Tests.{lt-ltb, le-ltb}
 use Rattle.tally.specs.Tallies.{more}
 use borrow.Author.Needs.{needs}

@@ -1,4 +1,4 @@
--- `tally::tallied` meets its contract. Assumes nothing.
+-- `tally::tallied` meets its contract: by cases on whether the refusal is 0, with the counts that `more` answers. Assumes nothing.
 use borrow.Author.Tests.{eq-eqb, ne-eqb}
 use Rattle.tally.specs.Tallies.{tallied}
 use borrow.Author.Needs.{needs}

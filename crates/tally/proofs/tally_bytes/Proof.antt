@@ -1,4 +1,4 @@
--- `tally::tally_bytes` meets its contract. Assumes nothing.
+-- `tally::tally_bytes` meets its contract: the bytes that `high`, `middle` and `low` answer are the definition's, one by one. Assumes nothing.
 use Rattle.tally.specs.Tallies.{tallyBytes, threeBytes}
 use borrow.Author.Needs.{needs}
 use Rattle.tally.proofs.tally_bytes.Statement.{statement}
