@@ -1,7 +1,7 @@
 -- What follows for a text and for a reply: each part of the statements about lines and texts is used here. The parts of a reply are read off its
 -- form (`says`); bytes can be read back from their digits (`bytes-hex`).
 use Prim.Native.Nat.{ℕ, suc, _+_, _*_, _/_, _%_, _≤_, _<_}
-use mathlib.Core.Path.{_≡_, refl, subst, _∙_}
+use mathlib.Core.Path.{_≡_, refl, ap, subst, _∙_}
 use mathlib.Core.Bool.{true, false}
 use mathlib.Core.List.{List, [], _∷_, _++_, map}
 use mathlib.Core.Logic.{_≢_}
@@ -33,6 +33,13 @@ use Rattle.acceptance.proofs.Commands.{after-every-text, refused-line-u
 pub text-answered : (text : List ℕ) → isTooLong text ≡ false
     → (rs : List (List ℕ)) × Replied (linesOf text) rs × (linesOf (panelOutput text) ≡ map hexOf rs ++ (hexOf (tallyBytes (tallyAfter noTally rs)) ∷ []))
 text-answered text short = (repliesTo text, every-reply (linesOf text), output-lines text short .lines)
+
+-- as many replies as lines
+pub replied-length : (lines rs : List (List ℕ)) → Replied lines rs → length rs ≡ length lines
+replied-length [] [] h = refl
+replied-length [] (r ∷ rs) h = absurd h
+replied-length (l ∷ ls) [] h = absurd h
+replied-length (l ∷ ls) (r ∷ rs) (x, h) = ap suc (replied-length ls rs h)
 
 pub text-lines : (text : List ℕ) → isTooLong text ≡ false → length (linesOf (panelOutput text)) ≡ suc (length (linesOf text))
 text-lines text short = output-lines text short .count

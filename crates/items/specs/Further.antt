@@ -29,10 +29,17 @@ further =
     ∷ item "0101\n02000F80\n02011080\n027F0F80\n02800F80\n" "0000\n0001\nFF06\n0000\nFF06\nEE00000500000300000206\n"
     -- "With 64 fields 043F is accepted, 0440 gives FF07. Eight field bytes are taken, nine give FF02."
     ∷ item "0140\n043F\n0440\n0200008081828384858687\n020100808182838485868788\n" "0000\n0000\nFF07\n0001\nFF02\nEE00000500000300000202\n"
+    -- "bit 6 set in a field byte": in the second one too
+    ∷ item "0102\n02000080C1\n" "0000\nFF02\nEE00000200000100000102\n"
+    -- "followed upward through the setters, through at most as many fields as the panel has": field 3 has the strength of field 0's stay, four fields on,
+    -- and the walk goes all the way
+    ∷ item "0104\n0200008081\n0201008182\n0202008283\n02030583\n05\n" "0000\n0001\n0001\n0001\n0004\n0004030305020205010105000005\nEE00000600000600000000\n"
     -- "take its output of greatest strength; among equals, the lowest-numbered field of a set": both have strength 5, and field 0 is taken
     ∷ item "0102\n02000580\n02010581\n0202048081\n05\n" "0000\n0001\n0001\n0001\n0002010105000205\nEE00000500000500000000\n"
     -- "otherwise it goes on to the lowest-numbered other output of that setter with this same strength": from field 2 to field 0, not 1
     ∷ item "0103\n02000580\n02010581\n020204808182\n02030382\n05\n" "0000\n0001\n0001\n0001\n0002\n0003010105020303000205\nEE00000600000600000000\n"
+    -- ".. with this same strength": from field 2 to field 1 of strength 17, not to field 0 of strength 5
+    ∷ item "0103\n02000580\n020104808182\n02020382\n05\n" "0000\n0001\n0001\n0002\n0003000005020203010105\nEE00000500000500000000\n"
     -- "letting a walk end only at a stay, when a link of equal level ends it too": it ends at link 1, which waits; link 0 keeps field 0
     ∷ item "0102\n02000580\n0201058081\n05\n02020481\n05\n" "0000\n0001\n0001\n0002000005010105\n0001\n0002000005010204\nEE00000600000600000000\n"
     -- "after a removal, turning for every link that was found blocked without looking again, or for the weakest": link 1 of level 4, not link 2

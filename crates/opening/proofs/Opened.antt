@@ -13,13 +13,12 @@ use Rattle.panel.specs.declared.Step.{Step}
 use Rattle.panel.specs.Items.{linkAt}
 use Rattle.panel.specs.Answers.{replyBytes}
 use Rattle.panel.specs.Steps.{openStep}
-use Rattle.panel.specs.Commands.{checkReply, openChecks, opening}
+use Rattle.panel.specs.Commands.{checkReply, openChecks, opening, checkOpen}
 use Rattle.panel.specs.Legal.{Legal}
 use Rattle.panel.specs.Outcomes.{unchanged, Decides}
 use Rattle.panel.proofs.Changes.{opened-size}
 use Rattle.panel.proofs.Checks.{agree-same, reply-refused, reply-accepted, openable}
 use Rattle.panel.proofs.Outcomes.{decides-size, decides-refused}
-use Rattle.opening.specs.Checks.{checkOpen}
 
 module _ (p : Panel) (n : ℕ) (reply : Reply) (named : Link) (k : ℕ) (same : named ≡ linkAt (p .links) k) (path : List ℕ) (long : length path ≡ 64) (s : Step)
     (checks : replyBytes reply ≡ checkReply (checkOpen (p .size) n)) where

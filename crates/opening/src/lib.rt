@@ -15,10 +15,9 @@ ghost use lib.ListN.{length};
 ghost use Rattle.panel.specs.Items.{linkAt};
 ghost use Rattle.panel.specs.Panels.{opened};
 ghost use Rattle.panel.specs.Answers.{replyBytes};
-ghost use Rattle.panel.specs.Commands.{checkReply, opening};
+ghost use Rattle.panel.specs.Commands.{checkReply, checkOpen, opening};
 ghost use Rattle.panel.specs.Legal.{Legal};
 ghost use Rattle.panel.specs.Outcomes.{Decides};
-ghost use Rattle.opening.specs.Checks.{checkOpen};
 
 // The panel before it is opened.
 pub fn unopened() -> Panel

@@ -79,9 +79,12 @@ Passes = All (λ c. c .applies ≡ false)
 abbrev pub isOpen : Panel → Bool
 isOpen p = ltb 0 (p .size)
 
--- AlreadyOpen "(kind 01 when open)", BadSize "(n is 0 or over 64)"
+-- of a panel that has `size` fields: AlreadyOpen "(kind 01 when open)", BadSize "(n is 0 or over 64)"
+abbrev pub checkOpen : ℕ → ℕ → List Check
+checkOpen size n = check (ltb 0 size) AlreadyOpen ∷ check (eqb n 0 || ltb 64 n) BadSize ∷ []
+
 abbrev pub openChecks : Panel → ℕ → List Check
-openChecks p n = check (isOpen p) AlreadyOpen ∷ check (eqb n 0 || ltb 64 n) BadSize ∷ []
+openChecks p n = checkOpen (p .size) n
 
 -- NotOpen "(any other kind before)", BadLink "(id over 127 .., level over 15, fields not rising, no output)", NoSuchField "(a field of n or
 -- more)", LinkTaken "(added number in use)"; what no frame can hold (bit 6 set, no or over eight field bytes) is a BadLink too
@@ -94,12 +97,17 @@ addChecks p id level bytes =
     ∷ []
 
 -- NoSuchLink "(removed number not in use)"
+abbrev pub checkRemove : ℕ → ℕ → Bool → List Check
+checkRemove size id used = check (not (ltb 0 size)) NotOpen ∷ check (ltb 127 id) BadLink ∷ check (not used) NoSuchLink ∷ []
+
 abbrev pub removeChecks : Panel → ℕ → List Check
-removeChecks p id =
-    check (not (isOpen p)) NotOpen ∷ check (ltb 127 id) BadLink ∷ check (not (linkAt (p .links) id .used)) NoSuchLink ∷ []
+removeChecks p id = checkRemove (p .size) id (linkAt (p .links) id .used)
+
+abbrev pub checkTouch : ℕ → ℕ → List Check
+checkTouch size f = check (not (ltb 0 size)) NotOpen ∷ check (leb size f) NoSuchField ∷ []
 
 abbrev pub touchChecks : Panel → ℕ → List Check
-touchChecks p f = check (not (isOpen p)) NotOpen ∷ check (leb (p .size) f) NoSuchField ∷ []
+touchChecks p f = checkTouch (p .size) f
 
 abbrev pub planChecks : Panel → List Check
 planChecks p = check (not (isOpen p)) NotOpen ∷ []

@@ -31,7 +31,7 @@ use Rattle.panel.specs.Answers.{refused, replyBytes}
 use Rattle.panel.specs.Panels.{withLink, freed, dropped}
 use Rattle.panel.specs.Solution.{isBlocked, leastBlocked}
 use Rattle.panel.specs.Steps.{settled, dropStep, removeStep}
-use Rattle.panel.specs.Commands.{checkReply, removeChecks, removing, performed}
+use Rattle.panel.specs.Commands.{checkReply, removeChecks, removing, performed, checkRemove}
 use Rattle.panel.specs.Legal.{Legal}
 use Rattle.panel.specs.Outcomes.{unchanged, Decides}
 use Rattle.panel.proofs.InForce.{unused-off}
@@ -50,7 +50,6 @@ use Rattle.reversal.specs.Reversals.{Undecided, Decided, stepOf}
 use Rattle.reversal.proofs.ReadFields.{coverOf}
 use Rattle.reversal.proofs.Decision.{found-refused}
 use Rattle.reversal.proofs.Steps.{Change, decides-free, decides-path}
-use Rattle.removing.specs.Checks.{checkRemove}
 use Rattle.removing.proofs.Dropped.{sets-holds, field-small, Held, stepped, rest, dropped-rest, legal-rest, tabled-rest, strength-kept, found-blocked, Choice}
 
 -- ---- the checks

@@ -25,11 +25,10 @@ ghost use Prim.Native.Nat.{_%_};
 ghost use lib.ListN.{length};
 ghost use Rattle.panel.specs.Items.{linkAt};
 ghost use Rattle.panel.specs.Answers.{replyBytes};
-ghost use Rattle.panel.specs.Commands.{checkReply, removing};
+ghost use Rattle.panel.specs.Commands.{checkReply, checkRemove, removing};
 ghost use Rattle.panel.specs.Legal.{Legal};
 ghost use Rattle.panel.specs.Outcomes.{Decides};
 ghost use Rattle.tables.specs.Tables.{Tabled};
-ghost use Rattle.removing.specs.Checks.{checkRemove};
 ghost use Rattle.removing.specs.Choice.{OfField, chosenOf};
 
 // The reply of the checks of a removal, on a panel of n fields; `used` where the number is in use.

@@ -3,7 +3,7 @@
 use mathlib.Core.Path.{_≡_, refl, sym, ap, _∙_, subst}
 use mathlib.Core.Bool.{Bool, true}
 use mathlib.Core.List.{List, _++_}
-use Prim.Native.Nat.{ℕ, _+_, _^_, _≤_, _<_}
+use Prim.Native.Nat.{ℕ, _^_, _≤_, _<_}
 use native.Mathlib.Omega.{arith}
 use borrow.Author.Tests.{lt-ltb, le-ltb, ltb-true}
 use lib.ListN.{length, take, drop, length-append, length-drop, List·getD-append}
@@ -53,8 +53,8 @@ module _ {levels others table : List ℕ} {n known s outputs covered : ℕ} {rea
           rw (w .is-path) (path-reversible (at levels) (at others) (u .acyclic .rank) (u .acyclic .ranked .falls) n (u .acyclic .few)
           (u .acyclic .inside) v start-small (u .acyclic .ranked .small v start-small))
 
-      fields-taken : take (end + 1) path₁ ≡ w .fields
-      fields-taken = rw (w .stored) (take-at (w .fields) (drop (length (w .fields)) path₀) (end + 1) (sym (w .ended)))
+      fields-taken : take end path₁ ≡ w .fields
+      fields-taken = rw (w .stored) (take-at (w .fields) (drop (length (w .fields)) path₀) end (sym (w .ended)))
 
       -- the buffer keeps its length
       pub after-length : length path₁ ≡ 64
@@ -73,7 +73,7 @@ module _ {levels others table : List ℕ} {n known s outputs covered : ℕ} {rea
       unfolding withPath
       path-stored = w .stored ∙ ap (λ (vs : List ℕ). vs ++ drop (length vs) path₀) is-path
 
-      pub path-of : PathOf path₁ (end + 1)
+      pub path-of : PathOf path₁ end
       path-of = record {
         full = after-length;
         few = omega (arith, w .ended, is-reversible .short, u .acyclic .few);
@@ -85,12 +85,12 @@ module _ {levels others table : List ℕ} {n known s outputs covered : ℕ} {rea
             omega (arith, u .acyclic .few);
       }
 
-      pub after-among : Among (reversedReads reads covered (take (end + 1) path₁)) n
+      pub after-among : Among (reversedReads reads covered (take end path₁)) n
       after-among =
           rw fields-taken (among-reversed n (w .fields) reads covered (u .reads-length) (u .among) (u .covered-inside) (is-reversible .inside))
 
-      pub decided : {reads₁ : List ℕ} {looped : Bool} → reads₁ ≡ reversedReads reads covered (take (end + 1) path₁) → looped ≡ hasLoop (at reads₁) n
-          → Found levels others n s outputs covered reads path₁ (end + 1) looped
+      pub decided : {reads₁ : List ℕ} {looped : Bool} → reads₁ ≡ reversedReads reads covered (take end path₁) → looped ≡ hasLoop (at reads₁) n
+          → Found levels others n s outputs covered reads path₁ end looped
       decided rs lp = record {
         fields = path-of;
         is-path = fields-taken ∙ is-path;

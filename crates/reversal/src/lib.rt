@@ -76,8 +76,7 @@ pub fn decide(
     ensures { λ r. ⌜ now (path .exit) ≡ withPath (now (levels .entry)) (now (others .entry)) n s outputs (now (path .entry)) ⌝ }
 {
     let v = lowest_at(table, s, outputs);
-    let end = path_from(levels, others, table, n, known, v, path);
-    let count = end + 1;
+    let count = path_from(levels, others, table, n, known, v, path);
     let mut after = *reads;
     reverse_reads(&mut after, covered, path, count);
     if ordering::has_loop(&after, n) {

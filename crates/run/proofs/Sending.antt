@@ -1,6 +1,6 @@
--- The output of a text, handed on part by part. `Sent`: behind the bytes handed on stands the output from where the run stands. A run that goes on
+-- The output of a text, passed on part by part. `Sent`: behind the bytes passed on stands the output from where the run stands. A run that goes on
 -- splits it (`split`), so its part is the next one and the rest is the output from there (`is-part`, `sent-more`); past the last line only the
--- tally's line is left (`tally-last`), and then all is handed on (`sent-all`). Assumes nothing.
+-- tally's line is left (`tally-last`), and then all is passed on (`sent-all`). Assumes nothing.
 use mathlib.Core.Path.{_≡_, refl, sym, ap, _∙_}
 use mathlib.Core.Bool.{true, false}
 use mathlib.Core.List.{List, [], _∷_, _++_, append-nil}
@@ -60,7 +60,7 @@ module _ {S : Type 0} (answer : LineAnswer S) (Legal : S → Type 0) (s₀ : S) 
   unfolding outputOf
   too-long-line text e = rw (e, outputOf) refl
 
-  -- so many bytes of a text's output are handed on: behind them stands the output from where the run stands
+  -- so many bytes of a text's output are passed on: behind them stands the output from where the run stands
   pub record Sent (text out : List ℕ) (sent next : ℕ) (s : S) (t : Tally) : Type 0 where
     pub rest : drop sent (outputOf answer s₀ text) ≡ output answer s t (linesOf (drop next text))
     pub counted : sent + length (output answer s t (linesOf (drop next text))) ≡ length (outputOf answer s₀ text)
@@ -119,6 +119,6 @@ module _ {S : Type 0} (answer : LineAnswer S) (Legal : S → Type 0) (s₀ : S) 
       unfolding output replies tallyAfter written
       tally-last = was .rest ∙ ap (output answer s t) (lines-end text next end)
 
-      -- and then all is handed on
+      -- and then all is passed on
       pub sent-all : (n : ℕ) → n ≡ 0 + length (lineOf (tallyBytes t)) → sent + n ≡ length (outputOf answer s₀ text)
       sent-all n e = omega (arith, e, was .counted, ap length (sym (was .rest) ∙ tally-last))

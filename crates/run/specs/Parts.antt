@@ -1,4 +1,4 @@
--- What the program hands on to be written.
+-- What the program passes on to be written.
 use Prim.Native.Nat.{ℕ}
 use mathlib.Core.Path.{_≡_}
 use mathlib.Core.List.{List}

@@ -9,13 +9,13 @@ ghost use lib.ListN.{length};
 ghost use Rattle.frames.specs.Frames.{panelOutput};
 ghost use Rattle.run.specs.Parts.{PartOf};
 
-// How many bytes of an output were handed on, and whether all of them were written.
+// How many bytes of an output were passed on, and whether all of them were written.
 struct Output {
     len: usize,
     whole: bool,
 }
 
-// Hands on a part of a text's output: what stands there behind the first `sent` bytes.
+// Passes on a part of a text's output: what stands there behind the first `sent` bytes.
 fn send(text: &[u8], sent: usize, part: &[u8]) -> Output
     requires { ⌜ PartOf (panelOutput (now text)) sent (now part) × (sent + length (now part) < 2 ^ 64) ⌝ }
     ensures { λ r. ⌜ r .len ≡ sent + length (now (part .entry)) ⌝ }
@@ -27,7 +27,7 @@ fn send(text: &[u8], sent: usize, part: &[u8]) -> Output
     }
 }
 
-// Hands on the output to a text, a buffer at a time. It stops where it cannot be written.
+// Passes on the output for a text, a buffer at a time. It stops where it cannot be written.
 // The contract rules out, for instance, another line for a text that is too long and a part in the wrong place (must-fail: line_of_another_refusal,
 // tally_at_the_start).
 fn answer(text: &[u8]) -> Output

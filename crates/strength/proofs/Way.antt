@@ -124,7 +124,7 @@ module _ {levels others table : List ℕ} {n known v s : ℕ} {before buffer : L
   fits = omega (arith, simp (length-append, length-drop) at (ap length (W .stored)), W .counted, W .size, W .room, W .acyclic .few)
 
   -- the setter's level is the strength: the path ends
-  pub way-stop : s ≡ strength (at levels) (at others) n v → at levels here ≡ s → PathFound levels others n v before (set buffer count here) count
+  pub way-stop : s ≡ strength (at levels) (at others) n v → at levels here ≡ s → PathFound levels others n v before (set buffer count here) (count + 1)
   way-stop es h = record {
     fields = W .passed ++ (here ∷ []);
     is-path =
@@ -134,5 +134,7 @@ module _ {levels others table : List ℕ} {n known v s : ℕ} {before buffer : L
         ∙ W .done ∙ ap (λ (x : ℕ). pathFrom levels others n x n v) es;
     stored = stored-next ∙ ap (λ (k : ℕ). (W .passed ++ (here ∷ [])) ++ drop k before) (sym counted-next);
     ended = sym counted-next;
-    stops = ap (at levels) (getD-set-same buffer count here 0 fits) ∙ h ∙ es;
+    stops =
+        let last : count + 1 - 1 ≡ count = omega arith in
+        ap (λ (i : ℕ). at levels (at (set buffer count here) i)) last ∙ ap (at levels) (getD-set-same buffer count here 0 fits) ∙ h ∙ es;
   }

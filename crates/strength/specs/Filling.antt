@@ -1,6 +1,6 @@
 -- What the functions of this crate ask of their tables and what they leave in them. `levels` and `others` have for each field the level and
 -- the other outputs of its setter; n is the number of fields.
-use Prim.Native.Nat.{ℕ, _+_, _≤_, _<_}
+use Prim.Native.Nat.{ℕ, _+_, _-_, _≤_, _<_}
 use mathlib.Core.Path.{_≡_}
 use mathlib.Core.Bool.{true, false}
 use mathlib.Core.List.{List, _++_}
@@ -39,7 +39,7 @@ pub record Fillable (levels others : List ℕ) (known : ℕ) (table : List ℕ) 
   pub strengths : Strengths levels others 64 known table
 
 -- what it leaves: the table has the strengths of the fields of r too. These are known, or of the set, or what these depend on; what stands in
--- the table for the others is as it was. As many strengths were worked out as r has more fields: each at most once, and none that was known.
+-- the table for the others is as it was. The count that is answered is that of the fields which r has more.
 pub record Filled (levels others : List ℕ) (known set top r count : ℕ) (before after : List ℕ) : Type 0 where
   pub is-greatest : top ≡ greatest (member set) (strength (at levels) (at others) 64) 64
   pub strengths : Strengths levels others 64 r after
@@ -49,19 +49,19 @@ pub record Filled (levels others : List ℕ) (known set top r count : ℕ) (befo
   pub kept : (u : ℕ) → u < 64 → member r u ≡ false → at after u ≡ at before u
   pub counted : size known + count ≡ size r
 
--- the greatest strength of a set was worked out: the table then has the strengths of the set's fields, and of all that it has each was worked out
--- once. Which further fields it has, and what stands in it for the others, is free.
+-- the greatest strength of a set was worked out: the table then has the strengths of the set's fields, and the count that is answered is that of all
+-- that it has. Which further fields it has, and what stands in it for the others, is free.
 pub record Topped (levels others : List ℕ) (n set top known count : ℕ) (table : List ℕ) : Type 0 where
   pub is-greatest : top ≡ greatest (member set) (strength (at levels) (at others) n) 64
   pub strengths : Strengths levels others n known table
   pub has : Within set known
   pub counted : count ≡ size known
 
--- the reversible path from v: its fields stand at the start of the buffer, whose rest is as it was; the last of them, at the position `end`, has a
--- setter whose level is the strength of v
+-- the reversible path from v: its fields stand at the start of the buffer, whose rest is as it was; `end` is the position behind the last of them, whose
+-- setter has the strength of v as its level
 pub record PathFound (levels others : List ℕ) (n v : ℕ) (before after : List ℕ) (end : ℕ) : Type 0 where
   pub fields : List ℕ
   pub is-path : fields ≡ path (at levels) (at others) (strength (at levels) (at others) n) (strength (at levels) (at others) n v) n v
   pub stored : after ≡ fields ++ drop (length fields) before
-  pub ended : end + 1 ≡ length fields
-  pub stops : at levels (at after end) ≡ strength (at levels) (at others) n v
+  pub ended : end ≡ length fields
+  pub stops : at levels (at after (end - 1)) ≡ strength (at levels) (at others) n v

@@ -34,8 +34,8 @@ pub struct Top {
     pub count: u8,
 }
 
-// Sees that the table has the strengths of the fields of a set, and those that they depend on. Each is worked out once, and counted where it is
-// stored. The depth starts at the number of fields and falls at each call.
+// Sees that the table has the strengths of the fields of a set, and those that they depend on. Each that is worked out is counted where it is stored,
+// and there are as many as fields that were not known. The depth starts at the number of fields and falls at each call.
 fn fill(
     levels: &[u8; 64],
     others: &[u64; 64],
@@ -151,8 +151,8 @@ pub fn lowest_at(table: &[u8; 64], s: u8, set: u64) -> usize
     lowest(tied(table, s, set))
 }
 
-// The reversible path from v, whose strength the table has: its fields go to the start of the buffer. Answers where it ends, the position of its
-// last field.
+// The reversible path from v, whose strength the table has: its fields go to the start of the buffer. Answers where it ends: the position behind
+// its last field.
 pub fn path_from(
     levels: &[u8; 64],
     others: &[u64; 64],
@@ -170,19 +170,19 @@ pub fn path_from(
     let mut i: usize = 0;
     let end = 'walk: loop {
         path[i] = at as u8;
-        if levels[at] == s {
-            break 'walk i;
-        }
-        i += 1;
-        let mut rest = others[at];
-        loop {
-            let next = first(rest);
-            if table[next] == s {
-                at = next;
-                continue 'walk;
+        if levels[at] != s {
+            i += 1;
+            let mut rest = others[at];
+            loop {
+                let next = first(rest);
+                if table[next] == s {
+                    at = next;
+                    continue 'walk;
+                }
+                rest = without_lowest(rest);
             }
-            rest = without_lowest(rest);
         }
+        break 'walk i + 1;
     };
     end
 }

@@ -10,13 +10,12 @@ use lib.Seq.{sets}
 use Rattle.fieldset.specs.Tables.{at}
 use Rattle.panel.specs.declared.Refusal.the-variants.{TextTooLong as TooLong}
 use Rattle.panel.specs.Answers.{refusalBytes}
-use Rattle.hex.specs.Hex.{lineOf}
 use Rattle.tally.specs.declared.Tally.{Tally}
 use Rattle.tally.specs.Tallies.{noTally}
 use Rattle.frames.specs.Texts.{LineAnswer, isTooLong, outputOf}
 use Rattle.text.specs.declared.Outcome.{Outcome}
 use Rattle.text.specs.declared.Outcome.the-variants.{Length, TextTooLong}
-use Rattle.text.specs.Outcomes.{outcomeNumbers, wholeOutput, outcomeOf, bufferAfter, Told}
+use Rattle.text.specs.Outcomes.{outcomeNumbers, wholeOutput, outcomeOf, bufferAfter, Told, AsWritten}
 
 pub outcomes-apart : (a b : Outcome) → outcomeNumbers a ≡ outcomeNumbers b → a ≡ b
 outcomes-apart (Length m) (Length n) e = cc
@@ -24,21 +23,13 @@ outcomes-apart (Length m) TextTooLong e = let z : _≡_ {A = ℕ} 0 255 = ap (λ
 outcomes-apart TextTooLong (Length n) e = let z : _≡_ {A = ℕ} 255 0 = ap (λ (b : List ℕ). at b 0) e in absurd (omega arith)
 outcomes-apart TextTooLong TextTooLong e = refl
 
--- what is told of a text, from a new tally on, is the text's output: of the length that is told, at the start of the buffer; where the text is too
--- long, it is the line of that refusal
-abbrev pub Tells : {S : Type 0} → LineAnswer S → S → List ℕ → List ℕ → List ℕ → Outcome → Type 0
-Tells answer s text before after (Length n) =
-    (n ≡ length (outputOf answer s text)) × (after ≡ sets before 0 (outputOf answer s text))
-Tells answer s text before after TextTooLong =
-    (outputOf answer s text ≡ lineOf (0xFF ∷ refusalBytes TooLong)) × (after ≡ before)
-
 pub told-output : {S : Type 0} (answer : LineAnswer S) (s : S) (text : List ℕ) (u : Tally) (before after : List ℕ) (r : Outcome)
-    → Told answer s noTally text u before after r → Tells answer s text before after r
+    → Told answer s noTally text u before after r → AsWritten answer s text before after r
 unfolding outcomeOf bufferAfter outputOf
 told-output answer s text u before after r told = go (isTooLong text) refl r (told .outcome) (told .buffer) where
   go : (b : Bool) → isTooLong text ≡ b → (r : Outcome)
       → outcomeNumbers r ≡ cond b (0xFF ∷ refusalBytes TooLong) (0x00 ∷ length (wholeOutput answer s noTally text) ∷ [])
-      → after ≡ cond b before (sets before 0 (wholeOutput answer s noTally text)) → Tells answer s text before after r
+      → after ≡ cond b before (sets before 0 (wholeOutput answer s noTally text)) → AsWritten answer s text before after r
   go true t (Length n) e f = let z : _≡_ {A = ℕ} 0 255 = ap (λ (b : List ℕ). at b 0) e in absurd (omega arith)
   go true t TextTooLong e f = (rw (t, outputOf) refl, f)
   go false t (Length n) e f =

@@ -7,9 +7,10 @@ use lib.ListN.{length}
 use lib.Seq.{sets}
 use Rattle.panel.specs.declared.Refusal.the-variants.{TextTooLong as TooLong}
 use Rattle.panel.specs.Answers.{refusalBytes}
+use Rattle.hex.specs.Hex.{lineOf}
 use Rattle.tally.specs.declared.Tally.{Tally}
 use Rattle.lines.specs.Lines.{linesOf}
-use Rattle.frames.specs.Texts.{LineAnswer, replies, tallyAfter, output, isTooLong}
+use Rattle.frames.specs.Texts.{LineAnswer, replies, tallyAfter, output, isTooLong, outputOf}
 use Rattle.text.specs.declared.Outcome.{Outcome}
 use Rattle.text.specs.declared.Outcome.the-variants.{Length, TextTooLong}
 
@@ -43,3 +44,9 @@ module _ {S : Type 0} (answer : LineAnswer S) (s : S) (t : Tally) where
     pub outcome : outcomeNumbers r ≡ outcomeOf text
     pub buffer : after ≡ bufferAfter text before
     pub tally : u ≡ tallyAtEnd text
+
+-- what is told of a text from a new tally on, as what the program writes for it: its output, of the length that is told, stands at the start of the
+-- buffer; where the text is too long, its output is the line of that refusal
+abbrev pub AsWritten : {S : Type 0} → LineAnswer S → S → List ℕ → List ℕ → List ℕ → Outcome → Type 0
+AsWritten answer s text before after (Length n) = (n ≡ length (outputOf answer s text)) × (after ≡ sets before 0 (outputOf answer s text))
+AsWritten answer s text before after TextTooLong = (outputOf answer s text ≡ lineOf (0xFF ∷ refusalBytes TooLong)) × (after ≡ before)

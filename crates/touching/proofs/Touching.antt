@@ -29,7 +29,7 @@ use Rattle.panel.specs.Answers.{Answer, refused, replyBytes}
 use Rattle.panel.specs.Panels.{placeAfter, toFront}
 use Rattle.panel.specs.Solution.{level, isBlocked, isLooped}
 use Rattle.panel.specs.Steps.{accepted, reverseStep, touchStep}
-use Rattle.panel.specs.Commands.{checkReply, touchChecks, Command, performed, touching}
+use Rattle.panel.specs.Commands.{checkReply, touchChecks, Command, performed, touching, checkTouch}
 use Rattle.panel.specs.Legal.{Legal}
 use Rattle.panel.specs.Outcomes.{unchanged, Decides}
 use Rattle.panel.proofs.Legal.{Carrying, LegalBut, holding-not-waiting}
@@ -44,7 +44,6 @@ use Rattle.reversal.specs.declared.Verdict.the-variants.{Free, Looped}
 use Rattle.reversal.specs.Reversals.{Unresolved, Resolved, stepOf}
 use Rattle.reversal.proofs.Decision.{unresolved}
 use Rattle.reversal.proofs.Steps.{after, Change, decides-free, resolved-loop, resolved-step}
-use Rattle.touching.specs.Checks.{checkTouch}
 
 -- ---- the checks
 

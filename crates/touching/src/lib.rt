@@ -23,11 +23,10 @@ ghost use Rattle.fieldset.specs.Tables.{tabulate};
 ghost use Rattle.panel.specs.Items.{linkAt};
 ghost use Rattle.panel.specs.Panels.{placeAfter};
 ghost use Rattle.panel.specs.Answers.{replyBytes};
-ghost use Rattle.panel.specs.Commands.{checkReply, touching};
+ghost use Rattle.panel.specs.Commands.{checkReply, checkTouch, touching};
 ghost use Rattle.panel.specs.Legal.{Legal};
 ghost use Rattle.panel.specs.Outcomes.{Decides};
 ghost use Rattle.tables.specs.Tables.{Tabled};
-ghost use Rattle.touching.specs.Checks.{checkTouch};
 
 // A place before `at` moves down one.
 fn pushed(x: u8, at: u8) -> u8

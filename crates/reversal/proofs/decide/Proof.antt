@@ -1,9 +1,8 @@
 -- `reversal::decide` meets its contract. `Deciding` has what each callee asks and what its answers come to: the path of the lowest-numbered output
 -- (`path-of`, `path-stored`), the read fields after its reversal (`after-among`), and the verdict by whether these have a loop (`decided`).
-use Prim.Native.Nat.{ℕ, _+_}
+use Prim.Native.Nat.{ℕ}
 use mathlib.Core.Path.{sym, _∙_}
 use mathlib.Core.List.{List}
-use native.Mathlib.Omega.{arith}
 use borrow.Author.Needs.{needs}
 use Rattle.panel.specs.Outcomes.{PathOf}
 use Rattle.reversal.proofs.Deciding.{start-small, start-known, path-stored, path-of, after-among, decided}
@@ -22,7 +21,7 @@ from w = w .before .before
 abbrev buffer : tie.After-path-from → List ℕ
 buffer w = w .path-from .last .1 .1 .1 .1 .1 .1 .0
 
-found-path : (w : tie.After-path-from) → PathOf (buffer w) (w .path-from .result + 1)
+found-path : (w : tie.After-path-from) → PathOf (buffer w) (w .path-from .result)
 found-path w = path-of (start w .fits .outputs .fits) (start w .pre) (from w .lowest-at .ensures) (w .path-from .ensures)
 
 abbrev tried : tie.After-reverse-reads → tie.After-path-from
@@ -41,9 +40,6 @@ path-from-requires c κs =
     let v = c .before .lowest-at .ensures in
     (u .acyclic, u .strengths, start-small small u v, start-known small u v, u .path-length)
 
-add-count : tie.Need-add-count
-add-count c = omega (arith, found-path c .few)
-
 reverse-reads-requires : tie.Need-reverse-reads-requires
 reverse-reads-requires c κs = let w = c .before .before .before in (found-path w, start w .pre .reads-length)
 
@@ -60,7 +56,7 @@ returns c =
     let w = tried r in
     let s = start w in
     let v = from w .lowest-at .ensures in (
-      (w .path-from .result + 1, decided (s .fits .outputs .fits) (s .pre) v (w .path-from .ensures) (r .reverse-reads .ensures) (sym (c .if1 .taken) ∙ h .has-loop .ensures)),
+      (w .path-from .result, decided (s .fits .outputs .fits) (s .pre) v (w .path-from .ensures) (r .reverse-reads .ensures) (sym (c .if1 .taken) ∙ h .has-loop .ensures)),
       path-stored (s .fits .outputs .fits) (s .pre) v (w .path-from .ensures),
     )
 
@@ -85,7 +81,6 @@ decide-spec =
     (tie.spec
     (λ c κs. search needs)
     path-from-requires
-    add-count
     reverse-reads-requires
     has-loop-requires
     returns

@@ -1,5 +1,5 @@
--- `run::answer` meets its contract. The loop keeps `Sent`: behind the bytes that are handed on stands the output from where the run stands; its measure is
--- what is left of the text. Each part that is handed on is the next one of the output (`is-part`, `put-part`), and the last one ends it (`sent-all`). Assumes nothing.
+-- `run::answer` meets its contract. The loop keeps `Sent`: behind the bytes that are passed on stands the output from where the run stands; its measure is
+-- what is left of the text. Each part that is passed on is the next one of the output (`is-part`, `put-part`), and the last one ends it (`sent-all`). Assumes nothing.
 use borrow.Author.Needs.{needs}
 use mathlib.Core.Path.{_≡_, sym, ap, _∙_}
 use mathlib.Core.Bool.{true≢false}

@@ -25,13 +25,13 @@ abbrev μ-walk : tie.MeasureT-walk
 abbrev begin : tie.At-walk Inv-loop μ-loop Inv-walk μ-walk → tie.Start Inv-loop μ-loop Inv-walk μ-walk
 begin w = w .before .before
 
-abbrev walked : tie.Else1 Inv-loop μ-loop Inv-walk μ-walk → tie.At-walk Inv-loop μ-loop Inv-walk μ-walk
+abbrev walked : tie.Then1 Inv-loop μ-loop Inv-walk μ-walk → tie.At-walk Inv-loop μ-loop Inv-walk μ-walk
 walked e = e .before .before
 
 abbrev passing : tie.After-if22 Inv-loop μ-loop Inv-walk μ-walk → tie.At-loop Inv-loop μ-loop Inv-walk μ-walk
 passing c = c .before .before
 
-abbrev scanned : tie.At-loop Inv-loop μ-loop Inv-walk μ-walk → tie.Else1 Inv-loop μ-loop Inv-walk μ-walk
+abbrev scanned : tie.At-loop Inv-loop μ-loop Inv-walk μ-walk → tie.Then1 Inv-loop μ-loop Inv-walk μ-walk
 scanned l = l .before .before
 
 -- ---- the needs
@@ -61,7 +61,7 @@ element-copy-out-rest : tie.Need-element-copy-out-rest Inv-loop μ-loop Inv-walk
 element-copy-out-rest c = let W = walked c .walk .inv in omega (arith, W .field, W .acyclic .few)
 
 loop-holds : tie.Need-loop-holds Inv-loop μ-loop Inv-walk μ-walk
-loop-holds c = let w = walked (c .before) in scan-start (begin w .pre .1) (w .walk .inv) (c .before .if1 .left)
+loop-holds c = let w = walked (c .before) in scan-start (begin w .pre .1) (w .walk .inv) (c .before .if1 .taken)
 
 first-requires : tie.Need-first-requires Inv-loop μ-loop Inv-walk μ-walk
 first-requires c κs = scan-pos (c .loop .inv)
@@ -77,7 +77,7 @@ walk-again c =
     let l = passing (c .before) in
     let e = scanned l in
     let w = walked e in
-    way-reversal (begin w .pre .1) (w .walk .inv) (e .if1 .left) (scan-found (l .loop .inv) (c .before .before .first .ensures) (c .if2 .taken))
+    way-reversal (begin w .pre .1) (w .walk .inv) (e .if1 .taken) (scan-found (l .loop .inv) (c .before .before .first .ensures) (c .if2 .taken))
 
 without-lowest-requires : tie.Need-without-lowest-requires Inv-loop μ-loop Inv-walk μ-walk
 without-lowest-requires c κs = scan-pos (passing (c .before) .loop .inv)
@@ -88,12 +88,15 @@ loop-less c = first-falls (c .before .before .before .first .ensures) (c .withou
 loop-again : tie.Need-loop-again Inv-loop μ-loop Inv-walk μ-walk
 loop-again c = let e = c .before in scan-pass (passing (e .before) .loop .inv) (e .before .before .first .ensures) (e .if2 .left) (c .without-lowest .ensures)
 
+add-end : tie.Need-add-end Inv-loop μ-loop Inv-walk μ-walk
+add-end c = let W = c .before .before .walk .inv in omega (arith, W .room, W .acyclic .few)
+
 returns : tie.Need-returns Inv-loop μ-loop Inv-walk μ-walk
 returns c =
     let w = c .before .before in
     let p = begin w .pre in
     let v : begin w .args .v < 64 = omega (arith, p .0 .few, p .2) in
-    way-stop (p .1) (w .walk .inv) (p .1 .right (begin w .args .v) v (p .3)) (c .if1 .taken)
+    way-stop (p .1) (w .walk .inv) (p .1 .right (begin w .args .v) v (p .3)) (c .if1 .left)
 
 pub path-from-spec : {M : Type 1} → statement M
 path-from-spec =
@@ -119,4 +122,5 @@ path-from-spec =
     without-lowest-requires
     loop-less
     loop-again
+    add-end
     returns)
