@@ -1,7 +1,7 @@
--- No matching has more items up to a level L than the setters, where nothing is blocked. One injection and one pigeonhole: send each pair to the
--- field outside W, the fields whose s is at most L, that its item sets, and to the pair's own field where there is none (`seat`). In the second
--- case the item waits or sets a field of W, so its outputs lie in W (`inner`). No two pairs meet (`seat-ne`), and each seat's setter has level at
--- most L (`seat-low`).
+-- No matching has more items up to a level L than the setters, where nothing is blocked: one injection and one pigeonhole. Let W be the fields
+-- whose s is at most L. Send each pair to the field outside W that its item sets, or to its own field where there is none (`seat`). In the second
+-- case the item waits or sets a field of W, so its outputs lie in W (`inner`). No two pairs meet (`seat-ne`), and the setter of each seat has level
+-- at most L (`seat-low`).
 use Prim.Native.Nat.{ℕ, _≤_, _<_}
 use mathlib.Core.Path.{_≡_, refl, sym, ap, _∙_}
 use mathlib.Core.Bool.{Bool, true}

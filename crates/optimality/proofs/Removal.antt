@@ -1,7 +1,7 @@
 -- A setter is removed, the stay c1 of its field v stands in, and the least item d that is then blocked goes in: nothing is blocked. Let s0 be the
--- strengths before, s1 those with c1 in, and t the larger of d's level and s0. The path for d ends at v, for up to there t keeps items under d's
--- level (`fill`), so t is a potential after it; and so is s1. The lesser of the two blocks nothing: s1 serves items below d's level, t the others
--- (`removal-unblocked`).
+-- strengths before, s1 those with c1 in, and t the larger of d's level and s0. The path for d ends at v, since before v the items carried are under
+-- d's level by t (`fill`); so t is a potential after it, and s1 is one too. The lesser of the two blocks nothing: s1 serves items below d's level,
+-- t the others (`removal-unblocked`).
 use Prim.Native.Nat.{ℕ, _≤_, _<_, min, max}
 use mathlib.Core.Path.{_≡_, sym, ap, _∙_}
 use mathlib.Core.Bool.{Bool, true}

@@ -1,4 +1,5 @@
--- A local that is lent by `&mut` for a lifetime κ, and taken back: `lends-ref` and `ref-back` of `denote.Lend`, from the local's cell and to it. It says nothing of the tally.
+-- A local that is lent by `&mut` for a lifetime κ, and taken back: `lends-ref` and `ref-back` of `denote.Lend`, from the local's cell and to it. It
+-- says nothing of the tally.
 --     lends-local      the cell at (b, o) holds vs ∗ own h vs  ⊢ ⇛ ∃ γ. own (the `&κ mut T` ((b, o), γ, h)) [(b, o)] ∗ the lender's part
 --     takes-back       [†κ] ∗ the lender's part ∗ res γ r  ⊢ ⇛ (the cell at (b, o) holds r's machine values ∗ own r of them)
 -- Each cell is raw, as `cellAt` of `denote.Memory` is: the walk goes to it by `W .laws .at-raw`, and from it by `raw-at`.

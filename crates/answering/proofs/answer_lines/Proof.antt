@@ -146,8 +146,9 @@ stepped c =
     subst (λ (k : ℕ). LineStep (l .q) k (command-of n) (fields-at n) (m .path) (m .rows) (m .step)) (sym (number-is n))
     (⊎-elim
     (λ w.
+    let path = w .7 .last .1 .1 .1 .1 .1 .1 .0 in
     rw (w .9, w .11, w .8)
-    (subst (λ (x : Command). LineStep (l .q) (numberOf x) x (fields-at n) (w .7 .last .1 .1 .1 .1 .1 .1 .0) (l .rows) (w .7 .result)) (sym (w .1 .given .1))
+    (subst (λ (x : Command). LineStep (l .q) (numberOf x) x (fields-at n) path (l .rows) (w .7 .result)) (sym (w .1 .given .1))
     (performed-step _ _ _ _ _ (l .inv .0) (Remove _) (removing _) _ refl refl (w .7 .ensures))))
     (λ w. rw (w .8, w .10, w .7) (decided-step _ _ _ _ _ _ _ (command-of n) (w .0 .keys2) (w .6 .ensures)))
     (m .came))

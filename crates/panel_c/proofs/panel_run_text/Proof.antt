@@ -1,6 +1,7 @@
--- `panel_c::panel_run_text` meets its contract: a walk of its MIR, by hand. The text, the buffer and the borrow of the tally go to `run_text`, at their own lifetimes, shares and names; its outcome goes to `length_of`.
--- The text's borrow can be copied: one copy goes to `run_text`, and one is kept for the exit. The buffer's and the tally's go to `run_text` for good.
--- All that is known of `run_text` and `length_of` is that they meet their contracts. Assumes nothing.
+-- `panel_c::panel_run_text` meets its contract: a walk of its MIR, by hand. The text, the buffer and the borrow of the tally go to `run_text`, at
+-- their own lifetimes, shares and names; its outcome goes to `length_of`. The text's borrow can be copied: one copy goes to `run_text`, and one is
+-- kept for the exit. The buffer's and the tally's go to `run_text` for good. All that is known of `run_text` and `length_of` is that they meet
+-- their contracts. Assumes nothing.
 use mathlib.Core.Path.{_≡_, refl, _∙_}
 use Prim.Native.Nat.{ℕ}
 use mathlib.Core.List.{[], _∷_, List}

@@ -1,5 +1,5 @@
--- `reversal::resolve` meets its contract: the greatest strength of the outputs tells whether the item is blocked (`free-path`); where it is, what `decide`
--- answers is what is to be done (`resolved`, `blocked-path`).
+-- `reversal::resolve` meets its contract: the greatest strength of the outputs tells whether the item is blocked (`free-path`); where it is, what
+-- `decide` answers is what is to be done (`resolved`, `blocked-path`).
 use Prim.Native.Nat.{_<_}
 use mathlib.Core.Path.{refl}
 use native.Mathlib.Omega.{arith}

@@ -1,5 +1,6 @@
--- `run::answer` meets its contract. The loop keeps `Sent`: behind the bytes that are passed on stands the output from where the run stands; its measure is
--- what is left of the text. Each part that is passed on is the next one of the output (`is-part`, `put-part`), and the last one ends it (`sent-all`). Assumes nothing.
+-- `run::answer` meets its contract. The loop keeps `Sent`: behind the bytes that are passed on stands the output from where the run stands; its
+-- measure is what is left of the text. Each part that is passed on is the next one of the output (`is-part`, `put-part`), and the last one ends it
+-- (`sent-all`). Assumes nothing.
 use borrow.Author.Needs.{needs}
 use mathlib.Core.Path.{_≡_, sym, ap, _∙_}
 use mathlib.Core.Bool.{true≢false}
@@ -56,11 +57,15 @@ answered c = c .before .before .before
 abbrev looped : tie.After-lines-from Inv-loop μ-loop → tie.At-loop Inv-loop μ-loop
 looped c = c .before .before .before
 
-fits : (c : tie.After-lines-from Inv-loop μ-loop) → c .lines-from .result .written ≤ length (c .lines-from .last .1 .1 .1 .1 .0)
+-- the buffer with the replies
+abbrev replied : tie.After-lines-from Inv-loop μ-loop → List ℕ
+replied c = c .lines-from .last .1 .1 .1 .1 .0
+
+fits : (c : tie.After-lines-from Inv-loop μ-loop) → c .lines-from .result .written ≤ length (replied c)
 fits c = let e = c .lines-from .ensures in part-fits _ _ _ _ _ _ _ _ _ (looped c .loop .inv) _ _ _ _ (e .0) (e .1)
 
 part-length : (c : tie.After-lines-from Inv-loop μ-loop)
-    → length (take (c .lines-from .result .written) (c .lines-from .last .1 .1 .1 .1 .0)) ≡ c .lines-from .result .written
+    → length (take (c .lines-from .result .written) (replied c)) ≡ c .lines-from .result .written
 part-length c = length-take-le _ _ (fits c)
 
 abbrev ended : tie.After-put-tally Inv-loop μ-loop → tie.After-loop Inv-loop μ-loop

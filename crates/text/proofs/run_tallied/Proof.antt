@@ -1,5 +1,5 @@
--- `text::run_tallied` meets its contract: a text that is too long changes nothing (`too-long`); of any other all lines are answered, since there is room
--- for a longest reply to each, and the tally's line stands behind their replies (`whole-text`).
+-- `text::run_tallied` meets its contract: a text that is too long changes nothing (`too-long`); of any other all lines are answered, since there is
+-- room for a longest reply to each, and the tally's line stands behind their replies (`whole-text`).
 use mathlib.Core.Path.{_≡_, sym, _∙_}
 use mathlib.Core.Bool.{false}
 use borrow.Author.Needs.{needs}
