@@ -94,15 +94,52 @@ pub record Says (kind : ℕ) (reply : List ℕ) : Type 0 where
   pub refusal : isRefusal reply ≡ true → (1 ≤ at reply 1) × (at reply 1 ≤ 11)
   pub number : isRefusal reply ≡ false → at reply 1 ≤ 64
   pub rows : isRefusal reply ≡ false → kind ≡ 0x05 → (1 ≤ at reply 1) × (length reply ≡ 2 + 3 * at reply 1)
-  pub two : kind ≢ 0x05 → length reply ≡ 2
+  pub two : isRefusal reply ≡ false → kind ≢ 0x05 → length reply ≡ 2
+  pub number-only : isRefusal reply ≡ true → at reply 1 ≢ 0x01 → length reply ≡ 2
+  pub offset : isRefusal reply ≡ true → at reply 1 ≡ 0x01 → (kind ≡ 0xFF) × (length reply ≡ 4)
   pub digits : bytesOf (hexOf reply) ≡ reply
 
 pub says : (kind : ℕ) (reply : List ℕ) → IsReply kind reply → Says kind reply
 says kind reply x = go reply (x .form) (bytes-hex reply (x .bytes))
   where
     go : (reply : List ℕ) → Form kind reply → bytesOf (hexOf reply) ≡ reply → Says kind reply
-    go r (Form.count m k l) d = record { refusal = λ e. absurd (clash e refl); number = λ e. l; rows = λ e p. absurd (omega arith); two = λ p. refl; digits = d }
+    go r (Form.count m k l) d =
+        record {
+          refusal = λ e. absurd (clash e refl);
+          number = λ e. l;
+          rows = λ e p. absurd (omega arith);
+          two = λ e p. refl;
+          number-only = λ e. absurd (clash e refl);
+          offset = λ e. absurd (clash e refl);
+          digits = d;
+        }
     go r (Form.plan n bs k a b e) d =
-        record { refusal = λ e. absurd (clash e refl); number = λ e. b; rows = λ f p. (a, omega (arith, e)); two = λ p. absurd (p k); digits = d }
+        record {
+          refusal = λ e. absurd (clash e refl);
+          number = λ e. b;
+          rows = λ f p. (a, omega (arith, e));
+          two = λ f p. absurd (p k);
+          number-only = λ e. absurd (clash e refl);
+          offset = λ e. absurd (clash e refl);
+          digits = d;
+        }
     go r (Form.refusal n a b) d =
-        record { refusal = λ e. (a, b); number = λ e. absurd (clash refl e); rows = λ e p. absurd (clash refl e); two = λ p. refl; digits = d }
+        record {
+          refusal = λ e. (omega arith, b);
+          number = λ e. absurd (clash refl e);
+          rows = λ e p. absurd (clash refl e);
+          two = λ e p. absurd (clash refl e);
+          number-only = λ e p. refl;
+          offset = λ e p. absurd (omega arith);
+          digits = d;
+        }
+    go r (Form.badHex n k) d =
+        record {
+          refusal = λ e. (omega arith, omega arith);
+          number = λ e. absurd (clash refl e);
+          rows = λ e p. absurd (clash refl e);
+          two = λ e p. absurd (clash refl e);
+          number-only = λ e p. absurd (p refl);
+          offset = λ e p. (k, refl);
+          digits = d;
+        }

@@ -30,30 +30,33 @@ use Rattle.panel.proofs.Changes.{legal-opened}
 use Rattle.panel.proofs.Performed.{legal-performed}
 use Rattle.optimality.proofs.Graphs.{settersOf, legal-whole, strength-least}
 use Rattle.optimality.proofs.Held.{plan-whole}
-use Rattle.optimality.proofs.Answers.{Outcome, opening-outcome, adding-outcome, removing-outcome, touching-outcome, planning-outcome}
+use Rattle.optimality.proofs.Answers.{Outcome, OfChecks, opening-outcome, adding-outcome, removing-outcome, touching-outcome, planning-outcome}
 use Rattle.hex.specs.Hex.{isHex, bytesOf}
 use Rattle.frames.specs.Texts.{replies}
-use Rattle.frames.specs.Frames.{fitsKind, isFrame, checkedFrame, frameOf, commandOf, answered, lineAnswer}
+use Rattle.frames.specs.Frames.{fitsKind, isFrame, checkedFrame, badHex, frameOf, commandOf, answered, lineAnswer}
 use Rattle.acceptance.specs.Replies.{kindOf, Form, IsReply, Replied, EveryReply}
 
 -- ---- refusals
 
-refused-reply : (kind : ℕ) (r : ℕ) → 1 ≤ r → r ≤ 11 → IsReply kind (0xFF ∷ r ∷ [])
+refused-reply : (kind : ℕ) (r : ℕ) → 2 ≤ r → r ≤ 11 → IsReply kind (0xFF ∷ r ∷ [])
 refused-reply kind r a b = record { form = Form.refusal r a b; bytes = (omega arith, (omega arith, tt)) }
 
-refusal-reply : (kind : ℕ) (r : Refusal) → getD (refusalBytes r) 0 0 ≤ 11 → IsReply kind (0xFF ∷ refusalBytes r)
-refusal-reply kind BadHex l = refused-reply kind 1 (omega arith) (omega arith)
-refusal-reply kind BadFrame l = refused-reply kind 2 (omega arith) (omega arith)
-refusal-reply kind AlreadyOpen l = refused-reply kind 3 (omega arith) (omega arith)
-refusal-reply kind NotOpen l = refused-reply kind 4 (omega arith) (omega arith)
-refusal-reply kind BadSize l = refused-reply kind 5 (omega arith) (omega arith)
-refusal-reply kind BadLink l = refused-reply kind 6 (omega arith) (omega arith)
-refusal-reply kind NoSuchField l = refused-reply kind 7 (omega arith) (omega arith)
-refusal-reply kind LinkTaken l = refused-reply kind 8 (omega arith) (omega arith)
-refusal-reply kind NoSuchLink l = refused-reply kind 9 (omega arith) (omega arith)
-refusal-reply kind Conflict l = refused-reply kind 10 (omega arith) (omega arith)
-refusal-reply kind Loop l = refused-reply kind 11 (omega arith) (omega arith)
-refusal-reply kind TextTooLong l = absurd (omega arith)
+refusal-reply : (kind : ℕ) (r : Refusal) → 2 ≤ getD (refusalBytes r) 0 0 → getD (refusalBytes r) 0 0 ≤ 11 → IsReply kind (0xFF ∷ refusalBytes r)
+refusal-reply kind (BadHex n) m l = absurd (omega arith)
+refusal-reply kind BadFrame m l = refused-reply kind 2 m l
+refusal-reply kind AlreadyOpen m l = refused-reply kind 3 m l
+refusal-reply kind NotOpen m l = refused-reply kind 4 m l
+refusal-reply kind BadSize m l = refused-reply kind 5 m l
+refusal-reply kind BadLink m l = refused-reply kind 6 m l
+refusal-reply kind NoSuchField m l = refused-reply kind 7 m l
+refusal-reply kind LinkTaken m l = refused-reply kind 8 m l
+refusal-reply kind NoSuchLink m l = refused-reply kind 9 m l
+refusal-reply kind Conflict m l = refused-reply kind 10 m l
+refusal-reply kind Loop m l = refused-reply kind 11 m l
+refusal-reply kind TextTooLong m l = absurd (omega arith)
+
+bad-hex-reply : (offset : ℕ) → offset ≤ 0xFFFF → IsReply 0xFF (0xFF ∷ refusalBytes (BadHex offset))
+bad-hex-reply offset h = record { form = Form.badHex offset refl; bytes = (omega arith, (omega arith, (omega arith, (omega arith, tt)))) }
 
 -- ---- moved counts
 
@@ -138,18 +141,18 @@ module _ (p : Panel) (h : Legal p) where
   told kind a (Outcome.no r x) l = x
   told kind a (Outcome.yes q bytes x) l = x l
 
-  early : (kind : ℕ) (r : Refusal) → getD (refusalBytes r) 0 0 ≤ 9 → Refuses kind r
-  early kind r l = refusal-reply kind r (omega arith)
+  early : (kind : ℕ) (r : Refusal) → OfChecks r → Refuses kind r
+  early kind r l = refusal-reply kind r (omega arith) (omega arith)
 
   outcome : (c : Command) → Outcome (Refuses (kindFor c)) (Tells (kindFor c)) p (performed p c)
   outcome (opening n) = opening-outcome _ _ p (early 0x01) (λ m l. count-reply 0x01 0 (omega arith) (omega arith)) n
   outcome (adding id level bytes) =
-      adding-outcome _ _ p (early 0x02) (λ q l. moved-reply 0x02 p q (omega arith) l) (refusal-reply 0x02 Loop (omega arith)) id level bytes
-      (λ e. refusal-reply 0x02 Conflict (omega arith))
+      adding-outcome _ _ p (early 0x02) (λ q l. moved-reply 0x02 p q (omega arith) l) (refusal-reply 0x02 Loop (omega arith) (omega arith)) id level bytes
+      (λ e. refusal-reply 0x02 Conflict (omega arith) (omega arith))
   outcome (removing id) =
-      removing-outcome _ _ p (early 0x03) (λ q l. moved-reply 0x03 p q (omega arith) l) (refusal-reply 0x03 Loop (omega arith)) id
+      removing-outcome _ _ p (early 0x03) (λ q l. moved-reply 0x03 p q (omega arith) l) (refusal-reply 0x03 Loop (omega arith) (omega arith)) id
   outcome (touching f) =
-      touching-outcome _ _ p (early 0x04) (λ q l. moved-reply 0x04 p q (omega arith) l) (refusal-reply 0x04 Loop (omega arith)) f
+      touching-outcome _ _ p (early 0x04) (λ q l. moved-reply 0x04 p q (omega arith) l) (refusal-reply 0x04 Loop (omega arith) (omega arith)) f
   outcome planning = planning-outcome _ _ p (early 0x05) (λ e l. plan-reply p h (ltb-true 0 (p .size) e))
 
   command-reply : (c : Command) → IsReply (kindFor c) (performed p c .reply)
@@ -174,11 +177,11 @@ module _ (p : Panel) (h : Legal p) where
   line-reply line = go (isHex line) (isFrame (bytesOf line)) refl
     where
       go : (x y : Bool) → isFrame (bytesOf line) ≡ y
-          → let frame = cond x (cond y (bytesOf line) (0xFF ∷ refusalBytes BadFrame)) (0xFF ∷ refusalBytes BadHex) in
+          → let frame = cond x (cond y (bytesOf line) (0xFF ∷ refusalBytes BadFrame)) (0xFF ∷ refusalBytes (badHex line)) in
           IsReply (at frame 0) (answered p frame (commandOf frame) .reply)
       go true true e = frame-reply (bytesOf line) e
-      go true false e = refusal-reply 0xFF BadFrame (omega arith)
-      go false y e = refusal-reply 0xFF BadHex (omega arith)
+      go true false e = refusal-reply 0xFF BadFrame (omega arith) (omega arith)
+      go false y e = bad-hex-reply _ (omega arith)
 
   line-legal : (line : List ℕ) → Legal (lineAnswer p line .state)
   unfolding lineAnswer

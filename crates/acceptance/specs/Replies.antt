@@ -5,6 +5,7 @@ use mathlib.Core.List.{List, [], _∷_}
 use lib.ListN.{length}
 use Rattle.fieldset.specs.Tables.{at}
 use Rattle.fieldset.specs.Lists.{All}
+use Rattle.panel.specs.Answers.{twoBytes}
 use Rattle.panel.specs.Panels.{opened}
 use Rattle.frames.specs.Texts.{replies}
 use Rattle.frames.specs.Frames.{frameOf, lineAnswer}
@@ -19,20 +20,25 @@ pub data Form (kind : ℕ) : List ℕ → Type 0 where
   count : (m : ℕ) → kind ≤ 0x04 → m ≤ 64 → Form kind (0x00 ∷ m ∷ [])
   -- "for a plan 00 n, then n times field, setter (link number, or 80 for the stay), strength"
   plan : (n : ℕ) (rows : List ℕ) → kind ≡ 0x05 → 1 ≤ n → n ≤ 64 → length rows ≡ 3 * n → Form kind (0x00 ∷ n ∷ rows)
-  -- "for a refusal FF and its number": 1 to 11, since TextTooLong is no refusal of a line
-  refusal : (r : ℕ) → 1 ≤ r → r ≤ 11 → Form kind (0xFF ∷ r ∷ [])
+  -- "for a refusal FF and its number": 2 to 11, since TextTooLong is no refusal of a line
+  refusal : (r : ℕ) → 2 ≤ r → r ≤ 11 → Form kind (0xFF ∷ r ∷ [])
+  -- number 1, of a line without frame: "FF 01 and two bytes (most significant first ..), the offset" (document 02, request 1)
+  badHex : (offset : ℕ) → kind ≡ 0xFF → Form kind (0xFF ∷ 0x01 ∷ twoBytes offset)
 
 -- such a reply, in bytes
 pub record IsReply (kind : ℕ) (reply : List ℕ) : Type 0 where
   pub form : Form kind reply
   pub bytes : All (λ b. b < 256) reply
 
--- as many replies as lines, each to its line
+-- as many replies as lines, each as R has it for its line
+abbrev pub Each : (List ℕ → List ℕ → Type 0) → List (List ℕ) → List (List ℕ) → Type 0
+Each R [] [] = Unit {0}
+Each R [] (r ∷ rs) = ⊥
+Each R (l ∷ ls) [] = ⊥
+Each R (l ∷ ls) (r ∷ rs) = R l r × Each R ls rs
+
 abbrev pub Replied : List (List ℕ) → List (List ℕ) → Type 0
-Replied [] [] = Unit {0}
-Replied [] (r ∷ rs) = ⊥
-Replied (l ∷ ls) [] = ⊥
-Replied (l ∷ ls) (r ∷ rs) = IsReply (kindOf l) r × Replied ls rs
+Replied lines replies = Each (λ line reply. IsReply (kindOf line) reply) lines replies
 
 -- lines of any characters; the first one meets an unopened panel
 abbrev pub EveryReply : Type 0

@@ -26,7 +26,7 @@ pub record Framed (line : Line) : Type 0 where
   pub full : length (line .frame) ≡ frameRoom
   pub reaches : (id level : ℕ) → line .command ≡ Add id level → 3 ≤ line .len
 
--- the step of a line's command, which names the link of number k: taken, it gives the panel of the answer; the reply is its first two bytes and
+-- the step of a line's command, which names the link of number k: taken, it gives the panel of the answer; the reply is its head and
 -- the first rows of the buffer
 pub record LineStep (p : Panel) (k : ℕ) (command : Command) (fields path rows : List ℕ) (s : Step) : Type 0 where
   pub takes : Takes p k path s (commandAnswer p command fields .state)

@@ -5,6 +5,7 @@ use mathlib.Core.Bool.{cond}
 use mathlib.Core.List.{List}
 use Prim.Native.Nat.{ℕ}
 use lib.Dec.{eqb}
+use lib.ListN.{drop}
 use Rattle.fieldset.specs.Tables.{at}
 use Rattle.panel.proofs.Answers.{refusalAt, refusal-at}
 use Rattle.frames.specs.declared.Command.{Command}
@@ -18,7 +19,7 @@ commandAt b =
     (cond (eqb (at b 0) 0x02) (Add (at b 1) (at b 2))
     (cond (eqb (at b 0) 0x03) (Remove (at b 1))
     (cond (eqb (at b 0) 0x04) (Touch (at b 1))
-    (cond (eqb (at b 0) 0x05) Plan (Refused (refusalAt (at b 1)))))))
+    (cond (eqb (at b 0) 0x05) Plan (Refused (refusalAt (drop 1 b)))))))
 
 command-at : (c : Command) (fields : List ℕ) → commandAt (commandBytes c fields) ≡ c
 command-at (Open n) fields = refl

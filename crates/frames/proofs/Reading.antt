@@ -15,7 +15,7 @@ use Rattle.fieldset.proofs.Tests.{and-left}
 use Rattle.panel.specs.declared.Refusal.the-variants.{BadHex, BadFrame}
 use Rattle.panel.specs.Answers.{refusalBytes}
 use Rattle.panel.specs.Commands.{hasBit6, anyOf}
-use Rattle.hex.specs.Hex.{isHex, bytesOf, frameRoom}
+use Rattle.hex.specs.Hex.{isHex, offsetOf, bytesOf, frameRoom}
 use Rattle.hex.specs.Answers.{decodedValues, decoded, frameAfter}
 use Rattle.hex.specs.declared.Decoded.{Decoded}
 use Rattle.hex.specs.declared.Decoded.the-variants.{BadHex as NoHex, Frame}
@@ -23,7 +23,7 @@ use Rattle.hex.proofs.Stores.{sets-fit}
 use Rattle.frames.specs.declared.Command.{Command}
 use Rattle.frames.specs.declared.Command.the-variants.{Add, Refused}
 use Rattle.frames.specs.declared.Line.{Line}
-use Rattle.frames.specs.Frames.{fitsKind, isFrame, checkedFrame, frameOf, commandBytes}
+use Rattle.frames.specs.Frames.{fitsKind, isFrame, checkedFrame, badHex, frameOf, commandBytes}
 use Rattle.frames.specs.Reading.{keptBytes, LineRead}
 
 -- ---- bit 6 of the field bytes, from a position of a frame on
@@ -154,20 +154,21 @@ module _ (f : List ℕ) (n : ℕ) (size : length f ≡ frameRoom) where
 -- ---- a line
 
 -- what decoding tells
-bad-told : (s : List ℕ) → decodedValues NoHex ≡ decoded s → isHex s ≡ false
+bad-told : (s : List ℕ) (n : ℕ) → decodedValues (NoHex n) ≡ decoded s → (isHex s ≡ false) × (n ≡ offsetOf s)
 unfolding decoded
-bad-told s e = go (isHex s) refl e where
-  go : (b : Bool) → isHex s ≡ b → decodedValues NoHex ≡ cond b (length (bytesOf s) ∷ []) [] → isHex s ≡ false
-  go true t told = let z : _≡_ {A = ℕ} 0 1 = cc in absurd (omega arith)
-  go false t told = t
+bad-told s n e = go (isHex s) refl e where
+  go : (b : Bool) → isHex s ≡ b → decodedValues (NoHex n) ≡ cond b (0x00 ∷ length (bytesOf s) ∷ []) (0xFF ∷ offsetOf s ∷ [])
+      → (isHex s ≡ false) × (n ≡ offsetOf s)
+  go true t told = let z : _≡_ {A = ℕ} 255 0 = ap (λ (l : List ℕ). at l 0) told in absurd (omega arith)
+  go false t told = (t, ap (λ (l : List ℕ). at l 1) told)
 
 frame-told : (s : List ℕ) (n : ℕ) → decodedValues (Frame n) ≡ decoded s → (isHex s ≡ true) × (n ≡ length (bytesOf s))
 unfolding decoded
 frame-told s n e = go (isHex s) refl e where
-  go : (b : Bool) → isHex s ≡ b → decodedValues (Frame n) ≡ cond b (length (bytesOf s) ∷ []) []
+  go : (b : Bool) → isHex s ≡ b → decodedValues (Frame n) ≡ cond b (0x00 ∷ length (bytesOf s) ∷ []) (0xFF ∷ offsetOf s ∷ [])
       → (isHex s ≡ true) × (n ≡ length (bytesOf s))
-  go true t told = (t, ap (λ (l : List ℕ). at l 0) told)
-  go false t told = let z : _≡_ {A = ℕ} 0 1 = cc in absurd (omega arith)
+  go true t told = (t, ap (λ (l : List ℕ). at l 1) told)
+  go false t told = let z : _≡_ {A = ℕ} 0 255 = ap (λ (l : List ℕ). at l 0) told in absurd (omega arith)
 
 -- a full buffer with bytes put at its start has as many of them as fit
 sets-front : (f b : List ℕ) → length f ≡ frameRoom → take (min (length b) frameRoom) (sets f 0 b) ≡ take frameRoom b
@@ -189,9 +190,13 @@ module _ (s g : List ℕ) (d : Decoded) (told : decodedValues d ≡ decoded s) (
   pub full : length g ≡ frameRoom
   full = ap length left ∙ after-full s (replicate frameRoom 0) refl
 
-  pub read-bad : d ≡ NoHex → LineRead s (record { command = Refused BadHex; frame = g; len = 0 })
+  pub read-bad : (n : ℕ) → d ≡ NoHex n → (offset : ℕ) → offset ≡ min n 0xFFFF
+      → LineRead s (record { command = Refused (BadHex offset); frame = g; len = 0 })
   unfolding frameOf keptBytes
-  read-bad e = let h = bad-told s (ap decodedValues (sym e) ∙ told) in record { bytes = sym (simp h); frame = left; len = sym (simp h) }
+  read-bad n e offset is =
+      let t = bad-told s n (ap decodedValues (sym e) ∙ told) in
+      let same : offset ≡ min (offsetOf s) 0xFFFF = is ∙ ap (λ (k : ℕ). min k 0xFFFF) (t .1) in
+      record { bytes = ap (λ (k : ℕ). 0xFF ∷ refusalBytes (BadHex k)) same ∙ sym (simp (t .0)); frame = left; len = sym (simp (t .0)) }
 
   pub read-good : (n : ℕ) → d ≡ Frame n → (len : ℕ) → len ≡ min n frameRoom → (c : Command) → commandBytes c (drop 3 (take len g)) ≡ checkedFrame (take len g)
       → LineRead s (record { command = c; frame = g; len = len })
@@ -230,7 +235,7 @@ checked-fits b = go (fitsKind (at b 0) (length b)) (not (eqb (at b 0) 0x02 && an
 frame-fits : (s : List ℕ) → Fits (frameOf s)
 unfolding frameOf
 frame-fits s = go (isHex s) where
-  go : (x : Bool) → Fits (cond x (checkedFrame (bytesOf s)) (0xFF ∷ refusalBytes BadHex))
+  go : (x : Bool) → Fits (cond x (checkedFrame (bytesOf s)) (0xFF ∷ refusalBytes (badHex s)))
   go true = checked-fits (bytesOf s)
   go false = λ h. absurd (h refl)
 

@@ -1,18 +1,19 @@
 -- A line's frame, its command, and what document 01's panel answers it.
-use Prim.Native.Nat.{ℕ, _+_, _%_}
+use Prim.Native.Nat.{ℕ, _+_, _%_, min}
 use mathlib.Core.Bool.{Bool, false, not, _&&_, cond}
 use mathlib.Core.List.{List, [], _∷_}
 use mathlib.Core.Option.{Option, none, some}
 use lib.Dec.{eqb, leb}
 use lib.ListN.{length, drop}
 use Rattle.panel.specs.declared.Panel.{Panel}
+use Rattle.panel.specs.declared.Refusal.{Refusal}
 use Rattle.panel.specs.declared.Refusal.the-variants.{BadHex, BadFrame}
 use Rattle.fieldset.specs.Tables.{at}
 use Rattle.panel.specs.Answers.{Answer, refusalBytes}
 use Rattle.panel.specs.Panels.{opened}
 use Rattle.panel.specs.Commands as panel
 use Rattle.panel.specs.Commands.{hasBit6, anyOf, opening, adding, removing, touching, planning, performed}
-use Rattle.hex.specs.Hex.{isHex, bytesOf}
+use Rattle.hex.specs.Hex.{isHex, offsetOf, bytesOf}
 use Rattle.frames.specs.declared.Command.{Command}
 use Rattle.frames.specs.declared.Command.the-variants.{Open, Add, Remove, Touch, Plan, Refused}
 use Rattle.frames.specs.Texts.{Answered, LineAnswer, stateAfter, outputOf}
@@ -37,9 +38,13 @@ isFrame bytes = fitsKind (at bytes 0) (length bytes) && not (eqb (at bytes 0) 0x
 unfoldable pub checkedFrame : List ℕ → List ℕ
 checkedFrame bytes = cond (isFrame bytes) bytes (0xFF ∷ refusalBytes BadFrame)
 
--- the bytes of a line's frame; where it has none, FF and the number of BadHex or of BadFrame
+-- BadHex with the line's offset, as two bytes tell it: 65,535 for a larger one, which only a line longer than any text has
+abbrev pub badHex : List ℕ → Refusal
+badHex line = BadHex (min (offsetOf line) 0xFFFF)
+
+-- the bytes of a line's frame; where it has none, FF and the bytes of BadHex or of BadFrame
 unfoldable pub frameOf : List ℕ → List ℕ
-frameOf line = cond (isHex line) (checkedFrame (bytesOf line)) (0xFF ∷ refusalBytes BadHex)
+frameOf line = cond (isHex line) (checkedFrame (bytesOf line)) (0xFF ∷ refusalBytes (badHex line))
 
 -- ---- commands
 

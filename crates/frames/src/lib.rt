@@ -89,6 +89,13 @@ fn kept(n: usize) -> usize
     }
 }
 
+// An offset as two bytes tell it: 65,535 for a larger one, which only a line longer than any text has.
+fn two_byte_offset(n: usize) -> u16
+    ensures { λ r. ⌜ r ≡ min n 0xFFFF ⌝ }
+{
+    if n < 0xFFFF { n as u16 } else { 0xFFFF }
+}
+
 // The command of a line, with the bytes of its frame.
 pub fn read_line(line: &[u8]) -> Line
     ensures { λ r. ⌜ LineRead (now (line .entry)) r ⌝ }
@@ -96,8 +103,8 @@ pub fn read_line(line: &[u8]) -> Line
     let mut frame = [0u8; hex::FRAME_ROOM];
     let d = hex::decode(line, &mut frame);
     match d {
-        hex::Decoded::BadHex => {
-            let c = Command::Refused(Refusal::BadHex);
+        hex::Decoded::BadHex(offset) => {
+            let c = Command::Refused(Refusal::BadHex(two_byte_offset(offset)));
             Line {
                 command: c,
                 frame: frame,

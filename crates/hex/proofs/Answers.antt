@@ -16,7 +16,7 @@ digits-apart Other (Value y) e = let z : _≡_ {A = ℕ} 0 1 = cc in absurd (ome
 digits-apart Other Other e = refl
 
 pub decoded-apart : (a b : Decoded) → decodedValues a ≡ decodedValues b → a ≡ b
-decoded-apart BadHex BadHex e = refl
-decoded-apart BadHex (Frame n) e = let z : _≡_ {A = ℕ} 0 1 = cc in absurd (omega arith)
-decoded-apart (Frame m) BadHex e = let z : _≡_ {A = ℕ} 0 1 = cc in absurd (omega arith)
+decoded-apart (BadHex m) (BadHex n) e = cc
+decoded-apart (BadHex m) (Frame n) e = let z : _≡_ {A = ℕ} 255 0 = cc in absurd (omega arith)
+decoded-apart (Frame m) (BadHex n) e = let z : _≡_ {A = ℕ} 0 255 = cc in absurd (omega arith)
 decoded-apart (Frame m) (Frame n) e = cc

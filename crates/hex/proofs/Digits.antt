@@ -1,15 +1,12 @@
--- Digits. One character: what `digitRead` says of it, by where it stands among the characters 0, 9, A and F, and back from what was read. A line:
--- `Read`, that the characters from a position on decide, with a law for each way on. Assumes nothing.
-use mathlib.Core.Path.{_≡_, refl, sym, ap, _∙_}
+-- Digits: what `digitRead` says of a character, by where it stands among the characters 0, 9, A and F, and back from what was read. Assumes nothing.
+use mathlib.Core.Path.{_≡_, refl}
 use mathlib.Core.Bool.{Bool, true, false, _&&_, _||_, cond}
 use mathlib.Core.List.{List, [], _∷_}
-use Prim.Native.Nat.{ℕ, zero, suc, _+_, _-_, _≤_, _<_}
+use Prim.Native.Nat.{ℕ, zero, suc, _-_, _≤_, _<_}
 use native.Mathlib.Nat.{not-suc-le-zero, le-of-suc-le-suc}
-use native.Mathlib.Numerals.{add-one}
 use native.Mathlib.Omega.{arith}
 use lib.Dec.{leb}
-use lib.ListN.{length, getD, drop, drop-of-length-le}
-use lib.Seq.{drop-cons}
+use lib.ListN.{length, getD}
 use borrow.Author.Tests.{le-leb, lt-leb, leb-true}
 use Rattle.fieldset.proofs.Tests.{and-left, and-right}
 use Rattle.hex.specs.Hex.{isDigit, digitOf, areDigits}
@@ -44,7 +41,7 @@ value-read c x e = go (isDigit c) e where
   go true h = (refl, cc)
   go false h = let z : _≡_ {A = ℕ} 0 1 = cc in absurd (omega arith)
 
-other-read : (c : ℕ) → [] ≡ digitRead c → isDigit c ≡ false
+pub other-read : (c : ℕ) → [] ≡ digitRead c → isDigit c ≡ false
 unfolding digitRead
 other-read c e = go (isDigit c) e where
   go : (b : Bool) → [] ≡ cond b (digitOf c ∷ []) [] → b ≡ false
@@ -72,33 +69,7 @@ digit-below c e = go (leb c 57) refl where
   go true h = rw h (omega (arith, leb-true c 57 h))
   go false h = rw h (omega (arith, leb-true c 70 (last (leb 48 c) (leb 65 c) (leb c 70) (rw h at e))))
 
--- the characters from i on decide whether all are digits
-pub record Read (s : List ℕ) (i : ℕ) : Type 0 where
-  pub within : i ≤ length s
-  pub rest : areDigits (drop i s) ≡ areDigits s
-
-pub read-none : (s : List ℕ) → Read s 0
-read-none s = record { within = omega arith; rest = refl }
-
-pub read-more : (s : List ℕ) (i x : ℕ) → Read s i → i < length s → x ∷ [] ≡ digitRead (getD s i 0) → Read s (i + 1)
-unfolding areDigits
-read-more s i x was h e =
-    let k = value-read (getD s i 0) x e .0 in
-    let on : areDigits (drop (i + 1) s) ≡ areDigits (drop i s) = rw (add-one, drop-cons s i 0 h) (simp k) in
-    record { within = omega arith; rest = on ∙ was .rest }
-
--- another character, or the end
-pub read-other : (s : List ℕ) (i : ℕ) → Read s i → i < length s → [] ≡ digitRead (getD s i 0) → false ≡ areDigits s
-unfolding areDigits
-read-other s i was h e =
-    let k = other-read (getD s i 0) e in
-    let stop : areDigits (drop i s) ≡ false = rw (drop-cons s i 0 h) (simp k) in
-    sym stop ∙ was .rest
-
-pub read-end : (s : List ℕ) (i : ℕ) → Read s i → length s ≤ i → true ≡ areDigits s
-unfolding areDigits
-read-end s i was h = ap areDigits (sym (drop-of-length-le s {i = i} h)) ∙ was .rest
-
+-- each character of a line of digits is one
 pub digits-at : (s : List ℕ) (i : ℕ) → areDigits s ≡ true → i < length s → isDigit (getD s i 0) ≡ true
 unfolding areDigits
 digits-at [] i e h = absurd (not-suc-le-zero h)

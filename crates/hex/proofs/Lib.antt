@@ -1,5 +1,6 @@
 pub mod Stores
 pub mod Digits
+pub mod Offsets
 pub mod Bytes
 pub mod Lines
 pub mod Answers

@@ -9,7 +9,7 @@ use lib.Dec.{ltb, eqb}
 use lib.ListN.{length, getD, take, set, length-set}
 use lib.Seq.{sets, take-all}
 use borrow.Author.Tests.{lt-ltb, le-ltb, eq-eqb, ne-eqb}
-use Rattle.hex.specs.Hex.{digitOf, areDigits, isHex, bytesOf}
+use Rattle.hex.specs.Hex.{digitOf, areDigits, isHex, offsetOf, bytesOf}
 use Rattle.hex.specs.Answers.{decodedValues, decoded, frameAfter}
 use Rattle.hex.specs.declared.Decoded.{Decoded}
 use Rattle.hex.specs.declared.Decoded.the-variants.{BadHex, Frame}
@@ -39,9 +39,9 @@ hex-line s e o h = simp (lt-ltb 0 (length s) (omega arith), eq-eqb (length s % 2
 abbrev pub Decodes : List ℕ → List ℕ → Decoded → List ℕ → Type 0
 Decodes s f d after = (decodedValues d ≡ decoded s) × (after ≡ frameAfter s f)
 
-pub bad-line : (s f : List ℕ) → isHex s ≡ false → Decodes s f BadHex f
+pub bad-line : (s f : List ℕ) (n : ℕ) → n ≡ offsetOf s → isHex s ≡ false → Decodes s f (BadHex n) f
 unfolding decoded frameAfter
-bad-line s f h = (simp h, simp h)
+bad-line s f n e h = (simp (h, e), simp h)
 
 pub good-line : (s f g : List ℕ) → isHex s ≡ true → g ≡ sets f 0 (bytesOf s) → Decodes s f (Frame (length s / 2)) g
 unfolding decoded frameAfter

@@ -4,7 +4,7 @@ use mathlib.Core.Bool.{cond}
 use mathlib.Core.List.{List, [], _∷_}
 use lib.ListN.{length}
 use lib.Seq.{sets}
-use Rattle.hex.specs.Hex.{isDigit, digitOf, isHex, bytesOf}
+use Rattle.hex.specs.Hex.{isDigit, digitOf, isHex, offsetOf, bytesOf}
 use Rattle.hex.specs.declared.Digit.{Digit}
 use Rattle.hex.specs.declared.Digit.the-variants.{Value, Other}
 use Rattle.hex.specs.declared.Decoded.{Decoded}
@@ -18,13 +18,13 @@ digitValues Other = []
 unfoldable pub digitRead : ℕ → List ℕ
 digitRead c = cond (isDigit c) (digitOf c ∷ []) []
 
--- a frame has its length; a line that is refused has none (BadHex's number stands with the refusals)
+-- 00 and the length of the frame; FF and the offset of a line that is refused (BadHex's number stands with the refusals)
 abbrev pub decodedValues : Decoded → List ℕ
-decodedValues BadHex = []
-decodedValues (Frame n) = n ∷ []
+decodedValues (BadHex offset) = 0xFF ∷ offset ∷ []
+decodedValues (Frame n) = 0x00 ∷ n ∷ []
 
 unfoldable pub decoded : List ℕ → List ℕ
-decoded s = cond (isHex s) (length (bytesOf s) ∷ []) []
+decoded s = cond (isHex s) (0x00 ∷ length (bytesOf s) ∷ []) (0xFF ∷ offsetOf s ∷ [])
 
 -- the buffer, with the frame's first bytes, as many as fit, at its start
 unfoldable pub frameAfter : List ℕ → List ℕ → List ℕ

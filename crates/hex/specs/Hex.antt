@@ -1,5 +1,5 @@
 -- Lines of hexadecimal: "Digits 0-9 and A-F, two a byte". Characters and bytes are numbers.
-use Prim.Native.Nat.{ℕ, _+_, _-_, _*_, _/_, _%_}
+use Prim.Native.Nat.{ℕ, suc, _+_, _-_, _*_, _/_, _%_}
 use Prim.Native.Char.{code}
 use mathlib.Core.Bool.{Bool, true, _&&_, _||_, cond}
 use mathlib.Core.List.{List, [], _∷_, _++_}
@@ -29,6 +29,12 @@ areDigits (c ∷ s) = isDigit c && areDigits s
 -- the line is not refused with BadHex "(empty line, odd count, another character)"
 unfoldable pub isHex : List ℕ → Bool
 isHex s = ltb 0 (length s) && eqb (length s % 2) 0 && areDigits s
+
+-- where a line is refused with BadHex: "the offset from 0 in the line of the first character that is not a digit or A-F; where there is none, the
+-- line's length" (document 02, request 1)
+unfoldable pub offsetOf : List ℕ → ℕ
+offsetOf [] = 0
+offsetOf (c ∷ s) = cond (isDigit c) (suc (offsetOf s)) 0
 
 -- the bytes of a line of digits
 unfoldable pub bytesOf : List ℕ → List ℕ

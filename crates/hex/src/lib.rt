@@ -4,7 +4,7 @@ ghost use mathlib.Core.Bool.{true};
 ghost use Prim.Native.Nat.{_+_, _*_};
 ghost use lib.ListN.{length};
 ghost use lib.Seq.{sets};
-ghost use Rattle.hex.specs.Hex.{isDigit, digitOf, areDigits, bytesOf, frameRoom};
+ghost use Rattle.hex.specs.Hex.{isDigit, digitOf, areDigits, offsetOf, bytesOf, frameRoom};
 ghost use Rattle.hex.specs.Answers.{digitValues, digitRead, decodedValues, decoded, frameAfter};
 
 // How many bytes of a frame are kept: those of a longest one, an add with 8 field bytes, and one more, which shows that a frame is longer.
@@ -19,9 +19,9 @@ pub enum Digit {
     Other,
 }
 
-// What a line is: refused, or a frame of so many bytes.
+// What a line is: refused, with the offset where it is wrong, or a frame of so many bytes.
 pub enum Decoded {
-    BadHex,
+    BadHex(usize),
     Frame(usize),
 }
 
@@ -42,20 +42,20 @@ pub fn digit_of(c: u8) -> Digit
     }
 }
 
-// Whether every character is a digit.
-pub fn are_digits(s: &[u8]) -> bool
-    ensures { λ r. ⌜ r ≡ areDigits (now (s .entry)) ⌝ }
+// The offset of the first character that is not a digit; the length where there is none.
+pub fn offset_of(s: &[u8]) -> usize
+    ensures { λ r. ⌜ r ≡ offsetOf (now (s .entry)) ⌝ }
 {
     let mut i = 0;
     while i < s.len() {
         let d = digit_of(s[i]);
         match d {
             Digit::Value(_) => {}
-            Digit::Other => return false,
+            Digit::Other => return i,
         }
         i += 1;
     }
-    true
+    i
 }
 
 // The value of a character that is a digit.
@@ -90,23 +90,17 @@ fn fill(s: &[u8], frame: &mut [u8; FRAME_ROOM])
     }
 }
 
-// A line: BadHex, or the length of its frame, whose first bytes, at most FRAME_ROOM, are put into the buffer.
+// A line: BadHex with the offset where it is wrong, or the length of its frame, whose first bytes, at most FRAME_ROOM, are put into the buffer.
 pub fn decode(s: &[u8], frame: &mut [u8; FRAME_ROOM]) -> Decoded
     requires { ⌜ length (now frame) ≡ frameRoom ⌝ }
     ensures { λ r. ⌜ decodedValues r ≡ decoded (now (s .entry)) ⌝ }
     ensures { λ r. ⌜ now (frame .exit) ≡ frameAfter (now (s .entry)) (now (frame .entry)) ⌝ }
 {
     let n = s.len();
-    if n == 0 {
-        return Decoded::BadHex;
+    let offset = offset_of(s);
+    if offset < n || n == 0 || n % 2 == 1 {
+        return Decoded::BadHex(offset);
     }
-    if n % 2 == 1 {
-        return Decoded::BadHex;
-    }
-    if are_digits(s) {
-        fill(s, frame);
-        Decoded::Frame(n / 2)
-    } else {
-        Decoded::BadHex
-    }
+    fill(s, frame);
+    Decoded::Frame(n / 2)
 }

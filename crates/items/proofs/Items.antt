@@ -12,7 +12,7 @@ use Rattle.panel.specs.Panels.{opened, dropped, toFront, moved}
 use Rattle.panel.specs.Solution.{strengthOf, isBlocked, pathFor, reversed, least, leastBlocked, planOf, isLooped, rowsOf}
 use Rattle.panel.specs.Steps.{reverseStep, enterStep, removeStep, touchStep, planStep}
 use Rattle.panel.specs.Commands.{anyOf, fieldsIn, isRising, areFieldBytes, checked}
-use Rattle.hex.specs.Hex.{isDigit, digitOf, charOf, areDigits, isHex, bytesOf, hexOf, lineOf}
+use Rattle.hex.specs.Hex.{isDigit, digitOf, charOf, areDigits, isHex, offsetOf, bytesOf, hexOf, lineOf}
 use Rattle.lines.specs.Lines.{linesOf}
 use Rattle.tally.specs.Tallies.{more, tallied, threeBytes, tallyBytes}
 use Rattle.frames.specs.Texts.{refusalOf, replies, tallyAfter, written, output, outputOf}
@@ -28,7 +28,7 @@ items-all = refl
 
 pub items-hold : Hold items
 unfolding characters items outputOf output written tallyAfter replies refusalOf linesOf lineAnswer commandOf frameOf checkedFrame isFrame fitsKind
-    tallyBytes threeBytes tallied more lineOf hexOf bytesOf isHex areDigits charOf digitOf isDigit checked areFieldBytes isRising fieldsIn anyOf
+    tallyBytes threeBytes tallied more lineOf hexOf bytesOf isHex offsetOf areDigits charOf digitOf isDigit checked areFieldBytes isRising fieldsIn anyOf
     planStep touchStep removeStep enterStep reverseStep rowsOf isLooped planOf leastBlocked least reversed pathFor isBlocked strengthOf moved
     toFront dropped opened itemsOf isInForce setterOf tabulate hasLoop order following next path strongest lowestAt strength greatest within only
     without with setOf member lowest any count
@@ -36,7 +36,7 @@ items-hold = refl
 
 pub further-hold : Hold further
 unfolding characters further outputOf output written tallyAfter replies refusalOf linesOf lineAnswer commandOf frameOf checkedFrame isFrame fitsKind
-    tallyBytes threeBytes tallied more lineOf hexOf bytesOf isHex areDigits charOf digitOf isDigit checked areFieldBytes isRising fieldsIn anyOf
+    tallyBytes threeBytes tallied more lineOf hexOf bytesOf isHex offsetOf areDigits charOf digitOf isDigit checked areFieldBytes isRising fieldsIn anyOf
     planStep touchStep removeStep enterStep reverseStep rowsOf isLooped planOf leastBlocked least reversed pathFor isBlocked strengthOf moved
     toFront dropped opened itemsOf isInForce setterOf tabulate hasLoop order following next path strongest lowestAt strength greatest within only
     without with setOf member lowest any count

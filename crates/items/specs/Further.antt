@@ -7,16 +7,16 @@ unfoldable pub further : List Item
 further =
     -- "A line ends at LF or at the end of the text; a text that ends in LF has no further line, and an empty text has none"
     item "" "EE00000000000000000000\n"
-    ∷ item "\n" "FF01\nEE00000100000000000101\n"
+    ∷ item "\n" "FF010000\nEE00000100000000000101\n"
     ∷ item "0101" "0000\nEE00000100000100000000\n"
-    ∷ item "0101\n\n" "0000\nFF01\nEE00000200000100000101\n"
+    ∷ item "0101\n\n" "0000\nFF010000\nEE00000200000100000101\n"
     -- "One run in full"
     ∷ item "0103\n0200008081\n05\n0401\n05\n0300\n0300\n05\n"
     "0000\n0001\n0003008010010010028012\n0002\n0003018010000010028012\n0001\nFF09\n0003008011018010028012\nEE00000800000700000109\n"
     -- "last refusal number (00 if none)": an accepted line leaves it
     ∷ item "0100\n0101\n" "FF05\n0000\nEE00000200000100000105\n"
     -- "Numbers 1 to 11 are also the order of checks for a line": BadHex before BadFrame
-    ∷ item "010a\n010\n060\n06\n" "FF01\nFF01\nFF01\nFF02\nEE00000400000000000402\n"
+    ∷ item "010a\n010\n060\n06\n" "FF010003\nFF010003\nFF010003\nFF02\nEE00000400000000000402\n"
     -- BadFrame before NotOpen and AlreadyOpen, AlreadyOpen before BadSize
     ∷ item "0500\n0102\n010203\n0141\n" "FF02\n0000\nFF02\nFF03\nEE00000400000100000303\n"
     -- NotOpen before BadLink, NoSuchField and NoSuchLink

@@ -99,39 +99,42 @@ module _ (R : Refusal → Type 0) (T : Panel → List ℕ → Type 0) (p : Panel
       go q false = yes _ _ (t q)
 
 -- the refusals of the checks are 3 to 9
-module _ (R : Refusal → Type 0) (T : Panel → List ℕ → Type 0) (p : Panel) (early : (r : Refusal) → getD (refusalBytes r) 0 0 ≤ 9 → R r) where
-  given : (r : Refusal) → getD (refusalBytes r) 0 0 ≤ 9 → Outcome R T p (refused p r)
+abbrev pub OfChecks : Refusal → Type 0
+OfChecks r = (3 ≤ getD (refusalBytes r) 0 0) × (getD (refusalBytes r) 0 0 ≤ 9)
+
+module _ (R : Refusal → Type 0) (T : Panel → List ℕ → Type 0) (p : Panel) (early : (r : Refusal) → OfChecks r → R r) where
+  given : (r : Refusal) → OfChecks r → Outcome R T p (refused p r)
   given r h = no r (early r h)
 
   pub opening-outcome : ((n : ℕ) → T (opened n) (0 ∷ [])) → (n : ℕ) → Outcome R T p (performed p (opening n))
   opening-outcome t n =
       checked-answer (Outcome R T p) p (openChecks p n) (openStep n)
-      (given AlreadyOpen (omega arith), (given BadSize (omega arith), tt)) (λ x. yes _ _ (t n))
+      (given AlreadyOpen (omega arith, omega arith), (given BadSize (omega arith, omega arith), tt)) (λ x. yes _ _ (t n))
 
   pub planning-outcome : (isOpen p ≡ true → T p (p .size ∷ rowsOf p (planOf p))) → Outcome R T p (performed p planning)
   unfolding planStep
   planning-outcome t =
       checked-answer (Outcome R T p) p (planChecks p) (planStep p)
-      (given NotOpen (omega arith), tt) (λ n. yes _ _ (t (not-false (isOpen p) (n .0))))
+      (given NotOpen (omega arith, omega arith), tt) (λ n. yes _ _ (t (not-false (isOpen p) (n .0))))
 
   module _ (t : (q : Panel) → T q (moved p q ∷ [])) (l : R Loop) where
     pub adding-outcome : (id level : ℕ) (bytes : List ℕ) → (level ≡ 0 → R Conflict) → Outcome R T p (performed p (adding id level bytes))
     adding-outcome id level bytes k =
         checked-answer (Outcome R T p) p (addChecks p id level bytes) (addStep p id level (coveredIn bytes) (outputsIn bytes))
-        (given NotOpen (omega arith), (given BadLink (omega arith), (given NoSuchField (omega arith), (given LinkTaken (omega arith), tt))))
+        (given NotOpen (omega arith, omega arith), (given BadLink (omega arith, omega arith), (given NoSuchField (omega arith, omega arith), (given LinkTaken (omega arith, omega arith), tt))))
         (λ n. enter-outcome R T p t p id (newLink level bytes) l k)
 
     pub removing-outcome : (id : ℕ) → Outcome R T p (performed p (removing id))
     unfolding removeStep
     removing-outcome id =
         checked-answer (Outcome R T p) p (removeChecks p id) (removeStep p id)
-        (given NotOpen (omega arith), (given BadLink (omega arith), (given NoSuchLink (omega arith), tt)))
+        (given NotOpen (omega arith, omega arith), (given BadLink (omega arith, omega arith), (given NoSuchLink (omega arith, omega arith), tt)))
         (λ n. drop-outcome R T p t (dropped p id) (linkAt (p .links) id .standing) l)
 
     pub touching-outcome : (f : ℕ) → Outcome R T p (performed p (touching f))
     touching-outcome f =
         checked-answer (Outcome R T p) p (touchChecks p f) (touchStep p f)
-        (given NotOpen (omega arith), (given NoSuchField (omega arith), tt)) (λ n. touch-outcome R T p t f l)
+        (given NotOpen (omega arith, omega arith), (given NoSuchField (omega arith, omega arith), tt)) (λ n. touch-outcome R T p t f l)
 
 -- ---- what follows
 
@@ -144,18 +147,16 @@ unchanged : (R : Refusal → Type 0) (p : Panel) (a : Answer) → Outcome R Any 
 unchanged R p a (no r h) e = refl
 unchanged R p a (yes q bytes t) e = absurd (clash e refl)
 
-pub refused-unchanged : RefusedUnchanged
-refused-unchanged p c = unchanged R p (performed p c) (go c)
-  where
-    R : Refusal → Type 0
-    R r = Unit {0}
+-- any command, whatever its panel and its reply
+pub outcome-of : (R : Refusal → Type 0) (p : Panel) → ((r : Refusal) → OfChecks r → R r) → R Conflict → R Loop → (c : Command) → Outcome R Any p (performed p c)
+outcome-of R p early k l (opening n) = opening-outcome R Any p early (λ m. tt) n
+outcome-of R p early k l (adding id level bytes) = adding-outcome R Any p early (λ q. tt) l id level bytes (λ e. k)
+outcome-of R p early k l (removing id) = removing-outcome R Any p early (λ q. tt) l id
+outcome-of R p early k l (touching f) = touching-outcome R Any p early (λ q. tt) l f
+outcome-of R p early k l planning = planning-outcome R Any p early (λ e. tt)
 
-    go : (c : Command) → Outcome R Any p (performed p c)
-    go (opening n) = opening-outcome R Any p (λ r h. tt) (λ m. tt) n
-    go (adding id level bytes) = adding-outcome R Any p (λ r h. tt) (λ q. tt) tt id level bytes (λ e. tt)
-    go (removing id) = removing-outcome R Any p (λ r h. tt) (λ q. tt) tt id
-    go (touching f) = touching-outcome R Any p (λ r h. tt) (λ q. tt) tt f
-    go planning = planning-outcome R Any p (λ r h. tt) (λ e. tt)
+pub refused-unchanged : RefusedUnchanged
+refused-unchanged p c = unchanged (λ r. Unit {0}) p (performed p c) (outcome-of (λ r. Unit {0}) p (λ r h. tt) tt tt c)
 
 -- a refusal of another number than n
 abbrev pub Not : ℕ → Refusal → Type 0

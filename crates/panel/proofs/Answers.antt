@@ -1,8 +1,8 @@
--- The numbers and values of an answer: how many there are, and that they tell its cases apart. A refusal is read back from its number
+-- The numbers and values of an answer: how many there are, and that they tell its cases apart. A refusal is read back from its number and values
 -- (`refusal-at`).
 use mathlib.Core.Path.{_≡_, refl, sym, ap, _∙_}
 use mathlib.Core.List.{List, [], _∷_}
-use Prim.Native.Nat.{ℕ, suc}
+use Prim.Native.Nat.{ℕ, _+_, _*_, _/_, _%_, _≤_}
 use native.Mathlib.Omega.{arith}
 use lib.ListN.{length, getD, drop}
 use Rattle.panel.specs.declared.Refusal.{Refusal}
@@ -11,15 +11,16 @@ use Rattle.panel.specs.declared.Reply.{Reply}
 use Rattle.panel.specs.declared.Reply.the-variants.{Accepted, Refused}
 use Rattle.panel.specs.Answers.{refusalBytes, replyBytes}
 
--- the refusal of a number
-abbrev pub refusalAt : ℕ → Refusal
-refusalAt n =
+-- the refusal of a number and values
+abbrev pub refusalAt : List ℕ → Refusal
+refusalAt b =
+    let badHex = BadHex (getD b 1 0 * 256 + getD b 2 0) in
     getD
-    (BadHex ∷ BadHex ∷ BadFrame ∷ AlreadyOpen ∷ NotOpen ∷ BadSize ∷ BadLink ∷ NoSuchField ∷ LinkTaken ∷ NoSuchLink ∷ Conflict ∷ Loop ∷ TextTooLong ∷ [])
-    n BadHex
+    (badHex ∷ badHex ∷ BadFrame ∷ AlreadyOpen ∷ NotOpen ∷ BadSize ∷ BadLink ∷ NoSuchField ∷ LinkTaken ∷ NoSuchLink ∷ Conflict ∷ Loop ∷ TextTooLong ∷ [])
+    (getD b 0 0) badHex
 
-pub refusal-at : (r : Refusal) → refusalAt (getD (refusalBytes r) 0 0) ≡ r
-refusal-at BadHex = refl
+pub refusal-at : (r : Refusal) → refusalAt (refusalBytes r) ≡ r
+refusal-at (BadHex n) = let e : n / 256 * 256 + n % 256 ≡ n = omega arith in ap BadHex e
 refusal-at BadFrame = refl
 refusal-at AlreadyOpen = refl
 refusal-at NotOpen = refl
@@ -32,28 +33,28 @@ refusal-at Conflict = refl
 refusal-at Loop = refl
 refusal-at TextTooLong = refl
 
--- a refusal has its number and no values
-refusal-one : (r : Refusal) → length (refusalBytes r) ≡ 1
-refusal-one BadHex = refl
-refusal-one BadFrame = refl
-refusal-one AlreadyOpen = refl
-refusal-one NotOpen = refl
-refusal-one BadSize = refl
-refusal-one BadLink = refl
-refusal-one NoSuchField = refl
-refusal-one LinkTaken = refl
-refusal-one NoSuchLink = refl
-refusal-one Conflict = refl
-refusal-one Loop = refl
-refusal-one TextTooLong = refl
+-- a refusal has its number and at most two values
+refusal-length : (r : Refusal) → (1 ≤ length (refusalBytes r)) × (length (refusalBytes r) ≤ 3)
+refusal-length (BadHex n) = (omega arith, omega arith)
+refusal-length BadFrame = (omega arith, omega arith)
+refusal-length AlreadyOpen = (omega arith, omega arith)
+refusal-length NotOpen = (omega arith, omega arith)
+refusal-length BadSize = (omega arith, omega arith)
+refusal-length BadLink = (omega arith, omega arith)
+refusal-length NoSuchField = (omega arith, omega arith)
+refusal-length LinkTaken = (omega arith, omega arith)
+refusal-length NoSuchLink = (omega arith, omega arith)
+refusal-length Conflict = (omega arith, omega arith)
+refusal-length Loop = (omega arith, omega arith)
+refusal-length TextTooLong = (omega arith, omega arith)
 
--- a reply has two bytes before a plan's rows
-pub reply-two : (r : Reply) → length (replyBytes r) ≡ 2
-reply-two (Accepted m) = refl
-reply-two (Refused r) = ap suc (refusal-one r)
+-- before a plan's rows a reply has two to four bytes
+pub reply-length : (r : Reply) → (2 ≤ length (replyBytes r)) × (length (replyBytes r) ≤ 4)
+reply-length (Accepted m) = (omega arith, omega arith)
+reply-length (Refused r) = let h = refusal-length r in (omega arith, omega arith)
 
 pub refusals-apart : (r s : Refusal) → refusalBytes r ≡ refusalBytes s → r ≡ s
-refusals-apart r s e = sym (refusal-at r) ∙ ap (λ (b : List ℕ). refusalAt (getD b 0 0)) e ∙ refusal-at s
+refusals-apart r s e = sym (refusal-at r) ∙ ap refusalAt e ∙ refusal-at s
 
 pub replies-apart : (r s : Reply) → replyBytes r ≡ replyBytes s → r ≡ s
 replies-apart (Accepted m) (Accepted n) e = cc

@@ -1,5 +1,5 @@
 -- Refusals and replies, by document 01's numbers.
-use Prim.Native.Nat.{ℕ, _*_}
+use Prim.Native.Nat.{ℕ, _*_, _/_, _%_}
 use mathlib.Core.Bool.{Bool}
 use mathlib.Core.List.{List, [], _∷_}
 use lib.Dec.{eqb}
@@ -10,9 +10,13 @@ use Rattle.panel.specs.declared.Refusal.the-variants.{BadHex, BadFrame, 
 use Rattle.panel.specs.declared.Reply.{Reply}
 use Rattle.panel.specs.declared.Reply.the-variants.{Accepted, Refused}
 
--- a refusal's number ("Who causes which refusal") and the values behind it, of which there are none
+-- a number in two bytes, "most significant first" (document 02, request 1)
+abbrev pub twoBytes : ℕ → List ℕ
+twoBytes n = n / 256 ∷ n % 256 ∷ []
+
+-- a refusal's number ("Who causes which refusal") and the values behind it: "FF 01 and two bytes .., the offset", and none for any other
 abbrev pub refusalBytes : Refusal → List ℕ
-refusalBytes BadHex = 1 ∷ []
+refusalBytes (BadHex offset) = 1 ∷ twoBytes offset
 refusalBytes BadFrame = 2 ∷ []
 refusalBytes AlreadyOpen = 3 ∷ []
 refusalBytes NotOpen = 4 ∷ []
@@ -25,7 +29,7 @@ refusalBytes Conflict = 10 ∷ []
 refusalBytes Loop = 11 ∷ []
 refusalBytes TextTooLong = 12 ∷ []
 
--- "Replies: 00 m (m the moved count); for a plan 00 n, ..; for a refusal FF and its number"
+-- "Replies: 00 m (m the moved count); for a plan 00 n, ..; for a refusal FF and its number", with its values
 abbrev pub replyBytes : Reply → List ℕ
 replyBytes (Accepted m) = 0x00 ∷ m ∷ []
 replyBytes (Refused r) = 0xFF ∷ refusalBytes r

@@ -46,7 +46,8 @@ pub struct Panel {
 
 // Why a line or a text is refused.
 pub enum Refusal {
-    BadHex,
+    // the offset in the line where it is wrong
+    BadHex(u16),
     BadFrame,
     AlreadyOpen,
     NotOpen,

@@ -1,17 +1,26 @@
 -- The bytes of a reply to a command.
-use Prim.Native.Nat.{ℕ, _+_, _*_}
+use Prim.Native.Nat.{ℕ, _+_, _-_, _*_}
 use mathlib.Core.List.{List, _++_}
-use lib.ListN.{take}
+use lib.ListN.{length, take, replicate}
 use Rattle.panel.specs.declared.Reply.{Reply}
 use Rattle.panel.specs.Answers.{replyBytes, planRest, rowsLength}
 use Rattle.frames.specs.declared.Command.{Command}
 use Rattle.frames.specs.declared.Command.the-variants.{Open, Add, Remove, Touch, Plan, Refused}
+use Rattle.replies.specs.declared.Head.{Head}
 
 -- the characters of the longest reply's line: a plan of 64 fields has 2 + 3 * 64 bytes, and the line an LF
 abbrev pub longest : ℕ
 longest = 2 * (2 + rowsLength) + 1
 
--- how many bytes the reply to a command has behind its first two
+-- the bytes of the longest head: FF, the number of BadHex and its offset
+abbrev pub headRoom : ℕ
+headRoom = 4
+
+-- a reply's head, at the start of a buffer of zeros
+abbrev pub headOf : List ℕ → Head
+headOf bytes = record { bytes = bytes ++ replicate (headRoom - length bytes) 0; len = length bytes }
+
+-- how many bytes the reply to a command has behind its head
 abbrev pub restOf : Command → Reply → ℕ
 restOf (Open n) reply = 0
 restOf (Add id level) reply = 0
@@ -20,6 +29,6 @@ restOf (Touch f) reply = 0
 restOf Plan reply = planRest reply
 restOf (Refused r) reply = 0
 
--- the reply to a command, for a plan with the first rows of the buffer
+-- the reply to a command: its head, and for a plan with the first rows of the buffer
 abbrev pub wholeReply : Command → Reply → List ℕ → List ℕ
 wholeReply command reply rows = replyBytes reply ++ take (restOf command reply) rows

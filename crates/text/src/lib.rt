@@ -61,10 +61,8 @@ pub fn put_tally(out: &mut [u8], at: usize, t: Tally) -> usize
     ensures { λ r. ⌜ r ≡ at + length (lineOf (tallyBytes t)) ⌝ }
 {
     let bytes = tally::tally_bytes(t);
-    let first = bytes[0];
-    let second = bytes[1];
     let all = &bytes[..tally::TALLY_BYTES];
-    writing::put_line(out, at, first, second, &all[2..])
+    writing::put_line(out, at, all, &all[tally::TALLY_BYTES..])
 }
 
 // A text's outcome, and the tally after it.

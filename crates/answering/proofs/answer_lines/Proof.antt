@@ -25,7 +25,7 @@ use Rattle.frames.specs.Frames.{numberOf, commandAnswer, lineAnswer}
 use Rattle.lines.proofs.Lines.{end-within, behind-on}
 use Rattle.panel.specs.Answers.{rowsLength}
 use Rattle.replies.specs.Replies.{restOf, wholeReply}
-use Rattle.replies.proofs.Replies.{rows-tell-none}
+use Rattle.replies.proofs.Replies.{rows-tell-none, reply-short}
 use Rattle.deciding.specs.Lines.{fieldBytesOf, LineStep}
 use Rattle.deciding.proofs.Arms.{performed-step, decided-step, framed}
 use Rattle.answering.proofs.LineAnswers.{answer-legal, did}
@@ -221,9 +221,10 @@ put-reply-requires : tie.Need-put-reply-requires Inv-loop μ-loop
 put-reply-requires c κs =
     let m = joined (c .before .before) in
     let l = looped (m .before) in
+    let d = stepped m in
     let few = ap (λ (k : Command). restOf k (m .match .step .reply)) (same-command m) in
-    let short = stepped m .rest in
-    (omega (arith, few, short, stepped m .rows-full), omega (arith, few, short, l .loop .inv .3 .fits, begin (l .before .before) .pre .1))
+    let short = reply-short (m .match .command) (m .match .step .reply) (m .match .rows) (d .rows-full) (omega (arith, few, d .rest)) in
+    (omega (arith, few, d .rest, d .rows-full), omega (arith, short, l .loop .inv .3 .fits, begin (l .before .before) .pre .1))
 
 -- the reply is written, and its refusal told
 abbrev step-taken : tie.After-put-reply Inv-loop μ-loop → tie.Joined2 Inv-loop μ-loop

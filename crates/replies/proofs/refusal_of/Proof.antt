@@ -1,5 +1,5 @@
--- `replies::refusal_of` meets its contract, by cases on the reply: an accepted one tells none (`accepted-tells`), a refused one the refusal's number
--- (`refused-tells`).
+-- `replies::refusal_of` meets its contract, by cases on the reply: an accepted one tells none (`accepted-tells`), a refused one the number in its
+-- head (`refused-tells`).
 use borrow.Author.Needs.{needs}
 use mathlib.Core.Path.{sym, ap, _∙_}
 use Rattle.panel.specs.declared.Reply.{Reply}
@@ -14,7 +14,10 @@ returns c = accepted-tells _ ∙ sym (ap (λ (r : Reply). refusalOf (replyBytes 
 
 returns-2 : tie.Need-returns-2
 returns-2 c =
-    refused-tells _ _ (c .refusal-number .ensures) ∙ sym (ap (λ (r : Reply). refusalOf (replyBytes r)) (c .before .before .reply .given .1))
+    let h = c .before in
+    let r = h .before .before .reply .given in
+    refused-tells _ (r .0 .0) (h .refusal-head .ensures) ∙ sym (ap (λ (r : Reply). refusalOf (replyBytes r)) (r .1))
 
 pub refusal-of-spec : {M : Type 1} → statement M
-refusal-of-spec = tie.close (tie.spec (λ c. search needs) (λ c. search needs) (λ c κs. search needs) returns returns-2)
+refusal-of-spec =
+    tie.close (tie.spec (λ c. search needs) (λ c. search needs) (λ c κs. search needs) (λ c. search needs) returns returns-2)

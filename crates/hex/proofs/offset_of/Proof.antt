@@ -1,13 +1,14 @@
--- `hex::are_digits` meets its contract. The loop's invariant is `Read`: the characters from `i` on decide; the measure is how many are left. A digit
--- takes the loop a character on (`read-more`), another character answers no (`read-other`), the end of the line yes (`read-end`). Assumes nothing.
+-- `hex::offset_of` meets its contract. The loop's invariant is `Read`: the characters from `i` on decide the offset; the measure is how many are left.
+-- A digit takes the loop a character on (`read-more`); at another character (`read-other`) and at the end of the line (`read-end`) `i` is the offset.
+-- Assumes nothing.
 use mathlib.Core.Path.{sym, ap, _∙_}
 use Prim.Native.Nat.{_-_}
 use borrow.Author.Needs.{needs}
 use lib.ListN.{length}
 use Rattle.hex.specs.Answers.{digitValues}
-use Rattle.hex.proofs.Digits.{Read, read-none, read-more, read-other, read-end}
-use Rattle.hex.proofs.are_digits.Statement.{statement}
-use Rattle.hex.proofs.are_digits.Tie as tie
+use Rattle.hex.proofs.Offsets.{Read, read-none, read-more, read-other, read-end}
+use Rattle.hex.proofs.offset_of.Statement.{statement}
+use Rattle.hex.proofs.offset_of.Tie as tie
 
 abbrev Inv-loop : tie.InvT-loop
 Inv-loop s i₀ i = Read s i
@@ -40,8 +41,8 @@ loop-again c =
 returns-2 : tie.Need-returns-2 Inv-loop μ-loop
 returns-2 c = read-end _ _ (c .before .loop .inv) (c .loop-test .left)
 
-pub are-digits-spec : {M : Type 1} → statement M
-are-digits-spec =
+pub offset-of-spec : {M : Type 1} → statement M
+offset-of-spec =
     tie.close
     (tie.spec
     Inv-loop
