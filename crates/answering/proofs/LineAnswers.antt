@@ -41,5 +41,5 @@ pub did : (q : Panel) (line : List ℕ) (c : Command) (fields : List ℕ) → co
 did q line c fields read k path rows s d p e h = record {
   is = ap₂ (λ (x : Panel) (y : List ℕ). record { state = x; reply = y }) e (d .reply) ∙ line-answer q line c fields read;
   legal = h;
-  short = reply-short c (s .reply) rows (d .rows-full) (d .rest);
+  short = reply-short c (s .reply) rows (d .rest);
 }

@@ -34,7 +34,7 @@ refusal-at Loop = refl
 refusal-at TextTooLong = refl
 
 -- a refusal has its number and at most two values
-refusal-length : (r : Refusal) → (1 ≤ length (refusalBytes r)) × (length (refusalBytes r) ≤ 3)
+pub refusal-length : (r : Refusal) → (1 ≤ length (refusalBytes r)) × (length (refusalBytes r) ≤ 3)
 refusal-length (BadHex n) = (omega arith, omega arith)
 refusal-length BadFrame = (omega arith, omega arith)
 refusal-length AlreadyOpen = (omega arith, omega arith)
@@ -48,10 +48,10 @@ refusal-length Conflict = (omega arith, omega arith)
 refusal-length Loop = (omega arith, omega arith)
 refusal-length TextTooLong = (omega arith, omega arith)
 
--- before a plan's rows a reply has two to four bytes
-pub reply-length : (r : Reply) → (2 ≤ length (replyBytes r)) × (length (replyBytes r) ≤ 4)
-reply-length (Accepted m) = (omega arith, omega arith)
-reply-length (Refused r) = let h = refusal-length r in (omega arith, omega arith)
+-- a reply's first two bytes are there
+pub reply-two : (r : Reply) → 2 ≤ length (replyBytes r)
+reply-two (Accepted m) = omega arith
+reply-two (Refused r) = omega (arith, refusal-length r .0)
 
 pub refusals-apart : (r s : Refusal) → refusalBytes r ≡ refusalBytes s → r ≡ s
 refusals-apart r s e = sym (refusal-at r) ∙ ap refusalAt e ∙ refusal-at s

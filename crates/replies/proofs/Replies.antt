@@ -1,70 +1,80 @@
--- Replies: the refusal that one tells stands in its first two bytes, so what follows its head tells none; only a plan has more than a head; and no
--- line of a reply is longer than the longest, since a plan has at most 64 rows. By cases and by lengths. Assumes nothing.
+-- Replies: the refusal that one tells stands in its first two bytes, so what follows them tells none; only a plan has rows; and no line of a reply is
+-- longer than the longest, since a plan has at most 64 rows. By cases and by lengths. Assumes nothing.
 use mathlib.Core.Path.{_≡_, refl, sym, ap, ap₂, _∙_}
 use mathlib.Core.Bool.{cond}
 use mathlib.Core.Logic.{_⊎_, ⊎-elim}
-use mathlib.Core.List.{List, [], _∷_, _++_}
-use Prim.Native.Nat.{ℕ, _+_, _-_, _*_, _≤_}
+use mathlib.Core.List.{List, [], _∷_, _++_, append-nil}
+use Prim.Native.Nat.{ℕ, _-_, _≤_}
 use native.Mathlib.Omega.{arith}
 use denote.Enum.Declared.{tagOf}
 use lib.Dec.{eqb}
-use lib.ListN.{length, getD, take, replicate, length-take, length-append, List·getD-append}
-use lib.Seq.{take-at}
+use lib.ListN.{length, getD, take, drop, replicate, length-take, length-append, List·getD-append}
+use lib.Seq.{take-at, take-all}
 use Rattle.panel.specs.declared.Refusal.{Refusal}
 use Rattle.panel.specs.declared.Reply.{Reply}
 use Rattle.panel.specs.declared.Reply.the-variants.{Accepted, Refused as Refusing}
 use Rattle.panel.specs.Answers.{refusalBytes, replyBytes, rowsLength}
-use Rattle.panel.proofs.Answers.{reply-length}
+use Rattle.panel.proofs.Answers.{refusal-length, reply-two}
 use Rattle.hex.specs.Hex.{lineOf}
 use Rattle.hex.proofs.Bytes.{length-line}
 use Rattle.frames.specs.declared.Command.{Command}
 use Rattle.frames.specs.declared.Command.the-variants.{Open, Add, Remove, Touch, Plan, Refused}
 use Rattle.frames.proofs.Command.{the-type}
 use Rattle.frames.specs.Texts.{refusalOf}
-use Rattle.replies.specs.declared.Head.{Head}
-use Rattle.replies.specs.Replies.{longest, headRoom, headOf, restOf, wholeReply}
+use Rattle.replies.specs.declared.RefusalBytes.{RefusalBytes}
+use Rattle.replies.specs.Replies.{longest, refusalRoom, buffered, restOf, wholeReply}
 
--- ---- heads
+-- ---- refusals
 
--- the head of a refusal is that of the case that it is
-pub is-head : (r s : Refusal) (h : Head) → r ≡ s → h ≡ headOf (0xFF ∷ refusalBytes s) → h ≡ headOf (0xFF ∷ refusalBytes r)
-is-head r s h e k = k ∙ ap (λ (x : Refusal). headOf (0xFF ∷ refusalBytes x)) (sym e)
+-- the bytes of a refusal are those of the case that it is
+pub is-case : (r s : Refusal) (b : RefusalBytes) → r ≡ s → b ≡ buffered (refusalBytes s) → b ≡ buffered (refusalBytes r)
+is-case r s b e k = k ∙ ap (λ (x : Refusal). buffered (refusalBytes x)) (sym e)
 
--- the bytes of a head that count
-pub head-bytes : (h : Head) (bytes : List ℕ) → h ≡ headOf bytes → take (h .len) (h .bytes) ≡ bytes
-head-bytes h bytes e =
-    ap (λ (x : Head). take (x .len) (x .bytes)) e ∙ take-at bytes (replicate (headRoom - length bytes) 0) (length bytes) refl
+-- bytes, in the parts that are written
+parts : (l : List ℕ) → 1 ≤ length l → getD l 0 0 ∷ take (length l - 1) (drop 1 l) ≡ l
+parts [] h = absurd (omega arith)
+parts (x ∷ l) h = ap (λ (t : List ℕ). x ∷ t) (take-all (length (x ∷ l) - 1) l (omega arith))
 
--- and how many there are, in a buffer that has room for them
-pub head-length : (h : Head) (r : Reply) → h ≡ headOf (replyBytes r) → (h .len ≡ length (replyBytes r)) × (h .len ≤ length (h .bytes))
-head-length h r e =
-    let b : List ℕ = replyBytes r in
-    let zeros : List ℕ = replicate (headRoom - length b) 0 in
-    let len : h .len ≡ length b = ap (λ (x : Head). x .len) e in
-    let bytes : length (h .bytes) ≡ length (b ++ zeros) = ap (λ (x : Head). length (x .bytes)) e in
-    (len, omega (arith, length-append b zeros))
+module _ (r : Refusal) (b : RefusalBytes) (e : b ≡ buffered (refusalBytes r)) where
+  abbrev zeros : List ℕ
+  zeros = replicate (refusalRoom - length (refusalBytes r)) 0
 
--- ---- the refusal that a reply tells
+  -- they are in the buffer
+  pub refusal-within : b .len ≤ length (b .bytes)
+  refusal-within =
+      let len : b .len ≡ length (refusalBytes r) = ap (λ (x : RefusalBytes). x .len) e in
+      let room : length (b .bytes) ≡ length (refusalBytes r ++ zeros) = ap (λ (x : RefusalBytes). length (x .bytes)) e in
+      omega (arith, length-append (refusalBytes r) zeros)
+
+  pub refusal-all : take (b .len) (b .bytes) ≡ refusalBytes r
+  refusal-all =
+      ap (λ (x : RefusalBytes). take (x .len) (x .bytes)) e ∙ take-at (refusalBytes r) zeros (length (refusalBytes r)) refl
+
+  refusal-number : getD (b .bytes) 0 0 ≡ getD (refusalBytes r) 0 0
+  refusal-number =
+      ap (λ (x : RefusalBytes). getD (x .bytes) 0 0) e ∙ List·getD-append (refusalBytes r) zeros 0 0 (refusal-length r .0)
+
+  -- the number, and the values behind it
+  pub refusal-parts : let all = take (b .len) (b .bytes) in getD (b .bytes) 0 0 ∷ take (length all - 1) (drop 1 all) ≡ refusalBytes r
+  refusal-parts =
+      ap₂ (λ (n : ℕ) (l : List ℕ). n ∷ take (length l - 1) (drop 1 l)) refusal-number refusal-all ∙ parts (refusalBytes r) (refusal-length r .0)
+
+  pub refused-tells : getD (b .bytes) 0 0 ≡ refusalOf (0xFF ∷ refusalBytes r)
+  unfolding refusalOf
+  refused-tells = refusal-number
 
 pub accepted-tells : (m : ℕ) → 0 ≡ refusalOf (0x00 ∷ m ∷ [])
 unfolding refusalOf
 accepted-tells m = refl
 
-pub refused-tells : (h : Head) (r : Refusal) → h ≡ headOf (0xFF ∷ refusalBytes r) → getD (h .bytes) 1 0 ≡ refusalOf (0xFF ∷ refusalBytes r)
-unfolding refusalOf
-refused-tells h r e =
-    let b : List ℕ = 0xFF ∷ refusalBytes r in
-    ap (λ (x : Head). getD (x .bytes) 1 0) e ∙ List·getD-append b (replicate (headRoom - length b) 0) 0 1 (reply-length (Refusing r) .0)
-
--- what stands behind its head tells none
+-- what stands behind its first two bytes tells none
 pub rows-tell-none : (c : Command) (r : Reply) (rows : List ℕ) → refusalOf (replyBytes r) ≡ refusalOf (wholeReply c r rows)
 unfolding refusalOf
 rows-tell-none c r rows =
     let rest : List ℕ = take (restOf c r) rows in
-    let two = reply-length r .0 in
     ap₂ (λ (x : ℕ) (y : ℕ). cond (eqb x 0xFF) y 0)
-    (sym (List·getD-append (replyBytes r) rest 0 0 (omega arith)))
-    (sym (List·getD-append (replyBytes r) rest 0 1 two))
+    (sym (List·getD-append (replyBytes r) rest 0 0 (omega (arith, reply-two r))))
+    (sym (List·getD-append (replyBytes r) rest 0 1 (reply-two r)))
 
 -- ---- the rows
 
@@ -88,15 +98,18 @@ refused-rest (Touch f) x = refl
 refused-rest Plan x = refl
 refused-rest (Refused y) x = refl
 
--- the length of a reply's line
-pub line-length : (c : Command) (r : Reply) (rows : List ℕ) → restOf c r ≤ length rows
-    → length (lineOf (wholeReply c r rows)) ≡ 2 * length (replyBytes r) + 2 * restOf c r + 1
-line-length c r rows h =
-    omega (arith, length-line (wholeReply c r rows), length-append (replyBytes r) (take (restOf c r) rows), length-take (restOf c r) rows)
+-- the whole reply, by its cases
+pub accepted-whole : (c : Command) (r : Reply) (m : ℕ) (rows : List ℕ) → r ≡ Accepted m → 0x00 ∷ m ∷ take (restOf c r) rows ≡ wholeReply c r rows
+accepted-whole c r m rows e = ap (λ (x : Reply). replyBytes x ++ take (restOf c r) rows) (sym e)
 
--- no line is longer than the longest, since a reply with more than two bytes before the rows is a refusal and has no rows
-pub reply-short : (c : Command) (r : Reply) (rows : List ℕ) → length rows ≡ rowsLength → restOf c r ≤ rowsLength
-    → length (lineOf (wholeReply c r rows)) ≤ longest
-reply-short c (Accepted m) rows full h = omega (arith, line-length c (Accepted m) rows (omega arith))
-reply-short c (Refusing x) rows full h =
-    omega (arith, line-length c (Refusing x) rows (omega arith), refused-rest c x, reply-length (Refusing x) .1)
+pub refused-whole : (c : Command) (r : Reply) (x : Refusal) (rows : List ℕ) → r ≡ Refusing x → 0xFF ∷ refusalBytes x ≡ wholeReply c r rows
+refused-whole c r x rows e =
+    sym (ap (λ (r : Reply). wholeReply c r rows) e ∙ ap (λ (n : ℕ). 0xFF ∷ refusalBytes x ++ take n rows) (refused-rest c x)
+    ∙ append-nil (0xFF ∷ refusalBytes x))
+
+-- no line is longer than the longest: a refusal has at most four bytes, and anything else two and the rows
+pub reply-short : (c : Command) (r : Reply) (rows : List ℕ) → restOf c r ≤ rowsLength → length (lineOf (wholeReply c r rows)) ≤ longest
+reply-short c (Accepted m) rows h =
+    omega (arith, length-line (wholeReply c (Accepted m) rows), length-take (restOf c (Accepted m)) rows)
+reply-short c (Refusing x) rows h =
+    omega (arith, ap (λ (b : List ℕ). length (lineOf b)) (refused-whole c (Refusing x) x rows refl), length-line (0xFF ∷ refusalBytes x), refusal-length x .1)

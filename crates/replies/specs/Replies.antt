@@ -6,21 +6,21 @@ use Rattle.panel.specs.declared.Reply.{Reply}
 use Rattle.panel.specs.Answers.{replyBytes, planRest, rowsLength}
 use Rattle.frames.specs.declared.Command.{Command}
 use Rattle.frames.specs.declared.Command.the-variants.{Open, Add, Remove, Touch, Plan, Refused}
-use Rattle.replies.specs.declared.Head.{Head}
+use Rattle.replies.specs.declared.RefusalBytes.{RefusalBytes}
 
 -- the characters of the longest reply's line: a plan of 64 fields has 2 + 3 * 64 bytes, and the line an LF
 abbrev pub longest : ℕ
 longest = 2 * (2 + rowsLength) + 1
 
--- the bytes of the longest head: FF, the number of BadHex and its offset
-abbrev pub headRoom : ℕ
-headRoom = 4
+-- the most bytes that a refusal has: the number of BadHex and its offset
+abbrev pub refusalRoom : ℕ
+refusalRoom = 3
 
--- a reply's head, at the start of a buffer of zeros
-abbrev pub headOf : List ℕ → Head
-headOf bytes = record { bytes = bytes ++ replicate (headRoom - length bytes) 0; len = length bytes }
+-- the bytes of a refusal, at the start of a buffer of zeros
+abbrev pub buffered : List ℕ → RefusalBytes
+buffered bytes = record { bytes = bytes ++ replicate (refusalRoom - length bytes) 0; len = length bytes }
 
--- how many bytes the reply to a command has behind its head
+-- how many bytes the reply to a command has behind those of every reply
 abbrev pub restOf : Command → Reply → ℕ
 restOf (Open n) reply = 0
 restOf (Add id level) reply = 0
@@ -29,6 +29,6 @@ restOf (Touch f) reply = 0
 restOf Plan reply = planRest reply
 restOf (Refused r) reply = 0
 
--- the reply to a command: its head, and for a plan with the first rows of the buffer
+-- the reply to a command, for a plan with the first rows of the buffer
 abbrev pub wholeReply : Command → Reply → List ℕ → List ℕ
 wholeReply command reply rows = replyBytes reply ++ take (restOf command reply) rows

@@ -9,73 +9,62 @@ ghost use mathlib.Core.List.{[], _∷_};
 ghost use Prim.Native.Nat.{_+_, _*_, _^_, _≤_, _<_};
 ghost use lib.ListN.{length};
 ghost use lib.Seq.{sets};
-ghost use Rattle.panel.specs.declared.Refusal.the-variants.{BadHex};
-ghost use Rattle.panel.specs.Answers.{refusalBytes, replyBytes, planRest};
+ghost use Rattle.panel.specs.Answers.{twoBytes, refusalBytes, replyBytes, planRest};
 ghost use Rattle.hex.specs.Hex.{lineOf};
 ghost use Rattle.frames.specs.Texts.{refusalOf};
-ghost use Rattle.replies.specs.Replies.{headOf, restOf, wholeReply};
+ghost use Rattle.replies.specs.Replies.{buffered, restOf, wholeReply};
 
 // The characters of the longest reply's line: a plan of 64 fields has 2 + 3 * 64 bytes, and the line an LF.
 pub const LONGEST: usize = 2 * (2 + ROWS) + 1;
 
-// The bytes of the longest head: FF, the number of BadHex and its offset.
-const HEAD_ROOM: usize = 4;
+// The most bytes that a refusal has: the number of BadHex and its offset.
+const REFUSAL_ROOM: usize = 3;
 
-// A reply's head, all but a plan's rows: its bytes, and how many of them count.
-struct Head {
-    bytes: [u8; HEAD_ROOM],
+// A refusal's bytes, its number and the values behind it, and how many they are.
+struct RefusalBytes {
+    bytes: [u8; REFUSAL_ROOM],
     len: usize,
 }
 
-// A head of two bytes.
-fn two(a: u8, b: u8) -> Head
-    ensures { λ h. ⌜ h ≡ headOf (a ∷ b ∷ []) ⌝ }
+// A number alone.
+fn number(n: u8) -> RefusalBytes
+    ensures { λ b. ⌜ b ≡ buffered (n ∷ []) ⌝ }
 {
-    let bytes = [a, b, 0, 0];
-    Head {
+    let bytes = [n, 0, 0];
+    RefusalBytes {
         bytes: bytes,
-        len: 2,
+        len: 1,
     }
 }
 
-// The head of a BadHex: its number and the offset, most significant byte first.
-fn bad_hex(offset: u16) -> Head
-    ensures { λ h. ⌜ h ≡ headOf (0xFF ∷ refusalBytes (BadHex offset)) ⌝ }
+// A number and an offset, most significant byte first.
+fn number_and_offset(n: u8, offset: u16) -> RefusalBytes
+    ensures { λ b. ⌜ b ≡ buffered (n ∷ twoBytes offset) ⌝ }
 {
-    let bytes = [0xFF, 1, (offset / 256) as u8, (offset % 256) as u8];
-    Head {
+    let bytes = [n, (offset / 256) as u8, (offset % 256) as u8];
+    RefusalBytes {
         bytes: bytes,
-        len: 4,
+        len: 3,
     }
 }
 
-// FF, a refusal's number, and the values behind it.
-fn refusal_head(r: Refusal) -> Head
-    ensures { λ h. ⌜ h ≡ headOf (0xFF ∷ refusalBytes r) ⌝ }
+// The bytes of a refusal.
+fn refusal_bytes(r: Refusal) -> RefusalBytes
+    ensures { λ b. ⌜ b ≡ buffered (refusalBytes r) ⌝ }
 {
     match r {
-        Refusal::BadHex(offset) => bad_hex(offset),
-        Refusal::BadFrame => two(0xFF, 2),
-        Refusal::AlreadyOpen => two(0xFF, 3),
-        Refusal::NotOpen => two(0xFF, 4),
-        Refusal::BadSize => two(0xFF, 5),
-        Refusal::BadLink => two(0xFF, 6),
-        Refusal::NoSuchField => two(0xFF, 7),
-        Refusal::LinkTaken => two(0xFF, 8),
-        Refusal::NoSuchLink => two(0xFF, 9),
-        Refusal::Conflict => two(0xFF, 10),
-        Refusal::Loop => two(0xFF, 11),
-        Refusal::TextTooLong => two(0xFF, 12),
-    }
-}
-
-// 00 and the count, or the refusal.
-fn reply_head(reply: Reply) -> Head
-    ensures { λ h. ⌜ h ≡ headOf (replyBytes reply) ⌝ }
-{
-    match reply {
-        Reply::Accepted(m) => two(0x00, m),
-        Reply::Refused(r) => refusal_head(r),
+        Refusal::BadHex(offset) => number_and_offset(1, offset),
+        Refusal::BadFrame => number(2),
+        Refusal::AlreadyOpen => number(3),
+        Refusal::NotOpen => number(4),
+        Refusal::BadSize => number(5),
+        Refusal::BadLink => number(6),
+        Refusal::NoSuchField => number(7),
+        Refusal::LinkTaken => number(8),
+        Refusal::NoSuchLink => number(9),
+        Refusal::Conflict => number(10),
+        Refusal::Loop => number(11),
+        Refusal::TextTooLong => number(12),
     }
 }
 
@@ -86,9 +75,9 @@ pub fn refusal_of(reply: Reply) -> u8
     match reply {
         Reply::Accepted(_) => 0,
         Reply::Refused(r) => {
-            let head = refusal_head(r);
-            let bytes = head.bytes;
-            bytes[1]
+            let told = refusal_bytes(r);
+            let bytes = told.bytes;
+            bytes[0]
         }
     }
 }
@@ -103,7 +92,7 @@ fn rows_of(reply: Reply) -> usize
     }
 }
 
-// How many bytes the reply to a command has behind its head: three for each field of a plan.
+// How many bytes the reply to a command has behind those of every reply: three for each field of a plan.
 fn rest_of(command: Command, reply: Reply) -> usize
     ensures { λ r. ⌜ r ≡ restOf command reply ⌝ }
 {
@@ -113,15 +102,31 @@ fn rest_of(command: Command, reply: Reply) -> usize
     }
 }
 
+// The line of a refusal at a position, as far as it fits; the position behind it.
+pub fn put_refusal(out: &mut [u8], at: usize, r: Refusal) -> usize
+    requires { ⌜ at + length (lineOf (0xFF ∷ refusalBytes r)) < 2 ^ 64 ⌝ }
+    ensures { λ n. ⌜ now (out .exit) ≡ sets (now (out .entry)) at (lineOf (0xFF ∷ refusalBytes r)) ⌝ }
+    ensures { λ n. ⌜ n ≡ at + length (lineOf (0xFF ∷ refusalBytes r)) ⌝ }
+{
+    let told = refusal_bytes(r);
+    let bytes = told.bytes;
+    let number = bytes[0];
+    let len = told.len;
+    let all = &bytes[..len];
+    writing::put_line(out, at, 0xFF, number, &all[1..])
+}
+
 // The line of the reply to a command at a position, as far as it fits; the position behind it.
 pub fn put_reply(out: &mut [u8], at: usize, command: Command, reply: Reply, rows: &[u8]) -> usize
     requires { ⌜ (restOf command reply ≤ length (now rows)) × (at + length (lineOf (wholeReply command reply (now rows))) < 2 ^ 64) ⌝ }
     ensures { λ r. ⌜ now (out .exit) ≡ sets (now (out .entry)) at (lineOf (wholeReply command reply (now (rows .entry)))) ⌝ }
     ensures { λ r. ⌜ r ≡ at + length (lineOf (wholeReply command reply (now (rows .entry)))) ⌝ }
 {
-    let count = rest_of(command, reply);
-    let head = reply_head(reply);
-    let bytes = head.bytes;
-    let len = head.len;
-    writing::put_line(out, at, &bytes[..len], &rows[..count])
+    match reply {
+        Reply::Accepted(m) => {
+            let count = rest_of(command, reply);
+            writing::put_line(out, at, 0x00, m, &rows[..count])
+        }
+        Reply::Refused(r) => put_refusal(out, at, r),
+    }
 }

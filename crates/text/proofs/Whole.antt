@@ -7,7 +7,7 @@ use mathlib.Core.List.{List, [], _∷_, _++_}
 use native.Mathlib.Decide.{decLt}
 use Prim.Native.Nat.{ℕ, _+_, _-_, _*_, _≤_, _<_}
 use native.Mathlib.Omega.{arith}
-use lib.ListN.{length, take, drop, length-append, length-drop}
+use lib.ListN.{length, getD, take, drop, length-append, length-drop}
 use lib.Seq.{sets, take-all}
 use Rattle.hex.specs.Hex.{lineOf}
 use Rattle.fieldset.proofs.Tables.{sets-append}
@@ -22,9 +22,9 @@ use Rattle.text.specs.declared.Outcome.the-variants.{Length, TextTooLong
 use Rattle.text.specs.Outcomes.{wholeOutput, outcomeOf, bufferAfter, tallyAtEnd, Told}
 
 -- the tally's bytes in the parts that are written
-pub tally-parts : (b : List ℕ) (t : Tally) → b ≡ tallyBytes t → b ++ take (length b - 11) (drop 11 b) ≡ tallyBytes t
+pub tally-parts : (b : List ℕ) (t : Tally) → b ≡ tallyBytes t → getD b 0 0 ∷ getD b 1 0 ∷ take (length b - 2) (drop 2 b) ≡ tallyBytes t
 unfolding tallyBytes threeBytes
-tally-parts b t e = ap (λ (x : List ℕ). x ++ take (length x - 11) (drop 11 x)) e
+tally-parts b t e = ap (λ (x : List ℕ). getD x 0 0 ∷ getD x 1 0 ∷ take (length x - 2) (drop 2 x)) e
 
 module _ {S : Type 0} (answer : LineAnswer S) (Legal : S → Type 0) where
   -- with room for all of the lines none is left

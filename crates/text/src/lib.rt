@@ -1,10 +1,8 @@
 // The operations on a whole text.
 use answering::answer_lines;
-use frames::Command;
 use panel::Refusal;
-use panel::Reply;
 use replies::LONGEST;
-use replies::put_reply;
+use replies::put_refusal;
 use tally::Tally;
 ghost use mathlib.Core.Path.{_≡_};
 ghost use Prim.Native.Nat.{_+_, _^_, _<_};
@@ -44,14 +42,7 @@ pub fn put_too_long(out: &mut [u8]) -> usize
     ensures { λ r. ⌜ now (out .exit) ≡ sets (now (out .entry)) 0 (lineOf (0xFF ∷ refusalBytes TooLong)) ⌝ }
     ensures { λ r. ⌜ r ≡ length (lineOf (0xFF ∷ refusalBytes TooLong)) ⌝ }
 {
-    let rows = [0u8; 1];
-    put_reply(
-        out,
-        0,
-        Command::Refused(Refusal::TextTooLong),
-        Reply::Refused(Refusal::TextTooLong),
-        &rows[..0],
-    )
+    put_refusal(out, 0, Refusal::TextTooLong)
 }
 
 // The tally's line at a position, as far as it fits; the position behind it.
@@ -61,8 +52,10 @@ pub fn put_tally(out: &mut [u8], at: usize, t: Tally) -> usize
     ensures { λ r. ⌜ r ≡ at + length (lineOf (tallyBytes t)) ⌝ }
 {
     let bytes = tally::tally_bytes(t);
+    let first = bytes[0];
+    let second = bytes[1];
     let all = &bytes[..tally::TALLY_BYTES];
-    writing::put_line(out, at, all, &all[tally::TALLY_BYTES..])
+    writing::put_line(out, at, first, second, &all[2..])
 }
 
 // A text's outcome, and the tally after it.

@@ -4,7 +4,7 @@ use mathlib.Core.List.{List, [], _∷_, _++_}
 use Prim.Native.Nat.{ℕ, _+_, _*_, _/_, _%_, _≤_, _<_}
 use native.Mathlib.Numerals.{add-one}
 use native.Mathlib.Omega.{arith}
-use lib.ListN.{length, getD, take, set, length-take, length-append}
+use lib.ListN.{length, getD, take, set, length-take}
 use lib.Seq.{sets, take-suc, take-all}
 use Rattle.fieldset.proofs.Tables.{sets-append}
 use Rattle.hex.specs.Hex.{charOf, hexOf, lineOf}
@@ -48,19 +48,26 @@ written-more bytes o q after p i was less e = record { within = omega arith; dig
 pub written-all : (bytes o after : List ℕ) (p i : ℕ) → Written bytes o after p i → length bytes ≤ i → after ≡ sets o p (hexOf bytes)
 written-all bytes o after p i was end = was .digits ∙ ap (λ (l : List ℕ). sets o p (hexOf l)) (take-all i bytes end)
 
--- a whole line: bytes, further ones, LF
-pub line-put : (head rest o o₁ o₂ o₃ : List ℕ) (at : ℕ)
-    → o₁ ≡ sets o at (hexOf head) → o₂ ≡ sets o₁ (at + 2 * length head) (hexOf rest) → o₃ ≡ set o₂ (at + 2 * length head + 2 * length rest) 10
-    → (o₃ ≡ sets o at (lineOf (head ++ rest))) × (at + 2 * length head + 2 * length rest + 1 ≡ at + length (lineOf (head ++ rest)))
-unfolding lineOf
-line-put head rest o o₁ o₂ o₃ at e₁ e₂ e₃ =
-    let both : List ℕ = hexOf (head ++ rest) in
-    let middle : at + 2 * length head ≡ at + length (hexOf head) = omega (arith, length-hex head) in
-    let end : at + 2 * length head + 2 * length rest ≡ at + length both = omega (arith, length-hex (head ++ rest), length-append head rest) in
-    let bytes : o₂ ≡ sets o at both =
-    e₂ ∙ ap₂ (λ (l : List ℕ) (k : ℕ). sets l k (hexOf rest)) e₁ middle ∙ sets-append o at (hexOf head) (hexOf rest)
-    ∙ ap (sets o at) (sym (hex-append head rest))
-    in (
-      e₃ ∙ ap₂ (λ (l : List ℕ) (k : ℕ). set l k 10) bytes end ∙ sets-append o at both (10 ∷ []),
-      omega (arith, length-line (head ++ rest), length-append head rest),
-    )
+-- a whole line: two bytes, further ones, LF
+line-done : (o : List ℕ) (at a b : ℕ) (r : List ℕ)
+    → set (sets (sets (sets o at (hexOf (a ∷ []))) (at + 2) (hexOf (b ∷ []))) (at + 4) (hexOf r)) (at + 4 + 2 * length r) 10
+    ≡ sets o at (lineOf (a ∷ b ∷ r))
+unfolding lineOf hexOf
+line-done o at a b r =
+    let q : List ℕ = sets (sets o at (hexOf (a ∷ []))) (at + 2) (hexOf (b ∷ [])) in
+    let e : at + 4 + 2 * length r ≡ at + 4 + length (hexOf r) = omega (arith, length-hex r) in
+    ap (λ (k : ℕ). set (sets q (at + 4) (hexOf r)) k 10) e
+    ∙ sets-append q (at + 4) (hexOf r) (10 ∷ [])
+    ∙ ap (λ (t : List ℕ). sets t (at + 4) (hexOf r ++ (10 ∷ []))) (sets-append o at (hexOf (a ∷ [])) (hexOf (b ∷ [])))
+    ∙ sets-append o at (hexOf (a ∷ b ∷ [])) (hexOf r ++ (10 ∷ []))
+
+pub line-put : (rest o o₁ o₂ o₃ o₄ : List ℕ) (at a b : ℕ)
+    → o₁ ≡ sets o at (hexOf (a ∷ [])) → o₂ ≡ sets o₁ (at + 2) (hexOf (b ∷ [])) → o₃ ≡ sets o₂ (at + 4) (hexOf rest)
+    → o₄ ≡ set o₃ (at + 4 + 2 * length rest) 10
+    → (o₄ ≡ sets o at (lineOf (a ∷ b ∷ rest))) × (at + 5 + 2 * length rest ≡ at + length (lineOf (a ∷ b ∷ rest)))
+line-put rest o o₁ o₂ o₃ o₄ at a b e₁ e₂ e₃ e₄ = (
+  e₄ ∙ ap (λ (l : List ℕ). set l (at + 4 + 2 * length rest) 10) (e₃ ∙ ap (λ (l : List ℕ). sets l (at + 4) (hexOf rest))
+      (e₂ ∙ ap (λ (l : List ℕ). sets l (at + 2) (hexOf (b ∷ []))) e₁))
+      ∙ line-done o at a b rest,
+  omega (arith, length-line (a ∷ b ∷ rest)),
+)

@@ -1,6 +1,6 @@
 // Bytes written as lines of hexadecimal, as far as they fit a buffer.
 ghost use mathlib.Core.Path.{_≡_};
-ghost use mathlib.Core.List.{_∷_, [], _++_};
+ghost use mathlib.Core.List.{_∷_, []};
 ghost use Prim.Native.Nat.{_+_, _*_, _/_, _%_, _^_, _<_, _≤_};
 ghost use lib.ListN.{length, set};
 ghost use lib.Seq.{sets};
@@ -75,16 +75,16 @@ fn put_bytes(out: &mut [u8], at: usize, bytes: &[u8])
     }
 }
 
-// Bytes and further ones as one line, with its LF, at a position, as far as it fits; the position behind it.
-pub fn put_line(out: &mut [u8], at: usize, head: &[u8], rest: &[u8]) -> usize
-    requires { ⌜ at + 2 * length (now head) + 2 * length (now rest) + 1 < 2 ^ 64 ⌝ }
-    ensures { λ r. ⌜ now (out .exit) ≡ sets (now (out .entry)) at (lineOf (now (head .entry) ++ now (rest .entry))) ⌝ }
-    ensures { λ r. ⌜ r ≡ at + length (lineOf (now (head .entry) ++ now (rest .entry))) ⌝ }
+// Two bytes and further ones as a line, with its LF, at a position, as far as it fits; the position behind it.
+pub fn put_line(out: &mut [u8], at: usize, a: u8, b: u8, rest: &[u8]) -> usize
+    requires { ⌜ at + 5 + 2 * length (now rest) < 2 ^ 64 ⌝ }
+    ensures { λ r. ⌜ now (out .exit) ≡ sets (now (out .entry)) at (lineOf (a ∷ b ∷ now (rest .entry))) ⌝ }
+    ensures { λ r. ⌜ r ≡ at + length (lineOf (a ∷ b ∷ now (rest .entry))) ⌝ }
 {
-    let middle = at + 2 * head.len();
-    let end = middle + 2 * rest.len();
-    put_bytes(out, at, head);
-    put_bytes(out, middle, rest);
-    store(out, end, b'\n');
-    end + 1
+    let n = rest.len();
+    put(out, at, a);
+    put(out, at + 2, b);
+    put_bytes(out, at + 4, rest);
+    store(out, at + 4 + 2 * n, b'\n');
+    at + 5 + 2 * n
 }

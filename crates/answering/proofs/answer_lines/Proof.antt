@@ -223,7 +223,7 @@ put-reply-requires c κs =
     let l = looped (m .before) in
     let d = stepped m in
     let few = ap (λ (k : Command). restOf k (m .match .step .reply)) (same-command m) in
-    let short = reply-short (m .match .command) (m .match .step .reply) (m .match .rows) (d .rows-full) (omega (arith, few, d .rest)) in
+    let short = reply-short (m .match .command) (m .match .step .reply) (m .match .rows) (omega (arith, few, d .rest)) in
     (omega (arith, few, d .rest, d .rows-full), omega (arith, short, l .loop .inv .3 .fits, begin (l .before .before) .pre .1))
 
 -- the reply is written, and its refusal told

@@ -1,5 +1,5 @@
--- `replies::refusal_of` meets its contract, by cases on the reply: an accepted one tells none (`accepted-tells`), a refused one the number in its
--- head (`refused-tells`).
+-- `replies::refusal_of` meets its contract, by cases on the reply: an accepted one tells none (`accepted-tells`), a refused one its number
+-- (`refused-tells`).
 use borrow.Author.Needs.{needs}
 use mathlib.Core.Path.{sym, ap, _∙_}
 use Rattle.panel.specs.declared.Reply.{Reply}
@@ -16,7 +16,7 @@ returns-2 : tie.Need-returns-2
 returns-2 c =
     let h = c .before in
     let r = h .before .before .reply .given in
-    refused-tells _ (r .0 .0) (h .refusal-head .ensures) ∙ sym (ap (λ (r : Reply). refusalOf (replyBytes r)) (r .1))
+    refused-tells (r .0 .0) _ (h .refusal-bytes .ensures) ∙ sym (ap (λ (r : Reply). refusalOf (replyBytes r)) (r .1))
 
 pub refusal-of-spec : {M : Type 1} → statement M
 refusal-of-spec =

@@ -1,5 +1,5 @@
--- `text::put_tally` meets its contract: all bytes, and none behind them, are handed to `put_line` (`tally-parts`), so the line that it writes is the
--- tally's.
+-- `text::put_tally` meets its contract: the first two bytes and the others that are handed to `put_line` are the tally's bytes (`tally-parts`), so
+-- the line that it writes is the tally's.
 use borrow.Author.Needs.{needs}
 use mathlib.Core.Path.{ap, _∙_}
 use mathlib.Core.List.{List}
@@ -34,6 +34,8 @@ put-tally-spec =
     tie.close
     (tie.spec
     (λ c κs. search needs)
+    (λ c. search needs)
+    (λ c. search needs)
     (λ c. search needs)
     (λ c. search needs)
     (λ c. search needs)

@@ -1,4 +1,4 @@
--- `text::put_too_long` meets its contract, by that of `put_reply`: the reply has two bytes, so its line is short (`length-line`).
+-- `text::put_too_long` meets its contract, by that of `put_refusal`: the refusal has a number alone, so its line is short (`length-line`).
 use borrow.Author.Needs.{needs}
 use mathlib.Core.List.{_∷_}
 use native.Mathlib.Omega.{arith}
@@ -8,10 +8,8 @@ use Rattle.hex.proofs.Bytes.{length-line}
 use Rattle.text.proofs.put_too_long.Statement.{statement}
 use Rattle.text.proofs.put_too_long.Tie as tie
 
-put-reply-requires : tie.Need-put-reply-requires
-put-reply-requires c κs = (omega arith, omega (arith, length-line (0xFF ∷ refusalBytes TextTooLong)))
+put-refusal-requires : tie.Need-put-refusal-requires
+put-refusal-requires c κs = omega (arith, length-line (0xFF ∷ refusalBytes TextTooLong))
 
 pub put-too-long-spec : {M : Type 1} → statement M
-put-too-long-spec =
-    tie.close
-    (tie.spec (λ c. search needs) (λ c. search needs) put-reply-requires (λ c. search needs) (λ c. search needs))
+put-too-long-spec = tie.close (tie.spec put-refusal-requires (λ c. search needs) (λ c. search needs))
