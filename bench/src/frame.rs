@@ -41,9 +41,9 @@ const fn digits() -> [u8; 256] {
     table
 }
 
-/// Reads the first line of a text that is not empty; the second answer is the
-/// text behind its LF.
-pub(super) fn read_line(text: &[u8]) -> (Result<Frame, Refusal>, &[u8]) {
+/// Reads the first line of a text that is not empty: its frame, or the offset
+/// where it is refused with BadHex; and the text behind its LF.
+pub(super) fn read_line(text: &[u8]) -> (Result<Frame, u16>, &[u8]) {
     let mut frame = Frame {
         bytes: [0; 12],
         len: 0,
@@ -63,7 +63,12 @@ pub(super) fn read_line(text: &[u8]) -> (Result<Frame, Refusal>, &[u8]) {
     match rest {
         [] => (Ok(frame), rest),
         [b'\n', behind @ ..] if frame.len > 0 => (Ok(frame), behind),
-        _ => (Err(Refusal::BadHex), behind_line(rest)),
+        [first, ..] => {
+            // The number of digits that the line starts with, which is its length
+            // where all are digits. A digit here is the last of them.
+            let digits = text.len() - rest.len() + usize::from(DIGITS[*first as usize] < 16);
+            (Err(digits as u16), behind_line(rest))
+        }
     }
 }
 

@@ -1,8 +1,23 @@
 //! Whole texts: replies and the tally.
 
-pub use harness::plain::Refusal;
-
 use crate::frame::{read_frame, read_line, Command};
+
+/// The refusals with their numbers.
+#[derive(Clone, Copy, Debug, PartialEq, Eq)]
+pub enum Refusal {
+    BadHex = 1,
+    BadFrame = 2,
+    AlreadyOpen = 3,
+    NotOpen = 4,
+    BadSize = 5,
+    BadLink = 6,
+    NoSuchField = 7,
+    LinkTaken = 8,
+    NoSuchLink = 9,
+    Conflict = 10,
+    Loop = 11,
+    TextTooLong = 12,
+}
 
 /// The state of a solver, with its operations. The first four answer the moved count.
 pub trait Solver {
@@ -41,14 +56,17 @@ pub fn run_text<P: Solver>(text: &[u8], out: &mut [u8]) -> usize {
     while !rest.is_empty() {
         let (frame, behind) = read_line(rest);
         rest = behind;
-        let refusal = frame.and_then(|frame| {
-            let command = read_frame(frame.bytes())?;
-            answer(&mut panel, command, &mut output)
-        });
+        let refusal = match frame {
+            Ok(frame) => read_frame(frame.bytes())
+                .and_then(|command| answer(&mut panel, command, &mut output))
+                .inspect_err(|&refusal| output.line(&[0xFF, refusal as u8])),
+            Err(offset) => {
+                let [high, low] = offset.to_be_bytes();
+                output.line(&[0xFF, Refusal::BadHex as u8, high, low]);
+                Err(Refusal::BadHex)
+            }
+        };
         tally.count(refusal.err());
-        if let Err(refusal) = refusal {
-            output.line(&[0xFF, refusal as u8]);
-        }
     }
     output.line(&tally.bytes());
     output.len

@@ -1,6 +1,6 @@
 //! The two solvers in Rust against the plain one of `harness`.
 
-use harness::{generate, plain};
+use harness::{generate, plain, worked};
 use panel_bench::sides::SIDES;
 use panel_bench::text::{LONGEST_OUTPUT, TEXT_LIMIT};
 use panel_bench::texts;
@@ -122,6 +122,38 @@ fn damaged_lines() {
         runner.check(&vec![b'0'; len]);
         runner.check(&vec![b'G'; len]);
         runner.check(&vec![b'\n'; len]);
+    }
+}
+
+/// Where a line is wrong, by the outputs worked out by hand.
+#[test]
+fn offsets_of_bad_lines() {
+    let mut runner = Runner::new();
+    for text in worked::offsets::all() {
+        assert!(runner.output(&text.text) == text.output, "{}", text.name);
+    }
+}
+
+/// A wrong character at each place of lines of every length up to 40, and of some
+/// longer ones, behind another line, with LF and without.
+#[test]
+fn every_place_of_a_wrong_character() {
+    let mut runner = Runner::new();
+    for len in (1..=40).chain([255, 256, 257, 511, 512, 513]) {
+        let mut text = b"0101\n".to_vec();
+        for place in 0..len {
+            let mut line = vec![b'0'; len];
+            line[place] = b'G';
+            text.extend(line);
+            text.push(b'\n');
+            if text.len() > 60_000 {
+                runner.check(&text);
+                text.clear();
+            }
+        }
+        runner.check(&text);
+        text.pop();
+        runner.check(&text);
     }
 }
 

@@ -125,7 +125,7 @@ fn last_refusal_stays() {
         ),
         ("", "EE00000900000500000405\n"),
         ("0101", "0000\nEE00000A00000600000405\n"),
-        ("01g1", "FF01\nEE00000B00000600000501\n"),
+        ("01g1", "FF010002\nEE00000B00000600000501\n"),
     ];
     for (text, output) in steps {
         let mut out = vec![FILLER; output.len()];
@@ -165,10 +165,10 @@ fn text_too_long() {
 }
 
 /// 65,535 empty lines, the longest text: the lines reach the cap with the last one,
-/// the refused with the last but one. Each reply has five characters.
+/// the refused with the last but one. Each reply has nine characters, LF included.
 #[test]
 fn longest_text() {
-    let output = "FF01\n".repeat(65_535) + "EEFFFFFF000007FFFFFF01\n";
+    let output = "FF010000\n".repeat(65_535) + "EEFFFFFF000007FFFFFF01\n";
     check(
         &"\n".repeat(65_535),
         tally(CAP - 65_535, 7, CAP - 65_534, 0),

@@ -1,7 +1,9 @@
-//! A plain solver, written from document 01 sentence by sentence.
+//! A plain solver, written sentence by sentence from document 01 and from the
+//! change requests of document 02 that have landed: 1, the offset in the reply
+//! to a bad line.
 //!
-//! It is meant to be read next to the document, not to be fast. Comments in
-//! quotation marks are sentences of the document.
+//! It is meant to be read next to the documents, not to be fast. Comments in
+//! quotation marks are sentences of the documents.
 
 mod frame;
 mod panel;

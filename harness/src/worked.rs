@@ -1,11 +1,12 @@
-//! Texts with their whole outputs, worked out by hand from document 01. The
-//! plain solver and the run program are both held to them.
+//! Texts with their whole outputs, worked out by hand from documents 01 and 02.
+//! The plain solver and the run program are both held to them.
 
 pub mod edges;
 pub mod items;
+pub mod offsets;
 pub mod panels;
 
-/// A text and the whole output that document 01 gives it.
+/// A text and the whole output that the documents give it.
 pub struct Worked {
     pub name: String,
     pub text: Vec<u8>,
@@ -38,6 +39,6 @@ pub fn tally_line<S: AsRef<str>>(replies: &[S]) -> String {
     let refusals: Vec<&str> = replies.clone().filter(|r| r.starts_with("FF")).collect();
     let (lines, refused) = (replies.len(), refusals.len());
     let accepted = lines - refused;
-    let last = refusals.last().map_or("00", |refusal| &refusal[2..]);
+    let last = refusals.last().map_or("00", |refusal| &refusal[2..4]);
     format!("EE{lines:06X}{accepted:06X}{refused:06X}{last}")
 }

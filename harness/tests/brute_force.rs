@@ -27,7 +27,7 @@ impl Step {
         let mut after = run.clone();
         let reply = after.line(line);
         let mut book = book_before.clone();
-        if !["FF01", "FF02"].contains(&reply.as_str()) {
+        if holds_a_command(&reply) {
             book.feed(&frame(line), reply.starts_with("FF"));
         }
         Step {
@@ -47,7 +47,7 @@ impl Step {
 
     /// The link of an add that passes checks 1 to 9.
     fn sound_add(&self) -> Option<Member> {
-        if ["FF01", "FF02"].contains(&self.reply.as_str()) || self.line[..2] != *b"02" {
+        if !holds_a_command(&self.reply) || self.line[..2] != *b"02" {
             return None;
         }
         let link = link(&frame(&self.line));
@@ -60,6 +60,11 @@ impl Step {
         let sound = numbers && rising && there && !self.book_before.has_link(id);
         sound.then_some(link)
     }
+}
+
+/// "A line refused with 1 or 2 gives no command."
+fn holds_a_command(reply: &str) -> bool {
+    !reply.starts_with("FF01") && reply != "FF02"
 }
 
 /// The frame of a line that holds one.

@@ -9,17 +9,17 @@ fn equal_outputs_come_back() {
     assert_eq!(output, Ok(run_text(b"0101\n05")));
 }
 
-/// A reader that takes lower case: a line of two digits shows it.
+/// A reader that takes lower case: a line of one digit shows it by the offset.
 #[test]
 fn report_has_the_shortest_text_and_both_outputs() {
     let text = "0140\n".to_string() + &"0201008a\n05\n0405\n".repeat(50);
     let reader = |text: &[u8]| Ok(run_text(&text.to_ascii_uppercase()));
     let report = compared(text.as_bytes(), reader).expect_err("a difference");
     let parts = [
-        "has 2 of 855 bytes",
-        "program:\nFF02\\n\nEE00000100000000000102\\n",
-        "plain solver:\nFF01\\n\nEE00000100000000000101\\n",
-        "output line 0 (from 0): FF02\\n in place of FF01\\n",
+        "has 1 of 855 bytes",
+        "program:\nFF010001\\n\nEE00000100000000000101\\n",
+        "plain solver:\nFF010000\\n\nEE00000100000000000101\\n",
+        "output line 0 (from 0): FF010001\\n in place of FF010000\\n",
     ];
     for part in parts {
         assert!(report.contains(part), "{part} in {report}");
@@ -53,7 +53,7 @@ fn report_has_the_bad_end() {
         false => Ok(run_text(text)),
     };
     let report = compared(b"0101\n0400\n05\n", reader).expect_err("a difference");
-    let parts = ["has 1 of 13 bytes:\n4\nprogram:\nit fell over\nplain solver:\nFF01\\n"];
+    let parts = ["has 1 of 13 bytes:\n4\nprogram:\nit fell over\nplain solver:\nFF010001\\n"];
     for part in parts {
         assert!(report.contains(part), "{part} in {report}");
     }

@@ -1,5 +1,5 @@
-//! The readings of open points in document 01, and the limits of text, line,
-//! tally and strength.
+//! The readings of open points in documents 01 and 02, and the limits of text,
+//! line, tally and strength.
 
 use harness::plain::{
     hex, lines, run_text, run_text_with, Panel, Refusal, Run, Standing, Tally, COUNT_CAP,
@@ -25,22 +25,22 @@ fn check(cases: &[(&[&str], &str)]) {
 #[test]
 fn other_characters_are_bad_hex() {
     check(&[
-        (&["0102\r"], "FF01"),
-        (&["0102\r\r"], "FF01"),
-        (&["01\x0002"], "FF01"),
-        (&["0\0"], "FF01"),
-        (&["\0\0"], "FF01"),
-        (&["01 02"], "FF01"),
-        (&[" 0102"], "FF01"),
-        (&["0102  "], "FF01"),
-        (&["010a"], "FF01"),
-        (&["0A0G"], "FF01"),
-        (&["/0"], "FF01"),
-        (&[":0"], "FF01"),
-        (&["@0"], "FF01"),
+        (&["0102\r"], "FF010004"),
+        (&["0102\r\r"], "FF010004"),
+        (&["01\x0002"], "FF010002"),
+        (&["0\0"], "FF010001"),
+        (&["\0\0"], "FF010000"),
+        (&["01 02"], "FF010002"),
+        (&[" 0102"], "FF010000"),
+        (&["0102  "], "FF010004"),
+        (&["010a"], "FF010003"),
+        (&["0A0G"], "FF010003"),
+        (&["/0"], "FF010000"),
+        (&[":0"], "FF010000"),
+        (&["@0"], "FF010000"),
     ]);
     let mut run = Run::default();
-    assert_eq!(run.line(&[0xFF, 0xB0]), "FF01");
+    assert_eq!(run.line(&[0xFF, 0xB0]), "FF010000");
     assert_eq!(
         run,
         Run {
@@ -48,6 +48,36 @@ fn other_characters_are_bad_hex() {
             ..Run::default()
         }
     );
+}
+
+/// Document 02, request 1, for every line of up to three characters from five:
+/// the first wrong character decides, whatever the length; only then the length.
+#[test]
+fn offsets_of_short_lines() {
+    let mut refused = 0;
+    for number in 0..6_usize.pow(3) {
+        let places = [number / 36, number / 6 % 6, number % 6];
+        // The place 5 is no character.
+        let characters = places.iter().filter_map(|&place| b"0FG a".get(place));
+        let line: Vec<u8> = characters.copied().collect();
+        let is_digit = |character: &u8| b"0F".contains(character);
+        let offset = match &line[..] {
+            [first, ..] if !is_digit(first) => 0,
+            [_, second, ..] if !is_digit(second) => 1,
+            [_, _, third] if !is_digit(third) => 2,
+            [] => 0,
+            [_] => 1,
+            [_, _, _] => 3,
+            _ => {
+                assert_eq!(Run::default().line(&line), "FF02", "{line:?}");
+                continue;
+            }
+        };
+        refused += 1;
+        let reply = format!("FF01000{offset}");
+        assert_eq!(Run::default().line(&line), reply, "{line:?}");
+    }
+    assert_eq!(refused, 204);
 }
 
 #[test]
@@ -122,7 +152,7 @@ fn opening_checks() {
 #[test]
 fn lower_numbers_come_first() {
     check(&[
-        (&["0600 "], "FF01"),
+        (&["0600 "], "FF010004"),
         (&["0501"], "FF02"),
         (&["03FF"], "FF04"),
         (&["0440"], "FF04"),
@@ -223,7 +253,7 @@ fn counts_reach_the_cap_and_each_by_itself() {
     };
     tally.count_line(None);
     assert_eq!(tally.line(), "EEFFFFFFFFFFFF00000300");
-    tally.count_line(Some(Refusal::BadHex));
+    tally.count_line(Some(Refusal::BadHex(0x0203)));
     assert_eq!(tally.line(), "EEFFFFFFFFFFFF00000401");
     tally.count_line(None);
     assert_eq!(
@@ -284,6 +314,12 @@ fn check_worked(texts: Vec<Worked>) {
 #[test]
 fn ends_of_lines_and_limit() {
     check_worked(worked::edges::all());
+}
+
+// Document 02, request 1.
+#[test]
+fn offsets_of_bad_lines() {
+    check_worked(worked::offsets::all());
 }
 
 #[test]

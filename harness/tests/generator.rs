@@ -30,7 +30,11 @@ fn note_text(cases: &mut Cases, text: &[u8]) {
         let before = run.panel.clone();
         let reply = run.line(line);
         if reply.starts_with("FF") {
-            note(cases, reply.as_str());
+            note(cases, &reply[..4]);
+        }
+        if let Some(offset) = reply.strip_prefix("FF01") {
+            let offset = usize::from_str_radix(offset, 16).expect("digits");
+            note_offset(cases, line, offset);
         }
         let command = read_hex(line).and_then(|frame| read_frame(&frame));
         if let Ok(command) = command {
@@ -61,6 +65,37 @@ fn note_line_form(cases: &mut Cases, line: &[u8]) {
         ("odd count", line.len() % 2 == 1),
         ("byte over 7F", line.iter().any(|&byte| byte > 0x7F)),
         ("line over 1,000 digits", line.len() > 1_000),
+    ];
+    for (form, _) in forms.iter().filter(|(_, met)| *met) {
+        note(cases, *form);
+    }
+}
+
+/// Where a line is told to be wrong, and what else is wrong with it.
+fn note_offset(cases: &mut Cases, line: &[u8], offset: usize) {
+    let at_character = offset < line.len();
+    // A line of one character is none of the three.
+    let is_first = offset == 0 && line.len() > 1;
+    let in_the_middle = offset > 0 && offset + 1 < line.len();
+    let is_last = offset > 0 && offset + 1 == line.len();
+    let is_digit = |byte: &u8| b"0123456789ABCDEF".contains(byte);
+    let others = line.iter().filter(|byte| !is_digit(byte)).count();
+    let odd = line.len() % 2 == 1;
+    let forms = [
+        ("FF01: first character", is_first),
+        ("FF01: in the middle", in_the_middle),
+        ("FF01: last character", is_last),
+        ("FF01: length", !at_character && odd),
+        ("FF01: empty line", line.is_empty()),
+        ("FF01: more than one character", others > 1),
+        ("FF01: character, odd count", at_character && odd),
+        ("FF01: last character, odd count", is_last && odd),
+        ("FF01: character, even count", at_character && !odd),
+        ("FF01: CR LF", is_last && line[offset] == b'\r'),
+        ("FF01: character over 255", at_character && offset > 255),
+        ("FF01: character over 511", at_character && offset > 511),
+        ("FF01: length over 255", !at_character && offset > 255),
+        ("FF01: length over 511", !at_character && offset > 511),
     ];
     for (form, _) in forms.iter().filter(|(_, met)| *met) {
         note(cases, *form);
@@ -184,6 +219,20 @@ const CASES: &[&str] = &[
     "FF0A",
     "FF0B",
     "FF0C",
+    "FF01: first character",
+    "FF01: in the middle",
+    "FF01: last character",
+    "FF01: length",
+    "FF01: empty line",
+    "FF01: more than one character",
+    "FF01: character, odd count",
+    "FF01: last character, odd count",
+    "FF01: character, even count",
+    "FF01: CR LF",
+    "FF01: character over 255",
+    "FF01: character over 511",
+    "FF01: length over 255",
+    "FF01: length over 511",
     "empty text",
     "no last LF",
     "text at the limit",

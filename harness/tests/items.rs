@@ -86,7 +86,8 @@ fn p_then_removal() {
     assert_eq!(after.panel.standing(Item::Link(1)), Standing::Waiting);
 }
 
-/// "010a, 010 and an empty line: FF01."
+/// "010a, 010 and an empty line: FF01", with the two bytes of document 02's
+/// request 1.
 #[test]
 fn bad_hex() {
     for item in &items::BAD_HEX {

@@ -1,5 +1,6 @@
 //! Texts whose output differs under the misreadings that document 01 lists at
-//! the end of "Neighbouring commands". The outputs are worked out by hand.
+//! the end of "Neighbouring commands", and under misreadings of the requests of
+//! document 02. The outputs are worked out by hand.
 
 use harness::plain::Run;
 
@@ -127,4 +128,55 @@ fn removal_loop_over_a_read_field() {
         ("05", "0003000203020100010003"),
     ];
     check(&[&READ_LOOP[..], &rest].concat());
+}
+
+/// Misreadings of request 1: the offset of the last wrong character; the line's
+/// length where a character is wrong (6, 6, 4 and 4 below).
+#[test]
+fn offset_is_of_the_first_wrong_character() {
+    check(&[
+        ("0G01G1", "FF010001"),
+        ("01 0G ", "FF010002"),
+        ("G101", "FF010000"),
+        ("010G", "FF010003"),
+    ]);
+}
+
+/// Misreading of request 1: the odd count is told before a wrong character (5,
+/// 3, 3 and 1 below), also where that is the last.
+#[test]
+fn wrong_character_comes_before_an_odd_count() {
+    check(&[
+        ("0G010", "FF010001"),
+        ("G01", "FF010000"),
+        ("01G", "FF010002"),
+        ("G", "FF010000"),
+    ]);
+}
+
+/// Misreadings of request 1: the offset counted from 1; of the byte (1, 1 and 2
+/// below) or of its first digit (2, 2 and 4), where a frame is read two digits
+/// at a time; of the last digit of an odd count (4 below), which is its length
+/// less one.
+#[test]
+fn offset_counts_characters_from_0() {
+    check(&[
+        ("01G1", "FF010002"),
+        ("010G", "FF010003"),
+        ("01010", "FF010005"),
+        ("", "FF010000"),
+    ]);
+}
+
+/// Misreadings of request 1: the least significant byte first (0101 would be the
+/// same either way, 0102 and 0001 are not); one byte only; a high byte that is
+/// always zero.
+#[test]
+fn offset_has_two_bytes() {
+    let digits = "0".repeat(258);
+    check(&[
+        (&(digits.clone() + "G0"), "FF010102"),
+        (&(digits + "0"), "FF010103"),
+        ("0G", "FF010001"),
+    ]);
 }

@@ -11,8 +11,8 @@ use harness::program;
 use std::collections::BTreeMap;
 
 /// Number of fields and number of links; a third of the texts for each. That
-/// makes about 454,000 lines in texts for 1 to 8 fields, 442,000 for 9 to 31, and
-/// 418,000 for 32 to 64.
+/// makes about 457,000 lines in texts for 1 to 8 fields, 449,000 for 9 to 31, and
+/// 430,000 for 32 to 64.
 const SIZES: [((usize, usize), usize); 3] = [((1, 8), 16), ((9, 31), 60), ((32, 64), 128)];
 
 /// As many adds as removes, so that the number of links keeps changing.
@@ -107,8 +107,8 @@ impl Counts {
     }
 }
 
-/// The kind of a reply: the refusal, or the command with its moved count. Loop
-/// is told apart by the command.
+/// The kind of a reply: the refusal, or the command with its moved count. BadHex
+/// is told apart by its offset, Loop by the command.
 fn kind(line: &[u8], reply: &[u8]) -> String {
     let command = match &line.get(..2) {
         Some(b"01") => "open",
@@ -120,6 +120,7 @@ fn kind(line: &[u8], reply: &[u8]) -> String {
     };
     let reply = String::from_utf8_lossy(reply);
     match &*reply {
+        bad_hex if bad_hex.starts_with("FF01") => bad_hex_kind(line, &bad_hex[4..]),
         "FF0B" => format!("FF0B {command}"),
         refusal if refusal.starts_with("FF") => refusal.to_string(),
         "0000" => format!("{command}, moved 0"),
@@ -129,10 +130,27 @@ fn kind(line: &[u8], reply: &[u8]) -> String {
     }
 }
 
+/// What an offset tells of a line: an empty line, a wrong character or an odd
+/// count, in the last two also whether its high byte is zero.
+fn bad_hex_kind(line: &[u8], offset: &str) -> String {
+    let place = usize::from_str_radix(offset, 16).expect("digits");
+    let what = match place < line.len() {
+        _ if line.is_empty() => return "FF01 empty line".to_string(),
+        true => "character",
+        false => "odd count",
+    };
+    let size = if place > 255 { "over" } else { "up to" };
+    format!("FF01 {what} {size} 255")
+}
+
 /// How often each kind of reply is met at least, in each half. A touch that
 /// turns a walk moves two fields or more.
-const LEAST: [(&str, usize); 23] = [
-    ("FF01", 8_000),
+const LEAST: [(&str, usize); 27] = [
+    ("FF01 empty line", 600),
+    ("FF01 character up to 255", 5_000),
+    ("FF01 character over 255", 250),
+    ("FF01 odd count up to 255", 2_000),
+    ("FF01 odd count over 255", 180),
     ("FF02", 2_500),
     ("FF03", 5_000),
     ("FF04", 6_000),

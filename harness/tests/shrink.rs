@@ -43,10 +43,10 @@ fn loop_needs_three_lines() {
 }
 
 #[test]
-fn lower_case_needs_two_bytes() {
+fn lower_case_needs_one_byte() {
     let text = "0140\n".to_string() + &"0201008a\n05\n0405\n".repeat(50);
     let short = shorten(text.as_bytes(), lower_case_differs);
-    assert_eq!(short.len(), 2, "{}", String::from_utf8_lossy(&short));
+    assert_eq!(short.len(), 1, "{}", String::from_utf8_lossy(&short));
     assert!(lower_case_differs(&short));
 }
 

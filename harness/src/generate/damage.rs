@@ -63,18 +63,65 @@ fn bad_add(rng: &mut Rng) -> Vec<u8> {
 
 /// A line that is wrong as a line, as a rule.
 fn bad_line(rng: &mut Rng, mut line: Vec<u8>) -> Vec<u8> {
-    let place = rng.below(line.len());
-    match rng.below(10) {
+    match rng.below(11) {
         0 => line.clear(),
         1 => line.push(b'\r'),
-        2 => line[place] = 0,
-        3 => line.make_ascii_lowercase(),
-        4 => line = b"010a".to_vec(),
-        5 => drop(line.remove(place)),
-        6 => line.insert(place, *rng.pick(b"0F \t\0")),
-        7 => line[place] = *rng.pick(b"G@:/`g x-\x80\xFF"),
-        8 => line = line.repeat(rng.between(2, 400)),
+        2 => line.make_ascii_lowercase(),
+        3 => line = b"010a".to_vec(),
+        4 => change_count(rng, &mut line),
+        5 => put_wrong_character(rng, &mut line),
+        6 => {
+            put_wrong_character(rng, &mut line);
+            put_wrong_character(rng, &mut line);
+        }
+        7 => {
+            change_count(rng, &mut line);
+            put_wrong_character(rng, &mut line);
+        }
+        8 => {
+            line = long_line(rng, &line);
+            match rng.percent(50) {
+                true => change_count(rng, &mut line),
+                false => put_wrong_character(rng, &mut line),
+            }
+        }
+        9 => line = line.repeat(rng.between(2, 200)),
         _ => line = (0..rng.below(30)).map(|_| rng.byte()).collect(),
     }
     line
+}
+
+/// One digit more or fewer; a line of one digit gets one more.
+fn change_count(rng: &mut Rng, line: &mut Vec<u8>) {
+    let place = place(rng, line);
+    match line.len() > 1 && rng.percent(50) {
+        true => drop(line.remove(place)),
+        false => line.insert(place, *rng.pick(b"0F")),
+    }
+}
+
+/// Puts a wrong character in place of one that is there, or before it.
+fn put_wrong_character(rng: &mut Rng, line: &mut Vec<u8>) {
+    let place = place(rng, line);
+    let wrong = *rng.pick(b"G@:/`gaf x-\t\r\0\x80\xFF");
+    match rng.percent(75) {
+        true => line[place] = wrong,
+        false => line.insert(place, wrong),
+    }
+}
+
+/// The first, the last or any place of a line that is not empty.
+fn place(rng: &mut Rng, line: &[u8]) -> usize {
+    match rng.below(3) {
+        0 => 0,
+        1 => line.len() - 1,
+        _ => rng.below(line.len()),
+    }
+}
+
+/// The line over and over, up to a length that is 256, 512 or 1,024 or a little
+/// more, so that offsets at its end have a high byte that is not zero.
+fn long_line(rng: &mut Rng, line: &[u8]) -> Vec<u8> {
+    let length = *rng.pick(&[256, 512, 1_024]) + rng.below(6);
+    line.iter().copied().cycle().take(length).collect()
 }

@@ -19,24 +19,36 @@ pub enum Command {
 }
 
 /// "Digits 0-9 and A-F, two a byte." BadHex: "empty line, odd count, another
-/// character".
+/// character", with "the offset from 0 in the line of the first character that
+/// is not a digit or A-F; where there is none, the line's length (odd or
+/// empty)".
 pub fn read_hex(line: &[u8]) -> Result<Vec<u8>, Refusal> {
-    if line.is_empty() || line.len() % 2 == 1 {
-        return Err(Refusal::BadHex);
+    let mut values = Vec::new();
+    for (offset, &character) in line.iter().enumerate() {
+        match digit(character) {
+            Some(value) => values.push(value),
+            None => return Err(bad_hex(offset)),
+        }
     }
-    let pairs = line.chunks(2);
-    pairs
-        .map(|pair| Ok(16 * digit(pair[0])? + digit(pair[1])?))
-        .collect()
+    if line.is_empty() || line.len() % 2 == 1 {
+        return Err(bad_hex(line.len()));
+    }
+    let pairs = values.chunks(2);
+    Ok(pairs.map(|pair| 16 * pair[0] + pair[1]).collect())
 }
 
-/// The value of one digit.
-fn digit(character: u8) -> Result<u8, Refusal> {
+/// The value of a digit, nothing for another character.
+fn digit(character: u8) -> Option<u8> {
     match character {
-        b'0'..=b'9' => Ok(character - b'0'),
-        b'A'..=b'F' => Ok(character - b'A' + 10),
-        _ => Err(Refusal::BadHex),
+        b'0'..=b'9' => Some(character - b'0'),
+        b'A'..=b'F' => Some(character - b'A' + 10),
+        _ => None,
     }
+}
+
+/// BadHex at an offset. A line is no longer than a text may be.
+fn bad_hex(offset: usize) -> Refusal {
+    Refusal::BadHex(u16::try_from(offset).expect("at most 65,535"))
 }
 
 /// The kinds of frames. BadFrame: "unknown kind, wrong length for the kind,

@@ -81,7 +81,8 @@ fn treat(panel: &mut Panel, line: &[u8]) -> Result<Reply, Refusal> {
 }
 
 /// "Replies: 00 m; for a plan 00 n, then n times field, setter, strength; for
-/// a refusal FF and its number."
+/// a refusal FF and its number", for BadHex "FF 01 and two bytes (most
+/// significant first), the offset".
 fn reply_line(result: &Result<Reply, Refusal>) -> String {
     match result {
         Ok(Reply::Moved(moved)) => hex(&[0, *moved]),
@@ -89,6 +90,7 @@ fn reply_line(result: &Result<Reply, Refusal>) -> String {
             let listed: String = entries.iter().map(entry_digits).collect();
             hex(&[0, entries.len() as u8]) + &listed
         }
+        Err(Refusal::BadHex(offset)) => hex(&[0xFF, 1]) + &hex(&offset.to_be_bytes()),
         Err(refusal) => hex(&[0xFF, refusal.number()]),
     }
 }

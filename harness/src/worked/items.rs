@@ -170,21 +170,22 @@ pub const BIT_6: Item = Item {
     tally: "EE00000200000100000102",
 };
 
-/// "010a, 010 and an empty line: FF01."
+/// "010a, 010 and an empty line: FF01." Document 02, request 1: "Document 01's
+/// FF01 cases gain the two bytes", the offset of the a and the two lengths.
 pub const BAD_HEX: [Item; 3] = [
     Item {
         name: "lower case",
-        lines: &[("010a", "FF01")],
+        lines: &[("010a", "FF010003")],
         tally: "EE00000100000000000101",
     },
     Item {
         name: "odd count",
-        lines: &[("010", "FF01")],
+        lines: &[("010", "FF010003")],
         tally: "EE00000100000000000101",
     },
     Item {
         name: "empty line",
-        lines: &[("", "FF01")],
+        lines: &[("", "FF010000")],
         tally: "EE00000100000000000101",
     },
 ];

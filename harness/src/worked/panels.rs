@@ -58,7 +58,7 @@ fn opening() -> Lines {
 pub fn longest_output() -> Worked {
     let mut lines = opening();
     lines.extend(vec![("05".to_string(), plan_of_stays(64)); 21_843]);
-    push(&mut lines, &[("", "FF01")]);
+    push(&mut lines, &[("", "FF010000")]);
     Worked::new("longest output", &lines, "EE00555500555400000101")
 }
 
