@@ -1,5 +1,5 @@
--- Further worked texts, beside the items marked P, each for a sentence of document 01 that those items do not tell from a misreading of it. The
--- outputs are worked out by hand.
+-- Further worked texts, beside the items marked P, each for a sentence of document 01, or of document 02 where that is said, that those items do not
+-- tell from a misreading of it. The outputs are worked out by hand.
 use mathlib.Core.List.{List, [], _∷_}
 use Rattle.items.specs.Items.{Item, item}
 
@@ -17,6 +17,10 @@ further =
     ∷ item "0100\n0101\n" "FF05\n0000\nEE00000200000100000105\n"
     -- "Numbers 1 to 11 are also the order of checks for a line": BadHex before BadFrame
     ∷ item "010a\n010\n060\n06\n" "FF010003\nFF010003\nFF010003\nFF02\nEE00000400000000000402\n"
+    -- "the first character that is not a digit or A-F" (document 02, request 1), whatever stands behind it and whatever the count; CR is one
+    ∷ item "0G0G\nG10\n01G\n0101\r\n" "FF010001\nFF010000\nFF010002\nFF010004\nEE00000400000000000401\n"
+    -- "where there is none, the line's length (odd or empty)" (document 02, request 1)
+    ∷ item "01010\n\n0" "FF010005\nFF010000\nFF010001\nEE00000300000000000301\n"
     -- BadFrame before NotOpen and AlreadyOpen, AlreadyOpen before BadSize
     ∷ item "0500\n0102\n010203\n0141\n" "FF02\n0000\nFF02\nFF03\nEE00000400000100000303\n"
     -- NotOpen before BadLink, NoSuchField and NoSuchLink
