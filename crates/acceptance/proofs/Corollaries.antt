@@ -1,10 +1,10 @@
 -- What follows for a text and for a reply: each part of the statements about lines and texts is used here. The parts of a reply are read off its
 -- form (`says`); bytes can be read back from their digits (`bytes-hex`).
 use Prim.Native.Nat.{ℕ, suc, _+_, _*_, _/_, _%_, _≤_, _<_}
-use mathlib.Core.Path.{_≡_, refl, ap, subst, _∙_}
+use mathlib.Core.Path.{_≡_, refl, sym, ap, subst, _∙_}
 use mathlib.Core.Bool.{true, false}
 use mathlib.Core.List.{List, [], _∷_, _++_, map}
-use mathlib.Core.Logic.{_≢_}
+use mathlib.Core.Logic.{_≢_, ⊎-elim}
 use native.Mathlib.Decide.{decLt}
 use native.Mathlib.Omega.{arith}
 use borrow.Author.Tests.{lt-ltb, le-ltb, le-leb, lt-leb}
@@ -24,9 +24,11 @@ use Rattle.frames.specs.Texts.{LineAnswer, stateAfter, replies, tallyAfter, isT
 use Rattle.frames.specs.Frames.{lineAnswer, panelAfter, panelOutput}
 use Rattle.items.specs.Characters.{characters}
 use Rattle.acceptance.specs.Lines.{repliesTo, commandsOf}
-use Rattle.acceptance.specs.Replies.{Form, IsReply, Replied}
+use Rattle.acceptance.specs.Replies.{Form, IsReply, Each, Replied}
+use Rattle.acceptance.specs.Offsets.{IsBadHex, IsWrong, WrongAt, TellsOffset, TellsAtMost}
 use Rattle.acceptance.proofs.Output.{one-reply-each, output-lines, output-too-long}
 use Rattle.acceptance.proofs.Replies.{every-reply}
+use Rattle.acceptance.proofs.Offsets.{wrong-within, bad-hex-exactly, offset-told, offsets-told}
 use Rattle.acceptance.proofs.Commands.{after-every-text, refused-line-unchanged}
 
 -- what is written for a text that is not too long: one reply of document 01 for each line, then the tally, a line each
@@ -143,3 +145,48 @@ says kind reply x = go reply (x .form) (bytes-hex reply (x .bytes))
           offset = λ e p. (k, refl);
           digits = d;
         }
+
+-- ---- where a line is wrong
+
+-- a line is wrong at one offset alone
+pub offset-one : (line : List ℕ) (a b : ℕ) → WrongAt line a → WrongAt line b → a ≡ b
+offset-one line a b v w = go (decLt a b) (decLt b a)
+  where
+    not-before : (a b : ℕ) → WrongAt line a → WrongAt line b → a < b → ⊥
+    not-before a b v w l =
+        ⊎-elim (λ o. clash (w .before a l) (o .other)) (λ e. omega (arith, e .end, wrong-within line b w)) (v .there)
+
+    go : Dec (a < b) → Dec (b < a) → a ≡ b
+    go (yes l) m = absurd (not-before a b v w l)
+    go (no l) (yes m) = absurd (not-before b a w v m)
+    go (no l) (no m) = omega arith
+
+-- and its reply tells it: the two bytes behind FF 01, in the digits that are written
+pub offset-read : (line reply : List ℕ) → TellsOffset line reply
+    → (bytesOf (hexOf reply) ≡ reply) × WrongAt line (at reply 2 * 256 + at reply 3)
+offset-read line reply t =
+    let n = t .offset in
+    let small = t .two in
+    let e : at reply 2 * 256 + at reply 3 ≡ n = ap (λ (r : List ℕ). at r 2 * 256 + at r 3) (t .bytes) ∙ omega arith in (
+      rw (t .bytes) (bytes-hex (0xFF ∷ 0x01 ∷ n / 256 ∷ n % 256 ∷ []) (omega arith, (omega arith, (omega arith, (omega arith, tt))))),
+      subst (WrongAt line) (sym e) (t .wrong),
+    )
+
+-- a line that is wrong is refused with its offset, and no other one with BadHex
+pub wrong-told : (p : Panel) (line : List ℕ) → IsWrong line → TellsAtMost line (lineAnswer p line .reply)
+wrong-told p line w = offset-told p line (bad-hex-exactly p line .1 w)
+
+pub right-not-told : (p : Panel) (line : List ℕ) → (IsWrong line → ⊥) → IsBadHex (lineAnswer p line .reply) → ⊥
+right-not-told p line right k = right (bad-hex-exactly p line .0 k)
+
+-- each line of a text that has an output
+pub text-offsets : (text : List ℕ) → isTooLong text ≡ false
+    → Each (λ line reply. IsBadHex reply → WrongAt line (at reply 2 * 256 + at reply 3)) (linesOf text) (repliesTo text)
+text-offsets text short = go (linesOf text) (repliesTo text) (offsets-told text short)
+  where
+    go : (ls rs : List (List ℕ)) → Each (λ line reply. IsBadHex reply → TellsOffset line reply) ls rs
+        → Each (λ line reply. IsBadHex reply → WrongAt line (at reply 2 * 256 + at reply 3)) ls rs
+    go [] [] h = tt
+    go [] (r ∷ rs) h = absurd h
+    go (l ∷ ls) [] h = absurd h
+    go (l ∷ ls) (r ∷ rs) (t, h) = (λ k. offset-read l r (t k) .1, go ls rs h)

@@ -51,7 +51,7 @@ wrong-at line h = record { before = before-offset line; there = go (decLt (offse
           odd = ends (omega arith) (ℕ-discrete (length line % 2) 1) (ℕ-discrete (length line) 0);
         })
 
-wrong-within : (line : List ℕ) (offset : ℕ) → WrongAt line offset → offset ≤ length line
+pub wrong-within : (line : List ℕ) (offset : ℕ) → WrongAt line offset → offset ≤ length line
 wrong-within line offset w = ⊎-elim (λ o. omega (arith, o .within)) (λ e. omega (arith, e .end)) (w .there)
 
 is-wrong : (line : List ℕ) (offset : ℕ) → WrongAt line offset → IsWrong line
