@@ -4,7 +4,7 @@ use mathlib.Core.Path.{_≡_, refl, sym, ap, ap₂, _∙_}
 use mathlib.Core.Bool.{cond}
 use mathlib.Core.Logic.{_⊎_, ⊎-elim}
 use mathlib.Core.List.{List, [], _∷_, _++_, append-nil}
-use Prim.Native.Nat.{ℕ, _-_, _≤_}
+use Prim.Native.Nat.{ℕ, _+_, _-_, _*_, _≤_}
 use native.Mathlib.Omega.{arith}
 use denote.Enum.Declared.{tagOf}
 use lib.Dec.{eqb}
@@ -108,8 +108,11 @@ refused-whole c r x rows e =
     ∙ append-nil (0xFF ∷ refusalBytes x))
 
 -- no line is longer than the longest: a refusal has at most four bytes, and anything else two and the rows
+refusal-short : (r : Refusal) → length (lineOf (0xFF ∷ refusalBytes r)) ≤ 2 * 4 + 1
+refusal-short r = omega (arith, length-line (0xFF ∷ refusalBytes r), refusal-length r .1)
+
 pub reply-short : (c : Command) (r : Reply) (rows : List ℕ) → restOf c r ≤ rowsLength → length (lineOf (wholeReply c r rows)) ≤ longest
 reply-short c (Accepted m) rows h =
     omega (arith, length-line (wholeReply c (Accepted m) rows), length-take (restOf c (Accepted m)) rows)
 reply-short c (Refusing x) rows h =
-    omega (arith, ap (λ (b : List ℕ). length (lineOf b)) (refused-whole c (Refusing x) x rows refl), length-line (0xFF ∷ refusalBytes x), refusal-length x .1)
+    omega (arith, ap (λ (b : List ℕ). length (lineOf b)) (refused-whole c (Refusing x) x rows refl), refusal-short x)
