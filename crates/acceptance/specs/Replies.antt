@@ -1,4 +1,4 @@
--- One reply of document 01 for each line: a statement about every list of lines. Quotations are of document 01.
+-- One reply of the documents for each line: a statement about every list of lines. Quotations are of document 01, or of document 02 where that is said.
 use Prim.Native.Nat.{ℕ, _*_, _≤_, _<_}
 use mathlib.Core.Path.{_≡_}
 use mathlib.Core.List.{List, [], _∷_}

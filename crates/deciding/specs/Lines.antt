@@ -26,8 +26,8 @@ pub record Framed (line : Line) : Type 0 where
   pub full : length (line .frame) ≡ frameRoom
   pub reaches : (id level : ℕ) → line .command ≡ Add id level → 3 ≤ line .len
 
--- the step of a line's command, which names the link of number k: taken, it gives the panel of the answer; the reply is its head and
--- the first rows of the buffer
+-- the step of a line's command, which names the link of number k: taken, it gives the panel of the answer; its reply and the first
+-- rows of the buffer are the reply of the answer
 pub record LineStep (p : Panel) (k : ℕ) (command : Command) (fields path rows : List ℕ) (s : Step) : Type 0 where
   pub takes : Takes p k path s (commandAnswer p command fields .state)
   pub reply : wholeReply command (s .reply) rows ≡ commandAnswer p command fields .reply

@@ -20,7 +20,7 @@ refusalRoom = 3
 abbrev pub buffered : List ℕ → RefusalBytes
 buffered bytes = record { bytes = bytes ++ replicate (refusalRoom - length bytes) 0; len = length bytes }
 
--- how many bytes the reply to a command has behind those of every reply
+-- how many bytes of rows the reply to a command has: those of a plan
 abbrev pub restOf : Command → Reply → ℕ
 restOf (Open n) reply = 0
 restOf (Add id level) reply = 0

@@ -1,4 +1,4 @@
-// Replies: their bytes, the refusal that they tell, and their lines.
+// Replies: a refusal's bytes, the refusal that a reply tells, and their lines.
 use fieldset::wide;
 use frames::Command;
 use panel::ROWS;
@@ -92,7 +92,7 @@ fn rows_of(reply: Reply) -> usize
     }
 }
 
-// How many bytes the reply to a command has behind those of every reply: three for each field of a plan.
+// How many bytes of rows the reply to a command has: three for each field of a plan.
 fn rest_of(command: Command, reply: Reply) -> usize
     ensures { λ r. ⌜ r ≡ restOf command reply ⌝ }
 {
