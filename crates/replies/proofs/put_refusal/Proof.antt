@@ -49,8 +49,12 @@ put-line-requires c κs =
     let b = m .refusal-bytes .result in
     let all : List ℕ = take (b .len) (b .bytes) in
     omega (
-      arith, start m .pre, all-length m, refusal-length (start m .args .r) .0, length-line (0xFF ∷ refusalBytes (start m .args .r)),
-      length-take (length all - 1) (drop 1 all)
+      arith,
+      start m .pre,
+      all-length m,
+      refusal-length (start m .args .r) .0,
+      length-line (0xFF ∷ refusalBytes (start m .args .r)),
+      length-take (length all - 1) (drop 1 all),
     )
 
 returns : tie.Need-returns

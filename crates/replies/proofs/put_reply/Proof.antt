@@ -56,7 +56,10 @@ put-line-requires c κs =
     let a = c .before .before in
     let rest : List ℕ = take (a .rest-of .result) (start a .args .rows .now) in
     omega (
-      arith, start a .pre .1, ap (λ (b : List ℕ). length (lineOf b)) (is-accepted a), length-line (0x00 ∷ a .before .before .reply .given .0 .0 ∷ rest)
+      arith,
+      start a .pre .1,
+      ap (λ (b : List ℕ). length (lineOf b)) (is-accepted a),
+      length-line (0x00 ∷ a .before .before .reply .given .0 .0 ∷ rest),
     )
 
 put-refusal-requires : tie.Need-put-refusal-requires
