@@ -2,7 +2,7 @@
 -- as its command, whose refusals are 3 to 11 (`command-other`); so BadHex is given exactly where `isHex` is false, and the laws of `offsetOf` say what
 -- stands before the offset and at it (`wrong-at`). Assumes nothing.
 use Prim.Native.Nat.{ℕ, suc, _%_, _≤_, _<_, min}
-use mathlib.Core.Path.{_≡_, refl, sym, ap, _∙_}
+use mathlib.Core.Path.{_≡_, refl, ap, _∙_}
 use mathlib.Core.Bool.{Bool, true, false, cond}
 use mathlib.Core.List.{List, [], _∷_}
 use mathlib.Core.Logic.{_⊎_, inl, inr, ⊎-elim, _≢_}
@@ -28,7 +28,7 @@ use Rattle.hex.proofs.Digits.{digits-at}
 use Rattle.hex.proofs.Lines.{hex-empty, hex-odd, hex-other, hex-line}
 use Rattle.hex.proofs.Offsets.{offset-within, before-offset, at-offset, end-offset}
 use Rattle.lines.specs.Lines.{before, linesOf}
-use Rattle.frames.specs.Texts.{refusalOf, replies, textLimit, isTooLong}
+use Rattle.frames.specs.Texts.{refusalOf, replies, textLimit}
 use Rattle.frames.specs.Frames.{fitsKind, isFrame, checkedFrame, badHex, frameOf, commandOf, answered, lineAnswer}
 use Rattle.acceptance.specs.Replies.{Each}
 use Rattle.acceptance.specs.Offsets.{IsBadHex, OtherAt, IsWrong, BadHexExactly, AtEnd, WrongAt, TellsOffset, OffsetsTold, TellsAtMost, OffsetTold}
@@ -48,14 +48,14 @@ wrong-at line h = record { before = before-offset line; there = go (decLt (offse
     go (no l) =
         inr (record {
           end = omega (arith, offset-within line);
-          odd = ends (omega arith) (ℕ-discrete (length line % 2) 1) (ℕ-discrete (length line) 0);
+          wrong-count = ends (omega arith) (ℕ-discrete (length line % 2) 1) (ℕ-discrete (length line) 0);
         })
 
 pub wrong-within : (line : List ℕ) (offset : ℕ) → WrongAt line offset → offset ≤ length line
 wrong-within line offset w = ⊎-elim (λ o. omega (arith, o .within)) (λ e. omega (arith, e .end)) (w .there)
 
 is-wrong : (line : List ℕ) (offset : ℕ) → WrongAt line offset → IsWrong line
-is-wrong line offset w = ⊎-elim (λ o. inr (inr (offset, o))) (λ e. ⊎-elim (λ o. inr (inl o)) inl (e .odd)) (w .there)
+is-wrong line offset w = ⊎-elim (λ o. inr (inr (offset, o))) (λ e. ⊎-elim (λ o. inr (inl o)) inl (e .wrong-count)) (w .there)
 
 wrong-no-hex : (line : List ℕ) → IsWrong line → isHex line ≡ false
 wrong-no-hex line (inl z) = hex-empty line z

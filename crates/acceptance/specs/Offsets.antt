@@ -1,5 +1,5 @@
 -- Where a line is wrong: statements. Quotations are of document 02, request 1, or of document 01 where that is said.
-use Prim.Native.Nat.{ℕ, _/_, _%_, _≤_, _<_, min}
+use Prim.Native.Nat.{ℕ, _/_, _%_, _<_, min}
 use mathlib.Core.Path.{_≡_}
 use mathlib.Core.Logic.{_⊎_, _↔_}
 use mathlib.Core.Bool.{true, false}
@@ -38,7 +38,7 @@ BadHexExactly = (p : Panel) (line : List ℕ) → IsBadHex (lineAnswer p line .r
 -- "where there is none, the line's length (odd or empty)"
 pub record AtEnd (line : List ℕ) (offset : ℕ) : Type 0 where
   pub end : offset ≡ length line
-  pub odd : (length line % 2 ≡ 1) ⊎ (length line ≡ 0)
+  pub wrong-count : (length line % 2 ≡ 1) ⊎ (length line ≡ 0)
 
 -- "the offset from 0 in the line of the first character that is not a digit or A-F": every character before the offset is a digit, and at the offset
 -- stands another character; or the offset is the length of the line, and that is odd or 0
@@ -58,7 +58,7 @@ abbrev pub OffsetsTold : Type 0
 OffsetsTold =
     (text : List ℕ) → isTooLong text ≡ false → Each (λ line reply. IsBadHex reply → TellsOffset line reply) (linesOf text) (repliesTo text)
 
--- a line of any length, at any panel: an offset over 65,535, which no line of such a text has, is told as 65,535
+-- a line of any length, at any panel: an offset over 65,535, which no line of a text within the limit has, is told as 65,535
 pub record TellsAtMost (line reply : List ℕ) : Type 0 where
   pub offset : ℕ
   pub wrong : WrongAt line offset
