@@ -31,7 +31,7 @@ use Rattle.acceptance.proofs.Replies.{every-reply}
 use Rattle.acceptance.proofs.Offsets.{wrong-within, bad-hex-exactly, offset-told, offsets-told}
 use Rattle.acceptance.proofs.Commands.{after-every-text, refused-line-unchanged}
 
--- what is written for a text that is not too long: one reply of document 01 for each line, then the tally, a line each
+-- what is written for a text that is not too long: one reply of the documents for each line, then the tally, a line each
 pub text-answered : (text : List ℕ) → isTooLong text ≡ false
     → (rs : List (List ℕ)) × Replied (linesOf text) rs × (linesOf (panelOutput text) ≡ map hexOf rs ++ (hexOf (tallyBytes (tallyAfter noTally rs)) ∷ []))
 text-answered text short = (repliesTo text, every-reply (linesOf text), output-lines text short .lines)

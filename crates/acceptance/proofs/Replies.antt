@@ -1,4 +1,4 @@
--- Every line has one reply of document 01: by cases on the line's command, whose outcome is a refusal or a count or a plan (`outcome`). The bounds
+-- Every line has one reply of the documents: by cases on the line's command, whose outcome is a refusal or a count or a plan (`outcome`). The bounds
 -- are those of a legal panel, which every command leaves legal; so it goes on over the lines (`replied`).
 use Prim.Native.Nat.{ℕ, _*_, _≤_, _<_}
 use mathlib.Core.Path.{_≡_, refl}

@@ -14,7 +14,8 @@ use Rattle.panel.specs.declared.Reply.the-variants.{Accepted, Refused}
 abbrev pub twoBytes : ℕ → List ℕ
 twoBytes n = n / 256 ∷ n % 256 ∷ []
 
--- a refusal's number ("Who causes which refusal") and the values behind it: "FF 01 and two bytes .., the offset", and none for any other
+-- a refusal's number ("Who causes which refusal") and the values behind it: "FF 01 and two bytes .., the offset .." (document 02, request 1), and none
+-- for any other
 abbrev pub refusalBytes : Refusal → List ℕ
 refusalBytes (BadHex offset) = 1 ∷ twoBytes offset
 refusalBytes BadFrame = 2 ∷ []

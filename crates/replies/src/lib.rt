@@ -27,7 +27,7 @@ struct RefusalBytes {
 }
 
 // A number alone.
-fn number(n: u8) -> RefusalBytes
+fn number_alone(n: u8) -> RefusalBytes
     ensures { λ b. ⌜ b ≡ buffered (n ∷ []) ⌝ }
 {
     let bytes = [n, 0, 0];
@@ -54,17 +54,17 @@ fn refusal_bytes(r: Refusal) -> RefusalBytes
 {
     match r {
         Refusal::BadHex(offset) => number_and_offset(1, offset),
-        Refusal::BadFrame => number(2),
-        Refusal::AlreadyOpen => number(3),
-        Refusal::NotOpen => number(4),
-        Refusal::BadSize => number(5),
-        Refusal::BadLink => number(6),
-        Refusal::NoSuchField => number(7),
-        Refusal::LinkTaken => number(8),
-        Refusal::NoSuchLink => number(9),
-        Refusal::Conflict => number(10),
-        Refusal::Loop => number(11),
-        Refusal::TextTooLong => number(12),
+        Refusal::BadFrame => number_alone(2),
+        Refusal::AlreadyOpen => number_alone(3),
+        Refusal::NotOpen => number_alone(4),
+        Refusal::BadSize => number_alone(5),
+        Refusal::BadLink => number_alone(6),
+        Refusal::NoSuchField => number_alone(7),
+        Refusal::LinkTaken => number_alone(8),
+        Refusal::NoSuchLink => number_alone(9),
+        Refusal::Conflict => number_alone(10),
+        Refusal::Loop => number_alone(11),
+        Refusal::TextTooLong => number_alone(12),
     }
 }
 

@@ -1,5 +1,5 @@
 //! Where a line is wrong (document 02, request 1): "FF 01 and two bytes (most
-//! significant first), the offset from 0 in the line of the first character
+//! significant first ..), the offset from 0 in the line of the first character
 //! that is not a digit or A-F; where there is none, the line's length (odd or
 //! empty)".
 
