@@ -23,8 +23,8 @@ use Rattle.panel.specs.Answers.{Answer, refusalBytes, twoBytes}
 use Rattle.panel.specs.Panels.{opened}
 use Rattle.panel.specs.Commands.{Command, performed}
 use Rattle.optimality.proofs.Answers.{Outcome, Any, Not, outcome-of}
-use Rattle.hex.specs.Hex.{lf, areDigits, isHex, offsetOf, bytesOf}
-use Rattle.hex.proofs.Digits.{digits-at}
+use Rattle.hex.specs.Hex.{lf, isHex, offsetOf, bytesOf}
+use Rattle.hex.proofs.Digits.{other-digits}
 use Rattle.hex.proofs.Lines.{hex-empty, hex-odd, hex-other, hex-line}
 use Rattle.hex.proofs.Offsets.{offset-within, before-offset, at-offset, end-offset}
 use Rattle.lines.specs.Lines.{before, linesOf}
@@ -60,11 +60,7 @@ is-wrong line offset w = ⊎-elim (λ o. inr (inr (offset, o))) (λ e. ⊎-elim 
 wrong-no-hex : (line : List ℕ) → IsWrong line → isHex line ≡ false
 wrong-no-hex line (inl z) = hex-empty line z
 wrong-no-hex line (inr (inl o)) = hex-odd line o
-wrong-no-hex line (inr (inr (i, o))) = hex-other line (go (areDigits line) refl)
-  where
-    go : (b : Bool) → areDigits line ≡ b → b ≡ false
-    go true d = absurd (clash (digits-at line i d (o .within)) (o .other))
-    go false d = refl
+wrong-no-hex line (inr (inr (i, o))) = hex-other line (other-digits line i (o .within) (o .other))
 
 -- ---- who gives BadHex
 

@@ -1,6 +1,6 @@
 -- Digits: what `digitRead` says of a character, by where it stands among the characters 0, 9, A and F, and back from what was read. Assumes nothing.
-use mathlib.Core.Path.{_≡_, refl}
-use mathlib.Core.Bool.{Bool, true, false, _&&_, _||_, cond}
+use mathlib.Core.Path.{_≡_, refl, sym, _∙_}
+use mathlib.Core.Bool.{Bool, true, false, _&&_, _||_, cond, true≢false}
 use mathlib.Core.List.{List, [], _∷_}
 use Prim.Native.Nat.{ℕ, zero, suc, _-_, _≤_, _<_}
 use native.Mathlib.Nat.{not-suc-le-zero, le-of-suc-le-suc}
@@ -75,3 +75,9 @@ unfolding areDigits
 digits-at [] i e h = absurd (not-suc-le-zero h)
 digits-at (c ∷ s) zero e h = and-left (isDigit c) (areDigits s) e
 digits-at (c ∷ s) (suc i) e h = digits-at s i (and-right (isDigit c) (areDigits s) e) (le-of-suc-le-suc h)
+
+pub other-digits : (s : List ℕ) (i : ℕ) → i < length s → isDigit (getD s i 0) ≡ false → areDigits s ≡ false
+other-digits s i h e = go (areDigits s) refl where
+  go : (b : Bool) → areDigits s ≡ b → b ≡ false
+  go true d = absurd (true≢false (sym (digits-at s i d h) ∙ e))
+  go false d = refl

@@ -1,8 +1,8 @@
 -- Offsets: every character before the offset is a digit (`before-offset`), and the one at it is none, unless the line ends there (`at-offset`); all are
 -- digits exactly where it is the length. `Read`: the characters from a position on decide the offset, with a law for each way on. By induction on the
 -- line. Assumes nothing.
-use mathlib.Core.Path.{_≡_, refl, sym, ap, _∙_}
-use mathlib.Core.Bool.{Bool, true, false, _&&_, cond, true≢false}
+use mathlib.Core.Path.{_≡_, refl, ap}
+use mathlib.Core.Bool.{Bool, true, false, _&&_, cond}
 use mathlib.Core.List.{List, [], _∷_}
 use Prim.Native.Nat.{ℕ, zero, suc, _+_, _≤_, _<_}
 use native.Mathlib.Nat.{not-suc-le-zero, le-of-suc-le-suc}
@@ -12,7 +12,7 @@ use lib.ListN.{length, getD, drop, drop-of-length-le}
 use lib.Seq.{drop-cons}
 use Rattle.hex.specs.Hex.{isDigit, areDigits, offsetOf}
 use Rattle.hex.specs.Answers.{digitRead}
-use Rattle.hex.proofs.Digits.{value-read, other-read, digits-at}
+use Rattle.hex.proofs.Digits.{value-read, other-read, other-digits}
 
 pub offset-within : (s : List ℕ) → offsetOf s ≤ length s
 unfolding offsetOf
@@ -43,10 +43,7 @@ at-offset (c ∷ s) h = go (isDigit c) refl h (at-offset s) where
 
 -- all characters are digits exactly where the offset is the length
 pub other-offset : (s : List ℕ) → offsetOf s < length s → areDigits s ≡ false
-other-offset s h = go (areDigits s) refl where
-  go : (b : Bool) → areDigits s ≡ b → b ≡ false
-  go true e = absurd (true≢false (sym (digits-at s (offsetOf s) e h) ∙ at-offset s h))
-  go false e = refl
+other-offset s h = other-digits s (offsetOf s) h (at-offset s h)
 
 pub end-offset : (s : List ℕ) → length s ≤ offsetOf s → areDigits s ≡ true
 unfolding areDigits offsetOf
