@@ -2,7 +2,8 @@
 
 use crate::frame::{read_frame, read_line, Command};
 
-/// The refusals with their numbers.
+/// The refusals with their numbers. BadHex has no offset here, as the plain
+/// solver's has: the answers that the solvers pass on would be larger by it.
 #[derive(Clone, Copy, Debug, PartialEq, Eq)]
 pub enum Refusal {
     BadHex = 1,

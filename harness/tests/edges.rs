@@ -21,7 +21,7 @@ fn check(cases: &[(&[&str], &str)]) {
     }
 }
 
-// Reading 2.
+// The reading "other characters" of docs/DECISIONS.md.
 #[test]
 fn other_characters_are_bad_hex() {
     check(&[
@@ -87,7 +87,7 @@ fn lines_of_a_text() {
     assert_eq!(lines(b"A\nB"), lines(b"A\nB\n"));
 }
 
-// Reading 3.
+// The reading "bit 6".
 #[test]
 fn bit_6_counts_in_field_bytes_only() {
     check(&[
@@ -105,7 +105,7 @@ fn bit_6_counts_in_field_bytes_only() {
     ]);
 }
 
-// Reading 4.
+// The reading "rising".
 #[test]
 fn rising_is_judged_on_the_low_six_bits() {
     check(&[
@@ -132,7 +132,7 @@ fn bad_link_comes_before_no_such_field() {
     ]);
 }
 
-// Reading 5.
+// The reading "01 when open".
 #[test]
 fn opening_checks() {
     check(&[
@@ -165,7 +165,7 @@ fn lower_numbers_come_first() {
     ]);
 }
 
-// Reading 6.
+// The reading "later kinds".
 #[test]
 fn other_kinds_are_bad_frames() {
     for kind in (0..=255).filter(|kind| !(1..=5).contains(kind)) {
@@ -283,7 +283,7 @@ fn lent_panel_and_tally_go_on() {
     assert_eq!(run, before);
 }
 
-// Reading 8.
+// The reading "add without a frame".
 #[test]
 fn adds_that_no_frame_can_hold() {
     let mut panel = Panel::default();
