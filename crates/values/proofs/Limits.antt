@@ -1,0 +1,55 @@
+-- Laws of the limits.
+use Prim.Native.Nat.{ℕ, suc, _-_, _<_}
+use mathlib.Core.Path.{_≡_, refl, sym, ap, _∙_}
+use mathlib.Core.Bool.{Bool, true, false, cond, or-true}
+use native.Mathlib.Decide.{ℕ-discrete}
+use native.Mathlib.Omega.{arith}
+use borrow.Author.Tests.{ltb-false, le-ltb, eq-eqb, ne-eqb, eqb-true}
+use lib.Dec.{eqb}
+use lib.IntN.{ℤ, pos, negsuc}
+use lib.Signed.{ltZ, mag}
+use mir.Syntax.{w32}
+use mir.Val.{SFits, ofZ}
+use Rattle.values.specs.Limits.{least, greatest, outside, limited}
+use Rattle.values.specs.declared.Limited.the-variants.{Value, OutOfRange}
+
+pub limited-low : (z : ℤ) → ltZ z least ≡ true → OutOfRange ≡ limited z
+unfolding limited
+limited-low z e = rw e
+
+pub limited-high : (z : ℤ) → ltZ greatest z ≡ true → OutOfRange ≡ limited z
+unfolding limited
+limited-high z e = rw (e, or-true (ltZ z least))
+
+module _ (z : ℤ) (low : ltZ z least ≡ false) (high : ltZ greatest z ≡ false) where
+  pub limited-value : Value z ≡ limited z
+  unfolding limited
+  limited-value = rw (low, high)
+
+  pub value-fits : SFits w32 z
+  value-fits = record { sfits = go z low high }
+    where
+      go : (z : ℤ) → ltZ z least ≡ false → ltZ greatest z ≡ false → mag z < 2147483648
+      go (pos n) low high = omega (arith, ltb-false 2147483647 n high)
+      go (negsuc n) low high = omega (arith, ltb-false 2147483647 n low)
+
+-- what fits 32 bits is within the limits
+pub limited-fits : {z : ℤ} → SFits w32 z → limited z ≡ Value z
+limited-fits {z} h = sym (limited-value z (low z (h .sfits)) (high z (h .sfits)))
+  where
+    low : (z : ℤ) → mag z < 2147483648 → ltZ z least ≡ false
+    low (pos n) h = refl
+    low (negsuc n) h = le-ltb 2147483647 n (omega arith)
+
+    high : (z : ℤ) → mag z < 2147483648 → ltZ greatest z ≡ false
+    high (pos n) h = le-ltb 2147483647 n (omega arith)
+    high (negsuc n) h = refl
+
+-- a result that is a value is that value
+pub limited-same : (z x : ℤ) → limited z ≡ Value x → z ≡ x
+unfolding limited
+limited-same z x e = go (outside z) e
+  where
+    go : (b : Bool) → cond b OutOfRange (Value z) ≡ Value x → z ≡ x
+    go true e = let q : _≡_ {A = ℕ} 0 1 = cc in absurd (omega arith)
+    go false e = cc
