@@ -3,26 +3,26 @@ use Prim.Native.Nat.{ℕ, zero, suc, _+_, _^_, _<_}
 use mathlib.Core.Path.{_≡_, refl, sym, ap, subst, _∙_}
 use mathlib.Core.Bool.{Bool, true, false, not, _&&_, cond, and-true, and-false, true≢false}
 use mathlib.Core.List.{List, [], _∷_}
-use mathlib.Core.Logic.{_≢_}
-use native.Mathlib.Decide.{ℕ-discrete}
+use mathlib.Core.Logic.{_≢_, _⊎_, inl, inr}
+use native.Mathlib.Decide.{ℕ-discrete, decLt}
 use native.Mathlib.Omega.{arith}
 use borrow.Author.Tests.{lt-ltb, le-ltb, eq-eqb, ne-eqb}
 use lib.Dec.{eqb}
 use lib.IntN.{ℤ, pos, _+ℤ_, _-ℤ_, +ℤ-comm, -ℤ-+ℤ-cancel}
-use lib.ListN.{length, set, length-set}
-use lib.Seq.{getD-set-same, getD-set-other, set-getD}
+use lib.ListN.{length, set, length-set, List·getD-eq-default}
+use lib.Seq.{getD-set-same, getD-set-other, set-getD, set-out}
 use Rattle.fieldset.specs.Lists.{In, All}
 use Rattle.fieldset.proofs.Lists.{all-in}
 use Rattle.fieldset.specs.Fields.{member, with, without, lowestOf, size}
 use Rattle.fieldset.proofs.Numbers.{clash, count-pos}
 use Rattle.fieldset.proofs.Tests.{and-left}
 use Rattle.fieldset.proofs.Fields.{member-with-same, member-with-other, member-without, member-without-other, without-lt, lowestOf-lt, lowestOf-member, size-without, within-member, size-empty, member-lt}
-use Rattle.values.specs.Limits.{limited, valueAt}
+use Rattle.values.specs.Limits.{outside, limited, valueAt}
 use Rattle.values.specs.declared.Limited.{Limited}
 use Rattle.values.specs.declared.Limited.the-variants.{Value, OutOfRange}
 use Rattle.values.specs.Ratios.{Nearest}
 use Rattle.values.specs.Sums.{total}
-use Rattle.values.proofs.Limits.{limited-same}
+use Rattle.values.proofs.Limits.{limited-same, limited-within}
 use Rattle.values.proofs.Ratios.{scaled-nearest}
 use Rattle.values.proofs.Sums.{total-cong, total-without, total-members}
 use Rattle.formulas.specs.declared.Formula.{Formula}
@@ -151,6 +151,14 @@ module _ {covered reads f : ℕ} (w : ℕ → ℤ) where
 
 -- ---- along the run
 
+-- a value within the limits, where it is stored and where nothing is
+set-inside : (v : List ℤ) (f g : ℕ) (x : ℤ) → outside x ≡ false → g ≡ f → outside (valueAt (set v f x) g) ≡ false
+set-inside v f g x i d = go (decLt f (length v))
+  where
+    go : Dec (f < length v) → outside (valueAt (set v f x) g) ≡ false
+    go (yes l) = rw d (ap outside (getD-set-same v f x (pos 0) l) ∙ i)
+    go (no l) = rw d (ap (λ (w : List ℤ). outside (valueAt w f)) (set-out v f x (omega arith)) ∙ ap outside (List·getD-eq-default v (pos 0) {n = f} (omega arith)))
+
 -- a run to the end, all of whose results are within the limits
 abbrev Ends : (ℕ → Formula) → (ℕ → ℕ) → List ℕ → List ℤ → List ℤ → Type 0
 Ends formula reads fs v w = run formula reads fs v ≡ record { fits = true; values = w }
@@ -159,6 +167,7 @@ Ends formula reads fs v w = run formula reads fs v ≡ record { fits = true; val
 record First (formula : ℕ → Formula) (reads : ℕ → ℕ) (f : ℕ) (fs : List ℕ) (v w : List ℤ) : Type 0 where
   value : ℤ
   is : computed (formula f) (reads f) f (valueAt v) ≡ value
+  within : outside value ≡ false
   onwards : Ends formula reads fs (set v f value) w
 
 module _ (formula : ℕ → Formula) (reads : ℕ → ℕ) where
@@ -170,6 +179,7 @@ module _ (formula : ℕ → Formula) (reads : ℕ → ℕ) where
           record {
             value = x;
             is = limited-same (computed (formula f) (reads f) f (valueAt v)) x d;
+            within = limited-within (computed (formula f) (reads f) f (valueAt v)) x d;
             onwards = sym (run-value formula reads f fs v x d) ∙ e;
           }
       go OutOfRange d = absurd (true≢false (ap (λ (r : Run). r .fits) (sym e ∙ run-out formula reads f fs v d)))
@@ -224,3 +234,34 @@ module _ (formula : ℕ → Formula) (reads : ℕ → ℕ) where
     run-right fs v w n o e held f i =
         computed-right (valueAt w) (formula f) (all-in HeldAt fs f held i)
         (all-in (λ g. valueAt w g ≡ computed (formula g) (reads g) g (valueAt w)) fs f (run-computed 0 fs v w n o e held) i)
+
+  -- ---- limits, and what is not in the plan
+
+  -- a field that is run, or was within the limits, is within them at the end
+  pub run-within : (fs : List ℕ) (v w : List ℤ) → Ends formula reads fs v w → (g : ℕ) → In g fs ⊎ (outside (valueAt v g) ≡ false) → outside (valueAt w g) ≡ false
+  unfolding run
+  run-within [] v w e g (inr h) = ap (λ (r : Run). outside (valueAt (r .values) g)) (sym e) ∙ h
+  run-within (f ∷ fs) v w e g h =
+      let s = first-step f fs v w e in
+      run-within fs (set v f (s .value)) w (s .onwards) g (go (s .value) (s .within) (ℕ-discrete g f) h)
+    where
+      go : (x : ℤ) → outside x ≡ false → Dec (g ≡ f) → In g (f ∷ fs) ⊎ (outside (valueAt v g) ≡ false) → In g fs ⊎ (outside (valueAt (set v f x) g) ≡ false)
+      go x i (yes d) h = inr (set-inside v f g x i d)
+      go x i (no d) (inl (inl m)) = absurd (d m)
+      go x i (no d) (inl (inr m)) = inl m
+      go x i (no d) (inr k) = inr (ap outside (getD-set-other v f g x (pos 0) d) ∙ k)
+
+  -- a field that is not run keeps its value
+  pub run-others : (fs : List ℕ) (v w : List ℤ) → Ends formula reads fs v w → (g : ℕ) → All (λ f. g ≢ f) fs → valueAt w g ≡ valueAt v g
+  unfolding run
+  run-others [] v w e g o = ap (λ (r : Run). valueAt (r .values) g) (sym e)
+  run-others (f ∷ fs) v w e g o =
+      let s = first-step f fs v w e in
+      run-others fs (set v f (s .value)) w (s .onwards) g (o .1) ∙ getD-set-other v f g (s .value) (pos 0) (o .0)
+
+  pub run-length : (fs : List ℕ) (v w : List ℤ) → Ends formula reads fs v w → length w ≡ length v
+  unfolding run
+  run-length [] v w e = ap (λ (r : Run). length (r .values)) (sym e)
+  run-length (f ∷ fs) v w e =
+      let s = first-step f fs v w e in
+      run-length fs (set v f (s .value)) w (s .onwards) ∙ length-set v f (s .value)

@@ -51,7 +51,7 @@ agrees-alike b p q size places alike force a =
     entry-alike : (i : ℕ) → entryOf (linkAt (q .links) i) ≡ entryOf (linkAt (p .links) i)
     entry-alike i =
         ap (λ (u : Bool). cond u (some (entryFor (linkAt (q .links) i))) none) (force (link i))
-        ∙ ap (λ (x : ℕ × ℕ × ℕ). cond (isInForce (linkAt (p .links) i)) (some (record { level = x .0; covered = x .1; outputs = x .2 })) none) (alike i)
+        ∙ ap (λ (x : ℕ × ℕ × ℕ × Bool). cond (isInForce (linkAt (p .links) i)) (some (record { level = x .0; covered = x .1; outputs = x .2 })) none) (alike i)
 
 -- ---- a link
 

@@ -6,7 +6,7 @@ use Prim.Native.Nat.{ℕ, _+_, _*_, _/_, _%_, _≤_}
 use native.Mathlib.Omega.{arith}
 use lib.ListN.{length, getD, drop}
 use Rattle.panel.specs.declared.Refusal.{Refusal}
-use Rattle.panel.specs.declared.Refusal.the-variants.{BadHex, BadFrame, AlreadyOpen, NotOpen, BadSize, BadLink, NoSuchField, LinkTaken, NoSuchLink, Conflict, Loop, TextTooLong}
+use Rattle.panel.specs.declared.Refusal.the-variants.{BadHex, BadFrame, AlreadyOpen, NotOpen, BadSize, BadLink, NoSuchField, LinkTaken, NoSuchLink, Conflict, Loop, TextTooLong, OutOfRange, FieldDriven, BadFormula}
 use Rattle.panel.specs.declared.Reply.{Reply}
 use Rattle.panel.specs.declared.Reply.the-variants.{Accepted, Refused}
 use Rattle.panel.specs.Answers.{refusalBytes, replyBytes}
@@ -16,7 +16,8 @@ abbrev pub refusalAt : List ℕ → Refusal
 refusalAt b =
     let badHex = BadHex (getD b 1 0 * 256 + getD b 2 0) in
     getD
-    (badHex ∷ badHex ∷ BadFrame ∷ AlreadyOpen ∷ NotOpen ∷ BadSize ∷ BadLink ∷ NoSuchField ∷ LinkTaken ∷ NoSuchLink ∷ Conflict ∷ Loop ∷ TextTooLong ∷ [])
+    (badHex ∷ badHex ∷ BadFrame ∷ AlreadyOpen ∷ NotOpen ∷ BadSize ∷ BadLink ∷ NoSuchField ∷ LinkTaken ∷ NoSuchLink ∷ Conflict ∷ Loop ∷ TextTooLong ∷ OutOfRange
+    ∷ FieldDriven ∷ BadFormula ∷ [])
     (getD b 0 0) badHex
 
 pub refusal-at : (r : Refusal) → refusalAt (refusalBytes r) ≡ r
@@ -32,6 +33,9 @@ refusal-at NoSuchLink = refl
 refusal-at Conflict = refl
 refusal-at Loop = refl
 refusal-at TextTooLong = refl
+refusal-at OutOfRange = refl
+refusal-at FieldDriven = refl
+refusal-at BadFormula = refl
 
 -- a refusal has its number and at most two values
 pub refusal-length : (r : Refusal) → (1 ≤ length (refusalBytes r)) × (length (refusalBytes r) ≤ 3)
@@ -47,6 +51,9 @@ refusal-length NoSuchLink = (omega arith, omega arith)
 refusal-length Conflict = (omega arith, omega arith)
 refusal-length Loop = (omega arith, omega arith)
 refusal-length TextTooLong = (omega arith, omega arith)
+refusal-length OutOfRange = (omega arith, omega arith)
+refusal-length FieldDriven = (omega arith, omega arith)
+refusal-length BadFormula = (omega arith, omega arith)
 
 -- a reply's first two bytes are there
 pub reply-two : (r : Reply) → 2 ≤ length (replyBytes r)

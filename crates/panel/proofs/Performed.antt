@@ -15,11 +15,11 @@ use Rattle.panel.specs.declared.Link.{Link}
 use Rattle.panel.specs.declared.Panel.{Panel}
 use Rattle.panel.specs.declared.Refusal.the-variants.{Conflict, Loop}
 use Rattle.panel.specs.Items.{Item, link, stay, linkAt, itemsOf}
-use Rattle.panel.specs.Answers.{Answer, refused}
-use Rattle.panel.specs.Panels.{withLink, dropped, toFront}
+use Rattle.panel.specs.Answers.{Answer, isRefusal, refused}
+use Rattle.panel.specs.Panels.{opened, withLink, dropped, toFront}
 use Rattle.panel.specs.Solution.{level, isBlocked, pathFor, reversed, lesser, least, leastBlocked, isLooped}
 use Rattle.panel.specs.Steps.{accepted, reverseStep, openStep, enterStep, addStep, settled, dropStep, removeStep, touchStep, planStep}
-use Rattle.panel.specs.Commands.{coveredIn, outputsIn, openChecks, addChecks, removeChecks, touchChecks, planChecks, Command, opening, adding, removing, touching, planning, performed}
+use Rattle.panel.specs.Commands.{coveredIn, outputsIn, Check, checked, Passes, openChecks, addChecks, removeChecks, touchChecks, planChecks, Command, opening, adding, removing, touching, planning, performed}
 use Rattle.panel.specs.Legal.{Legal}
 use Rattle.panel.proofs.Reversed.{link-here}
 use Rattle.panel.proofs.Legal.{LegalBut}
@@ -132,3 +132,71 @@ legal-performed p (removing id) h =
 legal-performed p (touching f) h =
     checked-panel Legal p (touchChecks p f) (touchStep p f) h (λ k. legal-touch-step p f h (touchable p f k))
 legal-performed p planning h = checked-panel Legal p (planChecks p) (planStep p) h (λ k. h)
+
+-- ---- what a command keeps
+
+-- a refusal leaves the panel; of any other answer's panel P holds
+abbrev pub Keeps : (Panel → Type 0) → Panel → Answer → Type 0
+Keeps P p a = ((isRefusal (a .reply) ≡ true) × (a .panel ≡ p)) ⊎ ((isRefusal (a .reply) ≡ false) × P (a .panel))
+
+-- P holds after the change that a command makes before it reverses a path, where it passes its checks
+abbrev pub Changes : (Panel → Type 0) → Panel → Command → Type 0
+Changes P p (opening n) = Passes (openChecks p n) → P (opened n)
+Changes P p (adding id level bytes) = Passes (addChecks p id level bytes) → P (withLink p id (newLink level bytes))
+Changes P p (removing id) = Passes (removeChecks p id) → P (dropped p id)
+Changes P p (touching f) = Passes (touchChecks p f) → P (toFront p f)
+Changes P p planning = P p
+
+-- what holds after that change, and is kept by every reversal, holds after the command
+module _ (P : Panel → Type 0) (turns : (q : Panel) (c : Item) (vs : List ℕ) → P q → P (reversed q c vs)) (p : Panel) where
+  kept-reverse : (q : Panel) (c : Item) → P q → Keeps P p (reverseStep p q c)
+  unfolding reverseStep
+  kept-reverse q c k = go (isLooped (reversed q c (pathFor q c)))
+    where
+      go : (x : Bool) → Keeps P p (pick x (refused p Loop) (accepted p (reversed q c (pathFor q c))))
+      go true = inl (refl, refl)
+      go false = inr (refl, turns q c (pathFor q c) k)
+
+  kept-enter : (q : Panel) (id : ℕ) (l : Link) → P (withLink q id l) → Keeps P p (enterStep p q id l)
+  unfolding enterStep
+  kept-enter q id l k = go (isBlocked (withLink q id l) (link id)) (eqb (l .level) 0)
+    where
+      go : (b z : Bool) → Keeps P p (pick b (reverseStep p (withLink q id l) (link id)) (pick z (refused p Conflict) (accepted p (withLink q id l))))
+      go true z = kept-reverse (withLink q id l) (link id) k
+      go false true = inl (refl, refl)
+      go false false = inr (refl, k)
+
+  kept-drop : (q : Panel) (s : Standing) → P q → Keeps P p (dropStep p q s)
+  kept-drop q Waiting k = inr (refl, k)
+  kept-drop q (Holding v) k = go (leastBlocked q)
+    where
+      go : (o : Option Item) → Keeps P p (settled p q o)
+      go none = inr (refl, k)
+      go (some c) = kept-reverse q c k
+
+  kept-touch : (f : ℕ) → P (toFront p f) → Keeps P p (touchStep p f)
+  unfolding touchStep
+  kept-touch f k = go (isBlocked (toFront p f) (stay f))
+    where
+      go : (b : Bool) → Keeps P p (pick b (reverseStep p (toFront p f) (stay f)) (accepted p (toFront p f)))
+      go true = kept-reverse (toFront p f) (stay f) k
+      go false = inr (refl, k)
+
+  kept-checked : (cs : List Check) (step : Answer) → (Passes cs → Keeps P p step) → Keeps P p (checked p cs step)
+  unfolding checked
+  kept-checked [] step k = k tt
+  kept-checked (c ∷ cs) step k = go (c .applies) refl (λ e. kept-checked cs step (λ n. k (e, n)))
+    where
+      go : (b : Bool) → c .applies ≡ b → (c .applies ≡ false → Keeps P p (checked p cs step)) → Keeps P p (checked p (c ∷ cs) step)
+      go true e ih = rw e (inl (refl, refl))
+      go false e ih = rw e (ih e)
+
+  pub kept-performed : (c : Command) → Changes P p c → Keeps P p (performed p c)
+  unfolding removeStep planStep
+  kept-performed (opening n) k = kept-checked (openChecks p n) (openStep n) (λ a. inr (refl, k a))
+  kept-performed (adding id level bytes) k =
+      kept-checked (addChecks p id level bytes) (addStep p id level (coveredIn bytes) (outputsIn bytes)) (λ a. kept-enter p id (newLink level bytes) (k a))
+  kept-performed (removing id) k =
+      kept-checked (removeChecks p id) (removeStep p id) (λ a. kept-drop (dropped p id) (linkAt (p .links) id .standing) (k a))
+  kept-performed (touching f) k = kept-checked (touchChecks p f) (touchStep p f) (λ a. kept-touch f (k a))
+  kept-performed planning k = kept-checked (planChecks p) (planStep p) (λ a. inr (refl, k))

@@ -2,7 +2,7 @@
 -- item that takes a field at a time (`holding`); the setters are then a function of the field, which the path changes (`reversedSetters`).
 use Prim.Native.Nat.{ℕ, _≤_, _<_}
 use mathlib.Core.Path.{_≡_, refl, sym, ap, _∙_, fun-ext}
-use mathlib.Core.Bool.{true, cond}
+use mathlib.Core.Bool.{Bool, true, cond}
 use mathlib.Core.List.{List, [], _∷_}
 use mathlib.Core.Logic.{_≢_}
 use native.Mathlib.Decide.{ℕ-discrete, decLt}
@@ -122,11 +122,11 @@ left-last st c v (w ∷ vs) (a, b) =
 
 -- ---- the links
 
--- a link's level and fields
-abbrev parts : Link → ℕ × ℕ × ℕ
-parts l = (l .level, l .covered, l .outputs)
+-- a link's level and fields, and whether its number is in use
+abbrev parts : Link → ℕ × ℕ × ℕ × Bool
+parts l = (l .level, l .covered, l .outputs, l .used)
 
--- links of the same levels and fields
+-- links that differ in nothing but their standings
 abbrev pub AllAlike : List Link → List Link → Type 0
 AllAlike a b = (i : ℕ) → parts (linkAt a i) ≡ parts (linkAt b i)
 
@@ -158,16 +158,22 @@ set-force a i l e u n (stay f) = refl
 
 module _ (a b : List Link) (h : AllAlike a b) where
   pub alike-level : (place : List ℕ) (d : Item) → levelOf a place d ≡ levelOf b place d
-  alike-level place (link i) = ap (λ (x : ℕ × ℕ × ℕ). x .0) (h i)
+  alike-level place (link i) = ap (λ (x : ℕ × ℕ × ℕ × Bool). x .0) (h i)
   alike-level place (stay f) = refl
 
   pub alike-outputs : (d : Item) → outputsOf a d ≡ outputsOf b d
-  alike-outputs (link i) = ap (λ (x : ℕ × ℕ × ℕ). x .2) (h i)
+  alike-outputs (link i) = ap (λ (x : ℕ × ℕ × ℕ × Bool). x .2) (h i)
   alike-outputs (stay f) = refl
 
   pub alike-reads : (d : Item) (f : ℕ) → readsOf a d f ≡ readsOf b d f
-  alike-reads (link i) f = ap (λ (x : ℕ × ℕ × ℕ). without (x .1) f) (h i)
+  alike-reads (link i) f = ap (λ (x : ℕ × ℕ × ℕ × Bool). without (x .1) f) (h i)
   alike-reads (stay g) f = refl
+
+  pub alike-covered : (i : ℕ) → linkAt a i .covered ≡ linkAt b i .covered
+  alike-covered i = ap (λ (x : ℕ × ℕ × ℕ × Bool). x .1) (h i)
+
+  pub alike-used : (i : ℕ) → linkAt a i .used ≡ linkAt b i .used
+  alike-used i = ap (λ (x : ℕ × ℕ × ℕ × Bool). x .3) (h i)
 
 -- ---- one item holds a field
 

@@ -6,7 +6,7 @@ use lib.Dec.{eqb}
 use lib.ListN.{getD}
 use Rattle.panel.specs.declared.Panel.{Panel}
 use Rattle.panel.specs.declared.Refusal.{Refusal}
-use Rattle.panel.specs.declared.Refusal.the-variants.{BadHex, BadFrame, AlreadyOpen, NotOpen, BadSize, BadLink, NoSuchField, LinkTaken, NoSuchLink, Conflict, Loop, TextTooLong}
+use Rattle.panel.specs.declared.Refusal.the-variants.{BadHex, BadFrame, AlreadyOpen, NotOpen, BadSize, BadLink, NoSuchField, LinkTaken, NoSuchLink, Conflict, Loop, TextTooLong, OutOfRange, FieldDriven, BadFormula}
 use Rattle.panel.specs.declared.Reply.{Reply}
 use Rattle.panel.specs.declared.Reply.the-variants.{Accepted, Refused}
 
@@ -14,8 +14,8 @@ use Rattle.panel.specs.declared.Reply.the-variants.{Accepted, Refused}
 abbrev pub twoBytes : ℕ → List ℕ
 twoBytes n = n / 256 ∷ n % 256 ∷ []
 
--- a refusal's number ("Who causes which refusal") and the values behind it: "FF 01 and two bytes .., the offset .." (document 02, request 1), and none
--- for any other
+-- a refusal's number ("Who causes which refusal"; from 13 on document 02) and the values behind it: "FF 01 and two bytes .., the offset .." (document
+-- 02, request 1), and none for any other
 abbrev pub refusalBytes : Refusal → List ℕ
 refusalBytes (BadHex offset) = 1 ∷ twoBytes offset
 refusalBytes BadFrame = 2 ∷ []
@@ -29,6 +29,9 @@ refusalBytes NoSuchLink = 9 ∷ []
 refusalBytes Conflict = 10 ∷ []
 refusalBytes Loop = 11 ∷ []
 refusalBytes TextTooLong = 12 ∷ []
+refusalBytes OutOfRange = 13 ∷ []
+refusalBytes FieldDriven = 14 ∷ []
+refusalBytes BadFormula = 15 ∷ []
 
 -- "Replies: 00 m (m the moved count); for a plan 00 n, ..; for a refusal FF and its number", with its values
 abbrev pub replyBytes : Reply → List ℕ

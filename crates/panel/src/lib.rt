@@ -59,6 +59,12 @@ pub enum Refusal {
     Conflict,
     Loop,
     TextTooLong,
+    // a value is outside the limits
+    OutOfRange,
+    // a link still sets the field that a value is entered in
+    FieldDriven,
+    // a formula that does not fit its link
+    BadFormula,
 }
 
 // The reply to a command. An accepted one has a count: the fields whose setter changed, or, for a plan, the fields listed.

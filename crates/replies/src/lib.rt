@@ -65,6 +65,9 @@ fn refusal_bytes(r: Refusal) -> RefusalBytes
         Refusal::Conflict => number_alone(10),
         Refusal::Loop => number_alone(11),
         Refusal::TextTooLong => number_alone(12),
+        Refusal::OutOfRange => number_alone(13),
+        Refusal::FieldDriven => number_alone(14),
+        Refusal::BadFormula => number_alone(15),
     }
 }
 

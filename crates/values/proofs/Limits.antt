@@ -53,3 +53,12 @@ limited-same z x e = go (outside z) e
     go : (b : Bool) → cond b OutOfRange (Value z) ≡ Value x → z ≡ x
     go true e = let q : _≡_ {A = ℕ} 0 1 = cc in absurd (omega arith)
     go false e = cc
+
+-- and is within them
+pub limited-within : (z x : ℤ) → limited z ≡ Value x → outside x ≡ false
+unfolding limited
+limited-within z x e = go (outside z) refl e
+  where
+    go : (b : Bool) → outside z ≡ b → cond b OutOfRange (Value z) ≡ Value x → outside x ≡ false
+    go true d e = let q : _≡_ {A = ℕ} 0 1 = cc in absurd (omega arith)
+    go false d e = let same : z ≡ x = cc in rw (← same) d

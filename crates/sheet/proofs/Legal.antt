@@ -1,0 +1,288 @@
+-- Every command leaves a legal sheet legal. A command of document 01 leaves each link its covered fields and its number's use but for the link that it
+-- adds, which had no formula, and the one that it removes, which then has none (`fits-solved`); a run of the plan leaves every value within the limits
+-- (`run-within`) and reaches no field past the panel's (`run-others`). Assumes nothing.
+use Prim.Native.Nat.{ℕ, _≤_, _<_}
+use mathlib.Core.Path.{_≡_, refl, sym, ap, subst, _∙_}
+use mathlib.Core.Bool.{Bool, true, false, cond, not}
+use mathlib.Core.List.{List, [], _∷_}
+use mathlib.Core.Logic.{_⊎_, inl, inr, _≢_, ⊎-elim}
+use native.Mathlib.Decide.{ℕ-discrete, decLt}
+use native.Mathlib.Omega.{arith}
+use borrow.Author.Tests.{ltb-false, le-ltb, not-false}
+use lib.Dec.{eqb, ltb}
+use lib.IntN.{ℤ, pos}
+use lib.ListN.{length, set, getD, replicate, length-set, length-replicate, getD-replicate, List·getD-eq-default}
+use lib.Seq.{getD-set-same, getD-set-other}
+use Rattle.fieldset.specs.Tables.{at}
+use Rattle.fieldset.specs.Lists.{In}
+use Rattle.fieldset.proofs.Numbers.{clash}
+use Rattle.fieldset.proofs.Lists.{all-map, whole-in}
+use Rattle.ordering.proofs.Plan.{order-low, order-whole}
+use Rattle.panel.specs.declared.Link.{Link}
+use Rattle.panel.specs.declared.Panel.{Panel}
+use Rattle.panel.specs.declared.Standing.{Standing}
+use Rattle.panel.specs.declared.Standing.the-variants.{Waiting, Holding}
+use Rattle.panel.specs.Items.{Item, noLink, linkAt}
+use Rattle.panel.specs.Answers as answers
+use Rattle.panel.specs.Answers.{refusalBytes, isRefusal}
+use Rattle.panel.specs.Panels.{opened, withLink, freed, dropped, toFront}
+use Rattle.panel.specs.Solution.{setterReads, reversed, planOf, isLooped}
+use Rattle.panel.specs.Commands as panel
+use Rattle.panel.specs.Commands.{opening, adding, removing, touching, planning, Passes, Check, checkReply}
+use Rattle.panel.specs.Legal.{Legal}
+use Rattle.panel.proofs.Reversed.{AllAlike, alike-covered, alike-used, link-there, reversed-alike, reversed-size}
+use Rattle.panel.proofs.Changes.{legal-opened, unopened-links}
+use Rattle.panel.proofs.Checks.{addable, removable, touchable, openable, newLink}
+use Rattle.panel.proofs.Performed.{legal-performed, Keeps, Changes, kept-performed}
+use Rattle.values.specs.Limits.{valueAt, outside}
+use Rattle.formulas.specs.declared.Formula.{Formula}
+use Rattle.formulas.specs.declared.Formula.the-variants.{None}
+use Rattle.formulas.specs.declared.Rule.{Rule}
+use Rattle.formulas.specs.Formulas.{formulaOf, accepted}
+use Rattle.evaluation.specs.Runs.{Run, run}
+use Rattle.evaluation.proofs.Settled.{run-within, run-others, run-length}
+use Rattle.sheet.specs.declared.Sheet.{Sheet}
+use Rattle.sheet.specs.Sheets.{blank, formulaAt, withFormula, evaluated}
+use Rattle.sheet.specs.Commands.{Command, solving, entering, relating, Answer, formulasAfter, solved, isDriven, valued, entered, formulaChecks, related, performed}
+use Rattle.sheet.specs.Legal.{Fits, LegalSheet}
+
+-- ---- formulas that fit
+
+abbrev noRule : Rule
+noRule = record { formula = None }
+
+abbrev FitsAll : (ℕ → Formula) → List Link → Type 0
+FitsAll formula links = (k : ℕ) → Fits (formula k) (linkAt links k)
+
+-- they go by the covered fields and the numbers in use
+fits-alike : (formula : ℕ → Formula) (a b : List Link) → AllAlike a b → FitsAll formula b → FitsAll formula a
+fits-alike formula a b h f k = go (f k)
+  where
+    go : Fits (formula k) (linkAt b k) → Fits (formula k) (linkAt a k)
+    go (inl e) = inl e
+    go (inr (u, e)) = inr (alike-used a b h k ∙ u, ap (accepted (formula k)) (alike-covered a b h k) ∙ e)
+
+-- a link without formula may be another
+fits-set : (formula : ℕ → Formula) (links : List Link) (i : ℕ) (l : Link) → formula i ≡ None → ((k : ℕ) → k ≢ i → Fits (formula k) (linkAt links k))
+    → FitsAll formula (set links i l)
+fits-set formula links i l none f k = go (ℕ-discrete k i)
+  where
+    go : Dec (k ≡ i) → Fits (formula k) (linkAt (set links i l) k)
+    go (yes e) = inl (ap formula e ∙ none)
+    go (no d) = subst (Fits (formula k)) (sym (link-there links i k l d)) (f k d)
+
+-- a number that is not in use has no formula
+unused-none : (formula : Formula) (l : Link) → Fits formula l → l .used ≡ false → formula ≡ None
+unused-none formula l (inl e) u = e
+unused-none formula l (inr (t, e)) u = absurd (clash t u)
+
+-- no check applies where no refusal is replied
+reply-passes : (cs : List Check) → isRefusal (checkReply cs) ≡ false → Passes cs
+unfolding checkReply
+reply-passes [] e = tt
+reply-passes (c ∷ cs) e = go (c .applies) refl e (reply-passes cs)
+  where
+    go : (b : Bool) → c .applies ≡ b → isRefusal (elim b [ true ↦ 0xFF ∷ refusalBytes (c .refusal) | false ↦ checkReply cs ]) ≡ false
+        → (isRefusal (checkReply cs) ≡ false → Passes cs) → Passes (c ∷ cs)
+    go true d e ih = absurd (clash refl e)
+    go false d e ih = (d, ih e)
+
+-- ---- document 01's commands
+
+-- what they keep: formulas that fit, and at least as many fields
+record Kept (formula : ℕ → Formula) (n : ℕ) (q : Panel) : Type 0 where
+  fits : FitsAll formula (q .links)
+  grows : n ≤ q .size
+
+kept-turns : (formula : ℕ → Formula) (n : ℕ) (q : Panel) (c : Item) (vs : List ℕ) → Kept formula n q → Kept formula n (reversed q c vs)
+kept-turns formula n q c vs h = record {
+  fits = fits-alike formula (reversed q c vs .links) (q .links) (reversed-alike q c vs) (h .fits);
+  grows = omega (arith, h .grows, reversed-size q c vs);
+}
+
+dropped-links : (p : Panel) (id : ℕ) → (dropped p id .links ≡ set (p .links) id noLink) × (dropped p id .size ≡ p .size)
+unfolding dropped
+dropped-links p id = go (linkAt (p .links) id .standing)
+  where
+    go : (s : Standing) → (freed (withLink p id noLink) s .links ≡ set (p .links) id noLink) × (freed (withLink p id noLink) s .size ≡ p .size)
+    go Waiting = (refl, refl)
+    go (Holding v) = (refl, refl)
+
+module _ (s : Sheet) (h : LegalSheet s) where
+  abbrev after : panel.Command → ℕ → Formula
+  after c = formulaAt (formulasAfter (s .formulas) c)
+
+  dropped-there : (id k : ℕ) → k ≢ id → after (removing id) k ≡ formulaAt (s .formulas) k
+  dropped-there id k d = ap (λ (r : Rule). r .formula) (getD-set-other (s .formulas .of) id k noRule noRule d)
+
+  dropped-here : (id : ℕ) → id < 128 → after (removing id) id ≡ None
+  dropped-here id l =
+      ap (λ (r : Rule). r .formula) (getD-set-same (s .formulas .of) id noRule noRule (omega (arith, h .formulas-length)))
+
+  fits-solved : (c : panel.Command) → Changes (Kept (after c) (s .panel .size)) (s .panel) c
+  unfolding opened toFront
+  fits-solved (opening n) = λ a.
+      let o = openable (s .panel) n a in
+      record { fits = subst (FitsAll (after (opening n))) (unopened-links (s .panel) (h .panel) (o .0)) (h .fits); grows = omega (arith, o .0) }
+  fits-solved (adding id level bytes) = λ a.
+      record {
+        fits =
+            fits-set (after (adding id level bytes)) (s .panel .links) id (newLink level bytes)
+            (unused-none (formulaAt (s .formulas) id) (linkAt (s .panel .links) id) (h .fits id) (addable (s .panel) id level bytes a .free)) (λ k d. h .fits k);
+        grows = omega arith;
+      }
+  fits-solved (removing id) = λ a.
+      let l = removable (s .panel) id a .number in
+      record {
+        fits =
+            subst (FitsAll (after (removing id))) (sym (dropped-links (s .panel) id .0))
+            (fits-set (after (removing id)) (s .panel .links) id noLink (dropped-here id l)
+            (λ k d. subst (λ (x : Formula). Fits x (linkAt (s .panel .links) k)) (sym (dropped-there id k d)) (h .fits k)));
+        grows = omega (arith, dropped-links (s .panel) id .1);
+      }
+  fits-solved (touching f) = λ a. record { fits = h .fits; grows = omega arith }
+  fits-solved planning = record { fits = h .fits; grows = omega arith }
+
+  after-length : (c : panel.Command) → length (formulasAfter (s .formulas) c .of) ≡ 128
+  after-length (opening n) = h .formulas-length
+  after-length (adding id level bytes) = h .formulas-length
+  after-length (removing id) = length-set (s .formulas .of) id noRule ∙ h .formulas-length
+  after-length (touching f) = h .formulas-length
+  after-length planning = h .formulas-length
+
+  legal-solved : (c : panel.Command) → LegalSheet (performed s (solving c) .sheet)
+  legal-solved c =
+      go (panel.performed (s .panel) c) (legal-performed (s .panel) c (h .panel))
+      (kept-performed (Kept (after c) (s .panel .size)) (kept-turns (after c) (s .panel .size)) (s .panel) c (fits-solved c))
+    where
+      go : (a : answers.Answer) → Legal (a .panel) → Keeps (Kept (after c) (s .panel .size)) (s .panel) a → LegalSheet (solved s c a .sheet)
+      go a k (inl (e, d)) = rw (e, d) h
+      go a k (inr (e, t)) = rw e (record {
+        panel = k;
+        fits = t .fits;
+        formulas-length = after-length c;
+        values-length = h .values-length;
+        within = h .within;
+        past = λ f l. h .past f (omega (arith, t .grows));
+      })
+
+  -- ---- kind 07
+
+  -- what the touch keeps
+  record Touched (f : ℕ) (q : Panel) : Type 0 where
+    fits : FitsAll (formulaAt (s .formulas)) (q .links)
+    size : q .size ≡ s .panel .size
+    low : f < s .panel .size
+
+  touched : (f : ℕ) → Keeps (Touched f) (s .panel) (panel.performed (s .panel) (touching f))
+  unfolding toFront
+  touched f = kept-performed (Touched f) turns (s .panel) (touching f) (λ a. record { fits = h .fits; size = refl; low = touchable (s .panel) f a })
+    where
+      turns : (q : Panel) (c : Item) (vs : List ℕ) → Touched f q → Touched f (reversed q c vs)
+      turns q c vs t = record {
+        fits = fits-alike (formulaAt (s .formulas)) (reversed q c vs .links) (q .links) (reversed-alike q c vs) (t .fits);
+        size = reversed-size q c vs ∙ t .size;
+        low = t .low;
+      }
+
+  -- the setter of a field that no link sets has no formula
+  undriven-none : (q : Panel) (f : ℕ) → isDriven q f ≡ false → formulaOf (s .formulas .of) (q .setter) f ≡ None
+  undriven-none q f e = rw e refl
+
+  module _ (f : ℕ) (v : ℤ) (q : Panel) (k : Legal q) (t : Touched f q) (free : isDriven q f ≡ false) where
+    legal-run : (r : Run) → evaluated q (s .formulas) (set (s .values) f v) ≡ r → r .fits ≡ true
+        → LegalSheet (record { panel = q; formulas = s .formulas; values = r .values })
+    unfolding planOf isLooped
+    legal-run r e fits =
+        let ends : evaluated q (s .formulas) (set (s .values) f v) ≡ record { fits = true; values = r .values } =
+        e ∙ ap (λ (b : Bool). record { fits = b; values = r .values }) fits in
+        let formula : ℕ → Formula = formulaOf (s .formulas .of) (q .setter) in
+        let few = k .few in
+        record {
+          panel = k;
+          fits = t .fits;
+          formulas-length = h .formulas-length;
+          values-length = run-length formula (setterReads q) (planOf q) (set (s .values) f v) (r .values) ends ∙ length-set (s .values) f v ∙ h .values-length;
+          within = λ g. run-within formula (setterReads q) (planOf q) (set (s .values) f v) (r .values) ends g (start g (ℕ-discrete g f));
+          past = λ g l.
+              run-others formula (setterReads q) (planOf q) (set (s .values) f v) (r .values) ends g
+              (all-map (λ x. x < q .size) (λ x. g ≢ x) (λ x m d. omega arith) (planOf q) (order-low (setterReads q) (q .size) few))
+              ∙ getD-set-other (s .values) f g v (pos 0) (λ d. omega (arith, t .low, t .size)) ∙ h .past g (omega (arith, t .size));
+        }
+      where
+        start : (g : ℕ) → Dec (g ≡ f) → In g (planOf q) ⊎ (outside (valueAt (set (s .values) f v) g) ≡ false)
+        start g (yes d) =
+            inl (whole-in (q .size) (planOf q) (order-whole (setterReads q) (q .size) (k .few) (k .loopless)) g (omega (arith, t .low, t .size)))
+        start g (no d) = inr (ap outside (getD-set-other (s .values) f g v (pos 0) d) ∙ h .within g)
+
+  legal-entered : (f : ℕ) (v : ℤ) → LegalSheet (performed s (entering f v) .sheet)
+  unfolding entered
+  legal-entered f v = go (panel.performed (s .panel) (touching f)) (legal-performed (s .panel) (touching f) (h .panel)) (touched f)
+    where
+      ran : (a : answers.Answer) → Legal (a .panel) → Touched f (a .panel) → isDriven (a .panel) f ≡ false → (r : Run)
+          → evaluated (a .panel) (s .formulas) (set (s .values) f v) ≡ r → (b : Bool) → r .fits ≡ b → LegalSheet (valued s a r .sheet)
+      ran a k t free r e true d = rw d (legal-run f v (a .panel) k t free r e d)
+      ran a k t free r e false d = rw d h
+
+      driven : (a : answers.Answer) → Legal (a .panel) → Touched f (a .panel) → isRefusal (a .reply) ≡ false → (b : Bool) → isDriven (a .panel) f ≡ b
+          → LegalSheet (entered s f v a .sheet)
+      driven a k t e true d = rw (e, d) h
+      driven a k t e false d = rw (e, d) (ran a k t d (evaluated (a .panel) (s .formulas) (set (s .values) f v)) refl _ refl)
+
+      go : (a : answers.Answer) → Legal (a .panel) → Keeps (Touched f) (s .panel) a → LegalSheet (entered s f v a .sheet)
+      go a k (inl (e, d)) = rw e h
+      go a k (inr (e, t)) = driven a k t e (isDriven (a .panel) f) refl
+
+  -- ---- kind 08
+
+  legal-related : (id : ℕ) (formula : Formula) → LegalSheet (performed s (relating id formula) .sheet)
+  legal-related id formula = go (checkReply cs) refl (isRefusal (checkReply cs)) refl
+    where
+      cs : List Check
+      cs = formulaChecks (s .panel) id formula
+
+      -- the new formula fits its link
+      fits-here : Passes cs → (k : ℕ) → Dec (k ≡ id) → Fits (formulaAt (withFormula (s .formulas) id formula) k) (linkAt (s .panel .links) k)
+      fits-here (o, (n, (past, (u, (a, z))))) k (yes d) =
+          let new : formulaAt (withFormula (s .formulas) id formula) k ≡ formula =
+          ap (λ (i : ℕ). formulaAt (withFormula (s .formulas) id formula) i) d
+          ∙ ap (λ (r : Rule). r .formula)
+          (getD-set-same (s .formulas .of) id (record { formula = formula }) noRule (omega (arith, ltb-false 127 id n, h .formulas-length))) in
+          inr (ap (λ (i : ℕ). linkAt (s .panel .links) i .used) d ∙ not-false _ u, ap (λ (x : Formula). accepted x (linkAt (s .panel .links) k .covered)) new ∙ ap (λ (i : ℕ). accepted formula (linkAt (s .panel .links) i .covered)) d ∙ not-false _ a)
+      fits-here passes k (no d) =
+          subst (λ (x : Formula). Fits x (linkAt (s .panel .links) k))
+          (sym (ap (λ (r : Rule). r .formula) (getD-set-other (s .formulas .of) id k (record { formula = formula }) noRule d))) (h .fits k)
+
+      go : (reply : List ℕ) → checkReply cs ≡ reply → (b : Bool) → isRefusal reply ≡ b → LegalSheet (related s id formula reply .sheet)
+      go reply e true t = rw t h
+      go reply e false t = rw t (record {
+        panel = h .panel;
+        fits = λ k. fits-here (reply-passes cs (rw e t)) k (ℕ-discrete k id);
+        formulas-length = length-set (s .formulas .of) id (record { formula = formula }) ∙ h .formulas-length;
+        values-length = h .values-length;
+        within = h .within;
+        past = h .past;
+      })
+
+  pub legal-sheet : (c : Command) → LegalSheet (performed s c .sheet)
+  legal-sheet (solving c) = legal-solved c
+  legal-sheet (entering f v) = legal-entered f v
+  legal-sheet (relating id formula) = legal-related id formula
+
+pub legal-blank : (p : Panel) → Legal p → LegalSheet (blank p)
+legal-blank p h = record {
+  panel = h;
+  fits = λ k. inl (none k (decLt k 128));
+  formulas-length = length-replicate 128 noRule;
+  values-length = length-replicate 64 (pos 0);
+  within = λ f. ap outside (zero f (decLt f 64));
+  past = λ f l. zero f (decLt f 64);
+}
+  where
+    none : (k : ℕ) → Dec (k < 128) → formulaAt (blank p .formulas) k ≡ None
+    none k (yes l) = ap (λ (r : Rule). r .formula) (getD-replicate 128 k noRule noRule l)
+    none k (no l) = ap (λ (r : Rule). r .formula) (List·getD-eq-default (blank p .formulas .of) noRule {n = k} (omega (arith, length-replicate 128 noRule)))
+
+    zero : (f : ℕ) → Dec (f < 64) → valueAt (blank p .values) f ≡ pos 0
+    zero f (yes l) = getD-replicate 64 f (pos 0) (pos 0) l
+    zero f (no l) = List·getD-eq-default (blank p .values) (pos 0) {n = f} (omega (arith, length-replicate 64 (pos 0)))
