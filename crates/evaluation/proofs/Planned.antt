@@ -3,24 +3,25 @@
 use Prim.Native.Nat.{ℕ, zero, suc, _≤_, _<_}
 use mathlib.Core.Path.{_≡_, refl, sym, ap, subst, _∙_}
 use mathlib.Core.Bool.{Bool, true, false}
-use mathlib.Core.List.{List, [], _∷_}
+use mathlib.Core.List.{List, [], _∷_, _++_}
 use mathlib.Core.Logic.{_⊎_, inl, inr}
 use native.Mathlib.Omega.{arith}
 use lib.IntN.{ℤ, pos}
-use lib.ListN.{length, set, length-set}
-use lib.Seq.{getD-set-same, getD-set-other}
+use lib.ListN.{length, set, take, drop, length-set, length-append}
+use lib.Seq.{getD-set-same, getD-set-other, getD-take, take-at}
 use Rattle.fieldset.specs.Fields.{with}
+use Rattle.fieldset.specs.Tables.{at}
 use Rattle.fieldset.specs.Lists.{All}
-use Rattle.fieldset.proofs.Lists.{all-map, whole-in}
+use Rattle.fieldset.proofs.Lists.{all-at, all-map, whole-in}
 use Rattle.values.specs.Limits.{valueAt, limited}
 use Rattle.values.specs.declared.Limited.{Limited}
 use Rattle.values.specs.declared.Limited.the-variants.{Value, OutOfRange}
 use Rattle.ordering.specs.Order.{following, order, hasLoop}
-use Rattle.ordering.proofs.Plan.{Lists, Stops, step, order-low, order-whole}
+use Rattle.ordering.proofs.Plan.{Lists, Stops, step, order-low, order-whole, no-loop-length}
 use Rattle.formulas.specs.declared.Formula.{Formula}
 use Rattle.formulas.specs.declared.Formula.the-variants.{None}
 use Rattle.formulas.specs.Formulas.{computed}
-use Rattle.evaluation.specs.Runs.{Run, onward, run, Ordered, Settled}
+use Rattle.evaluation.specs.Runs.{Run, onward, run, Ran, Runnable, Ready, Stored, Ordered, Settled}
 use Rattle.evaluation.proofs.Settled.{HeldAt, run-right, run-keeps}
 
 following-ordered : (reads : ℕ → ℕ) (n : ℕ) → n ≤ 64 → (k L : ℕ) → Ordered reads L (following reads n k L)
@@ -68,3 +69,34 @@ run-cong formula r s (f ∷ fs) v same = rw (same .0) (go (limited (computed (fo
         → onward o (λ x. run formula r fs (set v f x)) (record { fits = false; values = v }) ≡ onward o (λ x. run formula s fs (set v f x)) (record { fits = false; values = v })
     go (Value x) ih = ih (set v f x)
     go OutOfRange ih = refl
+
+-- ---- the plan in a buffer
+
+module _ {formula : ℕ → Formula} {reads : List ℕ} {n : ℕ} (ready : Ready formula reads n) (listed before : List ℕ) (count : ℕ)
+    (counted : count ≡ length (order (at reads) n)) (stands : listed ≡ order (at reads) n ++ drop count before) where
+  all-listed : count ≡ n
+  all-listed = counted ∙ no-loop-length (at reads) n (ready .loopless)
+
+  -- what is run is the plan
+  pub listed-plan : take count listed ≡ order (at reads) n
+  listed-plan = ap (take count) stands ∙ take-at (order (at reads) n) (drop count before) count (sym counted)
+
+  listed-low : (i : ℕ) → i < count → at listed i < n
+  listed-low i l =
+      rw (← getD-take count listed i 0 l, listed-plan) (all-at (λ f. f < n) 0 (order (at reads) n) (order-low (at reads) n (ready .few)) i (omega (arith, counted)))
+
+  pub listed-runnable : Runnable formula (at reads) listed count
+  listed-runnable = record {
+    few = omega (arith, all-listed, ready .few);
+    long = omega (arith, ap length stands, length-append (order (at reads) n) (drop count before), counted);
+    fields = λ i l. omega (arith, listed-low i l, ready .few);
+    usable = λ i l. ready .usable (at listed i) (listed-low i l);
+  }
+
+-- stored, or as it was
+module _ {result : Run} {b : Bool} {w : List ℤ} (before : List ℤ) (ran : Ran result b w) where
+  pub run-stored : b ≡ true → Stored result before b w
+  run-stored e = record { answer = ran .answer; left = ran .left ∙ sym (rw (sym (ran .answer) ∙ e) refl) }
+
+  pub run-dropped : b ≡ false → Stored result before b before
+  run-dropped e = record { answer = ran .answer; left = sym (rw (sym (ran .answer) ∙ e) refl) }

@@ -1,13 +1,15 @@
 -- One run over the whole plan.
 use Prim.Native.Nat.{ℕ, _≤_, _<_}
 use mathlib.Core.Path.{_≡_}
-use mathlib.Core.Bool.{Bool, true, false}
+use mathlib.Core.Bool.{Bool, true, false, cond}
 use mathlib.Core.Logic.{_≢_}
 use mathlib.Core.List.{List, [], _∷_}
 use lib.IntN.{ℤ}
 use lib.ListN.{length, set}
 use Rattle.fieldset.specs.Tables.{at}
 use Rattle.fieldset.specs.Fields.{member, with, within}
+use Rattle.ordering.specs.Order.{hasLoop}
+use Rattle.ordering.specs.Walks.{Among}
 use Rattle.values.specs.Limits.{valueAt, limited}
 use Rattle.values.specs.declared.Limited.{Limited}
 use Rattle.values.specs.declared.Limited.the-variants.{Value, OutOfRange}
@@ -41,6 +43,18 @@ pub record Runnable (formula : ℕ → Formula) (reads : ℕ → ℕ) (order : L
   pub long : n ≤ length order
   pub fields : (i : ℕ) → i < n → at order i < 64
   pub usable : (i : ℕ) → i < n → Usable (formula (at order i)) (reads (at order i))
+
+-- what a run over the plan of n fields needs
+pub record Ready (formula : ℕ → Formula) (reads : List ℕ) (n : ℕ) : Type 0 where
+  pub few : n ≤ 64
+  pub among : Among reads n
+  pub loopless : hasLoop (at reads) n ≡ false
+  pub usable : (f : ℕ) → f < n → Usable (formula f) (at reads f)
+
+-- what is answered of a run, and the values after it: where it did not end, those before
+pub record Stored (result : Run) (before : List ℤ) (fits : Bool) (after : List ℤ) : Type 0 where
+  pub answer : fits ≡ result .fits
+  pub left : after ≡ cond (result .fits) (result .values) before
 
 -- each field of the list stands behind those that its setter reads, and once; the fields of L were listed before
 unfoldable pub Ordered : (ℕ → ℕ) → ℕ → List ℕ → Type 0

@@ -169,12 +169,12 @@ module _ (s : Sheet) (h : LegalSheet s) where
   -- ---- kind 07
 
   -- what the touch keeps
-  record Touched (f : ℕ) (q : Panel) : Type 0 where
-    fits : FitsAll (formulaAt (s .formulas)) (q .links)
-    size : q .size ≡ s .panel .size
-    low : f < s .panel .size
+  pub record Touched (f : ℕ) (q : Panel) : Type 0 where
+    pub fits : (k : ℕ) → Fits (formulaAt (s .formulas) k) (linkAt (q .links) k)
+    pub size : q .size ≡ s .panel .size
+    pub low : f < s .panel .size
 
-  touched : (f : ℕ) → Keeps (Touched f) (s .panel) (panel.performed (s .panel) (touching f))
+  pub touched : (f : ℕ) → Keeps (Touched f) (s .panel) (panel.performed (s .panel) (touching f))
   unfolding toFront
   touched f = kept-performed (Touched f) turns (s .panel) (touching f) (λ a. record { fits = h .fits; size = refl; low = touchable (s .panel) f a })
     where

@@ -1,0 +1,188 @@
+-- What entering a value comes to, by what the touch gave: a refusal of the touch is the command's (`enter-refused`); so is a field that a link still
+-- sets (`enter-driven`). Else the plan of the panel after the touch is run over its tables (`table-run`, `ready`), and the result decides
+-- (`enter-out`, `enter-done`). Assumes nothing.
+use Prim.Native.Nat.{ℕ, _<_}
+use mathlib.Core.Path.{_≡_, refl, sym, ap, ap₂, subst, _∙_}
+use mathlib.Core.Bool.{Bool, true, false, cond}
+use mathlib.Core.List.{List}
+use mathlib.Core.Logic.{_⊎_, inl, inr}
+use native.Mathlib.Omega.{arith}
+use lib.IntN.{ℤ}
+use lib.ListN.{length, set}
+use Rattle.fieldset.specs.Tables.{at}
+use Rattle.fieldset.specs.Fields.{member}
+use Rattle.fieldset.proofs.Numbers.{clash}
+use Rattle.fieldset.proofs.Lists.{all-map}
+use Rattle.ordering.specs.Order.{order}
+use Rattle.ordering.proofs.Plan.{order-cong, hasLoop-cong, order-low}
+use Rattle.panel.specs.declared.Link.{Link}
+use Rattle.panel.specs.declared.Panel.{Panel}
+use Rattle.panel.specs.declared.Refusal.{Refusal}
+use Rattle.panel.specs.declared.Refusal.the-variants.{OutOfRange, FieldDriven}
+use Rattle.panel.specs.declared.Reply.{Reply}
+use Rattle.panel.specs.declared.Reply.the-variants.{Accepted, Refused}
+use Rattle.panel.specs.declared.Step.{Step}
+use Rattle.panel.specs.Items.{linkAt}
+use Rattle.panel.specs.Answers as answers
+use Rattle.panel.specs.Answers.{isRefusal, replyBytes}
+use Rattle.panel.specs.Solution.{setterReads, planOf, isLooped}
+use Rattle.panel.specs.Commands as panel
+use Rattle.panel.specs.Commands.{touching}
+use Rattle.panel.specs.Outcomes.{unchanged, Takes, Decides}
+use Rattle.panel.specs.Legal.{Legal}
+use Rattle.panel.proofs.Outcomes.{takes-size}
+use Rattle.panel.proofs.Performed.{Keeps}
+use Rattle.tables.specs.Tables.{Tabled}
+use Rattle.tables.proofs.Tables.{panel-among, panel-reads}
+use Rattle.taking.proofs.Taking.{Taken}
+use Rattle.formulas.specs.declared.Formula.{Formula}
+use Rattle.formulas.specs.declared.Formulas.{Formulas}
+use Rattle.formulas.specs.Formulas.{formulaOf, Usable}
+use Rattle.evaluation.specs.Runs.{Run, run, Ready, Stored}
+use Rattle.evaluation.proofs.Settled.{held-usable}
+use Rattle.evaluation.proofs.Planned.{run-cong}
+use Rattle.sheet.specs.declared.Sheet.{Sheet}
+use Rattle.sheet.specs.Sheets.{formulaAt, evaluated}
+use Rattle.sheet.specs.Commands.{Answer, isDriven, entering, refused, valued, entered, performed}
+use Rattle.sheet.specs.Legal.{Fits, LegalSheet}
+use Rattle.sheet.proofs.Legal.{Touched, touched}
+use Rattle.sheet.proofs.Held.{setter-held}
+use Rattle.entering.specs.Entered.{Entered}
+
+-- ---- the run over the tables of a panel
+
+module _ {p : Panel} (h : Legal p) {levels others reads : List ℕ} (t : Tabled p levels others reads) where
+  reads-same : (f i : ℕ) → f < p .size → i < 64 → member (at reads f) i ≡ member (setterReads p f) i
+  reads-same f i l k = ap (λ (m : ℕ). member m i) (panel-reads p h levels others reads t f l)
+
+  -- it is the run over the panel's plan
+  table-run : (formulas : Formulas) (v : List ℤ)
+      → run (formulaOf (formulas .of) (p .setter)) (at reads) (order (at reads) (p .size)) v ≡ evaluated p formulas v
+  unfolding planOf
+  table-run formulas v =
+      run-cong (formulaOf (formulas .of) (p .setter)) (at reads) (setterReads p) (order (at reads) (p .size)) v
+      (all-map (λ f. f < p .size) (λ f. at reads f ≡ setterReads p f) (panel-reads p h levels others reads t) (order (at reads) (p .size)) (order-low (at reads) (p .size) (h .few)))
+      ∙ ap (λ (fs : List ℕ). run (formulaOf (formulas .of) (p .setter)) (setterReads p) fs v) (order-cong (at reads) (setterReads p) (p .size) reads-same)
+
+  -- what it needs
+  ready : (formulas : Formulas) → ((f : ℕ) → f < p .size → Usable (formulaOf (formulas .of) (p .setter) f) (setterReads p f))
+      → Ready (formulaOf (formulas .of) (p .setter)) reads (p .size)
+  unfolding isLooped
+  ready formulas usable = record {
+    few = h .few;
+    among = panel-among p h levels others reads t;
+    loopless = hasLoop-cong (at reads) (setterReads p) (p .size) reads-same ∙ h .loopless;
+    usable = λ f l. rw (panel-reads p h levels others reads t f l) (usable f l);
+  }
+
+-- ---- the touch, tried on copies
+
+-- the panel after the touch, its reads, and tables of levels and other outputs, which are needed no more
+pub record Tried (after q : Panel) (reads : List ℕ) : Type 0 where
+  pub levels : List ℕ
+  pub others : List ℕ
+  pub taken : Taken after q levels others reads
+
+pub tried-by : {after q q′ : Panel} {levels others reads reads′ : List ℕ} → q ≡ q′ → reads ≡ reads′ → Taken after q′ levels others reads′ → Tried after q reads
+tried-by {levels = levels} {others = others} e d t = rw (e, d) (record { levels = levels; others = others; taken = t })
+
+-- ---- the command
+
+module _ (s : Sheet) (h : LegalSheet s) (f : ℕ) (v : ℤ) where
+  -- what the touch gives
+  abbrev gave : answers.Answer
+  gave = panel.performed (s .panel) (touching f)
+
+  -- a refusal leaves the sheet
+  left : (path : List ℕ) → length path ≡ 64 → (named : Link) → named ≡ linkAt (s .panel .links) 0 → (x : Refusal) → performed s (entering f v) ≡ refused s x
+      → Entered s f v path (s .values) (unchanged (s .panel .size) (s .panel .place) named (Refused x))
+  left path long named same x e = record {
+    takes = takes-size (s .panel) 0 named (Refused x) same path long (s .panel .size) _ (ap (λ (a : Answer). a .sheet .panel) (sym e));
+    reply = ap (λ (a : Answer). a .reply) (sym e);
+    values = ap (λ (a : Answer). a .sheet .values) (sym e);
+  }
+
+  module _ {path : List ℕ} {step : Step} (d : Decides (s .panel) 0 (touching f) path step) where
+    pub enter-refused : (x : Refusal) → step .reply ≡ Refused x → Entered s f v path (s .values) step
+    unfolding entered
+    enter-refused x e =
+        let told : replyBytes (Refused x) ≡ gave .reply = ap replyBytes (sym e) ∙ d .reply in
+        let refusal : isRefusal (gave .reply) ≡ true = ap isRefusal (sym told) in
+        let is : performed s (entering f v) ≡ record { sheet = s; reply = gave .reply } = rw refusal refl in
+        record {
+          takes = subst (λ (q : Panel). Takes (s .panel) 0 path step q) (same refusal (touched s h f) ∙ ap (λ (a : Answer). a .sheet .panel) (sym is)) (d .takes);
+          reply = d .reply ∙ ap (λ (a : Answer). a .reply) (sym is);
+          values = ap (λ (a : Answer). a .sheet .values) (sym is);
+        }
+      where
+        same : isRefusal (gave .reply) ≡ true → Keeps (Touched s h f) (s .panel) gave → gave .panel ≡ s .panel
+        same r (inl (e, q)) = q
+        same r (inr (e, k)) = absurd (clash r e)
+
+    module _ (m : ℕ) (ok : step .reply ≡ Accepted m) where
+      accepts : isRefusal (gave .reply) ≡ false
+      accepts = ap isRefusal (sym (ap replyBytes (sym ok) ∙ d .reply))
+
+      pub kept : Touched s h f (gave .panel)
+      kept = go (touched s h f)
+        where
+          go : Keeps (Touched s h f) (s .panel) gave → Touched s h f (gave .panel)
+          go (inl (e, q)) = absurd (clash e accepts)
+          go (inr (e, k)) = k
+
+      module _ {q : Panel} {reads : List ℕ} (tried : Tried (gave .panel) q reads) (named : Link) (same : named ≡ linkAt (s .panel .links) 0) where
+        abbrev t : Taken (gave .panel) q (tried .levels) (tried .others) reads
+        t = tried .taken
+
+        long : length path ≡ 64
+        long = d .takes .path-of .full
+
+        driven-is : isDriven (gave .panel) f ≡ isDriven q f
+        driven-is = ap (λ (p : Panel). isDriven p f) (sym (t .panel))
+
+        pub size-is : q .size ≡ s .panel .size
+        size-is = ap (λ (p : Panel). p .size) (t .panel) ∙ kept .size
+
+        pub enter-driven : isDriven q f ≡ true → Entered s f v path (s .values) (unchanged (s .panel .size) (s .panel .place) named (Refused FieldDriven))
+        unfolding entered
+        enter-driven e = left path long named same FieldDriven (rw (accepts, driven-is ∙ e) refl)
+
+        -- every formula can be computed with
+        pub enter-ready : Ready (formulaOf (s .formulas .of) (q .setter)) reads (s .panel .size)
+        enter-ready =
+            subst (Ready (formulaOf (s .formulas .of) (q .setter)) reads) size-is
+            (ready (t .legal) (t .tabled) (s .formulas)
+            (λ g l. held-usable (formulaOf (s .formulas .of) (q .setter) g)
+            (setter-held q (s .formulas) (t .legal) (subst (λ (p : Panel). (k : ℕ) → Fits (formulaAt (s .formulas) k) (linkAt (p .links) k)) (sym (t .panel)) (kept .fits)) g l)))
+
+        module _ (free : isDriven q f ≡ false) {fits : Bool} {after : List ℤ}
+            (st : Stored (run (formulaOf (s .formulas .of) (q .setter)) (at reads) (order (at reads) (s .panel .size)) (set (s .values) f v)) (s .values) fits after) where
+          abbrev result : Run
+          result = evaluated (gave .panel) (s .formulas) (set (s .values) f v)
+
+          ran : run (formulaOf (s .formulas .of) (q .setter)) (at reads) (order (at reads) (s .panel .size)) (set (s .values) f v) ≡ result
+          ran =
+              ap (λ (n : ℕ). run (formulaOf (s .formulas .of) (q .setter)) (at reads) (order (at reads) n) (set (s .values) f v)) (sym size-is)
+              ∙ table-run (t .legal) (t .tabled) (s .formulas) (set (s .values) f v)
+              ∙ ap (λ (p : Panel). evaluated p (s .formulas) (set (s .values) f v)) (t .panel)
+
+          answer : performed s (entering f v) ≡ valued s gave result
+          unfolding entered
+          answer = rw (accepts, driven-is ∙ free) refl
+
+          pub enter-out : fits ≡ false → Entered s f v path after (unchanged (s .panel .size) (s .panel .place) named (Refused OutOfRange))
+          enter-out e =
+              let not-fits : result .fits ≡ false = ap (λ (r : Run). r .fits) (sym ran) ∙ sym (st .answer) ∙ e in
+              let was : after ≡ s .values = st .left ∙ rw (sym (st .answer) ∙ e) refl in
+              subst (λ (w : List ℤ). Entered s f v path w (unchanged (s .panel .size) (s .panel .place) named (Refused OutOfRange))) (sym was) (left path long named same OutOfRange (answer ∙ rw not-fits refl))
+
+          pub enter-done : fits ≡ true → Entered s f v path after step
+          enter-done e =
+              let all-fits : result .fits ≡ true = ap (λ (r : Run). r .fits) (sym ran) ∙ sym (st .answer) ∙ e in
+              let is : performed s (entering f v) ≡ record { sheet = record { panel = gave .panel; formulas = s .formulas; values = result .values }; reply = gave .reply } =
+              answer ∙ rw all-fits refl in
+              record {
+                takes = subst (λ (p : Panel). Takes (s .panel) 0 path step p) (ap (λ (a : Answer). a .sheet .panel) (sym is)) (d .takes);
+                reply = d .reply ∙ ap (λ (a : Answer). a .reply) (sym is);
+                values = st .left ∙ rw (sym (st .answer) ∙ e) (ap (λ (r : Run). r .values) ran) ∙ ap (λ (a : Answer). a .sheet .values) (sym is);
+              }
