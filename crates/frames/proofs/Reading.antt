@@ -3,8 +3,9 @@
 use mathlib.Core.Path.{_≡_, refl, sym, ap, ap₂, _∙_}
 use mathlib.Core.Bool.{Bool, true, false, not, cond, _&&_, and-false, true≢false}
 use mathlib.Core.List.{List, [], _∷_}
-use Prim.Native.Nat.{ℕ, zero, suc, _+_, _/_, _%_, _≤_, _<_, min}
+use Prim.Native.Nat.{ℕ, zero, suc, _+_, _*_, _/_, _%_, _≤_, _<_, min}
 use native.Mathlib.Numerals.{add-one}
+use native.Mathlib.Decide.{decLt}
 use native.Mathlib.Omega.{arith}
 use lib.Dec.{ltb, leb, eqb}
 use lib.ListN.{length, getD, take, drop, replicate, length-take, length-drop, drop-of-length-le}
@@ -13,8 +14,10 @@ use borrow.Author.Tests.{ltb-true, ltb-false, leb-true, leb-false, lt-leb, eqb-t
 use Rattle.fieldset.specs.Tables.{at}
 use Rattle.fieldset.proofs.Tests.{and-left}
 use Rattle.panel.specs.declared.Refusal.the-variants.{BadHex, BadFrame}
-use Rattle.panel.specs.Answers.{refusalBytes}
+use Rattle.panel.specs.Answers.{twoBytes, refusalBytes}
 use Rattle.panel.specs.Commands.{hasBit6, anyOf}
+use Rattle.formulas.specs.declared.Formula.{Formula}
+use Rattle.formulas.specs.declared.Formula.the-variants.{Ratio, Sum}
 use Rattle.hex.specs.Hex.{isHex, offsetOf, bytesOf, frameRoom}
 use Rattle.hex.specs.Answers.{decodedValues, decoded, frameAfter}
 use Rattle.hex.specs.declared.Decoded.{Decoded}
@@ -23,7 +26,7 @@ use Rattle.hex.proofs.Stores.{sets-fit}
 use Rattle.frames.specs.declared.Command.{Command}
 use Rattle.frames.specs.declared.Command.the-variants.{Add, Refused}
 use Rattle.frames.specs.declared.Line.{Line}
-use Rattle.frames.specs.Frames.{fitsKind, isFrame, checkedFrame, badHex, frameOf, commandBytes}
+use Rattle.frames.specs.Frames.{fitsFormula, fitsKind, isFrame, checkedFrame, badHex, frameOf, fourBytes, formulaBytes, formulaPart, commandBytes}
 use Rattle.frames.specs.Reading.{keptBytes, LineRead}
 
 -- ---- bit 6 of the field bytes, from a position of a frame on
@@ -50,48 +53,71 @@ module _ (f : List ℕ) (n : ℕ) (size : length f ≡ frameRoom) (short : n ≤
 
 -- the kinds, as a match on the kind tells them apart
 abbrev pub OtherKind : ℕ → Type 0
-OtherKind k = ((((Unit {0} × (k ≡ 0x01 → ⊥)) × (k ≡ 0x02 → ⊥)) × (k ≡ 0x03 → ⊥)) × (k ≡ 0x04 → ⊥)) × (k ≡ 0x05 → ⊥)
+OtherKind k =
+    ((((((Unit {0} × (k ≡ 0x01 → ⊥)) × (k ≡ 0x02 → ⊥)) × (k ≡ 0x03 → ⊥)) × (k ≡ 0x04 → ⊥)) × (k ≡ 0x05 → ⊥)) × (k ≡ 0x07 → ⊥)) × (k ≡ 0x08 → ⊥)
 
-pub fits-other : (k n : ℕ) → OtherKind k → false ≡ fitsKind k n
+pub fits-other : (k form n : ℕ) → OtherKind k → false ≡ fitsKind k form n
 unfolding fitsKind
-fits-other k n o =
-    simp (ne-eqb k 1 (o .0 .0 .0 .0 .1), ne-eqb k 2 (o .0 .0 .0 .1), ne-eqb k 3 (o .0 .0 .1), ne-eqb k 4 (o .0 .1), ne-eqb k 5 (o .1))
+fits-other k form n o =
+    simp (ne-eqb k 1 (o .0 .0 .0 .0 .0 .0 .1), ne-eqb k 2 (o .0 .0 .0 .0 .0 .1), ne-eqb k 3 (o .0 .0 .0 .0 .1), ne-eqb k 4 (o .0 .0 .0 .1), ne-eqb k 5 (o .0 .0 .1), ne-eqb k 7 (o .0 .1), ne-eqb k 8 (o .1))
 
-pub fits-at : (k′ k n : ℕ) → k ≡ k′ → fitsKind k′ n ≡ fitsKind k n
-fits-at k′ k n e = ap (λ (x : ℕ). fitsKind x n) (sym e)
+pub fits-at : (k′ k form n : ℕ) → k ≡ k′ → fitsKind k′ form n ≡ fitsKind k form n
+fits-at k′ k form n e = ap (λ (x : ℕ). fitsKind x form n) (sym e)
+
+pub formula-at : (form′ form n : ℕ) → form ≡ form′ → fitsFormula form′ n ≡ fitsFormula form n
+formula-at form′ form n e = ap (λ (x : ℕ). fitsFormula x n) (sym e)
+
+pub formula-other : (form n : ℕ) → (Unit {0} × (form ≡ 0x01 → ⊥)) × (form ≡ 0x02 → ⊥) → false ≡ fitsFormula form n
+unfolding fitsFormula
+formula-other form n o = simp (ne-eqb form 1 (o .0 .1), ne-eqb form 2 (o .1))
 
 either-false : (b : Bool) → cond b false false ≡ false
 either-false true = refl
 either-false false = refl
 
 -- no kind has no byte, or as many as the buffer
-fits-none : (k : ℕ) → fitsKind k 0 ≡ false
-unfolding fitsKind
-fits-none k = simp either-false
+fits-none : (k form : ℕ) → fitsKind k form 0 ≡ false
+unfolding fitsKind fitsFormula
+fits-none k form = simp either-false
 
-fits-many : (k n : ℕ) → frameRoom ≤ n → fitsKind k n ≡ false
-unfolding fitsKind
-fits-many k n h = simp (ne-eqb n 2 (λ e. omega arith), ne-eqb n 1 (λ e. omega arith), lt-leb n 11 (omega arith), and-false, either-false)
+fits-many : (k form n : ℕ) → frameRoom ≤ n → fitsKind k form n ≡ false
+unfolding fitsKind fitsFormula
+fits-many k form n h =
+    simp (ne-eqb n 1 (λ e. omega arith), ne-eqb n 2 (λ e. omega arith), ne-eqb n 4 (λ e. omega arith), ne-eqb n 6 (λ e. omega arith), ne-eqb n 7 (λ e. omega arith), lt-leb n 11 (omega arith), and-false, either-false)
 
-pub fits-short : (k n : ℕ) → fitsKind k n ≡ true → n < frameRoom
-fits-short k n e = go (ltb n frameRoom) refl where
+-- the third byte counts only where it is there
+fits-two : (k form form′ n : ℕ) → n < 3 → fitsKind k form n ≡ fitsKind k form′ n
+unfolding fitsKind fitsFormula
+fits-two k form form′ n h = simp (ne-eqb n 4 (λ e. omega arith), ne-eqb n 7 (λ e. omega arith), either-false)
+
+pub fits-short : (k form n : ℕ) → fitsKind k form n ≡ true → n < frameRoom
+fits-short k form n e = go (ltb n frameRoom) refl where
   go : (b : Bool) → ltb n frameRoom ≡ b → n < frameRoom
   go true t = ltb-true n frameRoom t
-  go false t = absurd (true≢false (sym e ∙ fits-many k n (ltb-false n frameRoom t)))
+  go false t = absurd (true≢false (sym e ∙ fits-many k form n (ltb-false n frameRoom t)))
 
 -- a full buffer's first bytes fit their kind as their number does the buffer's first byte
-fits-taken : (f : List ℕ) (n : ℕ) → length f ≡ frameRoom → fitsKind (at (take n f) 0) (length (take n f)) ≡ fitsKind (at f 0) n
-fits-taken f zero size = fits-none 0 ∙ sym (fits-none (at f 0))
+fits-taken : (f : List ℕ) (n : ℕ) → length f ≡ frameRoom
+    → fitsKind (at (take n f) 0) (at (take n f) 2) (length (take n f)) ≡ fitsKind (at f 0) (at f 2) n
+fits-taken f zero size = fits-none 0 0 ∙ sym (fits-none (at f 0) (at f 2))
 fits-taken f (suc n) size = go (ltb (suc n) frameRoom) refl where
-  go : (b : Bool) → ltb (suc n) frameRoom ≡ b → fitsKind (at (take (suc n) f) 0) (length (take (suc n) f)) ≡ fitsKind (at f 0) (suc n)
-  go true e = ap₂ fitsKind (getD-take (suc n) f 0 0 (omega arith)) (length-take-le (suc n) f (omega (arith, ltb-true (suc n) frameRoom e)))
+  third : Dec (suc n < 3) → fitsKind (at f 0) (at (take (suc n) f) 2) (suc n) ≡ fitsKind (at f 0) (at f 2) (suc n)
+  third (yes l) = fits-two (at f 0) (at (take (suc n) f) 2) (at f 2) (suc n) l
+  third (no l) = ap (λ (x : ℕ). fitsKind (at f 0) x (suc n)) (getD-take (suc n) f 2 0 (omega arith))
+
+  go : (b : Bool) → ltb (suc n) frameRoom ≡ b
+      → fitsKind (at (take (suc n) f) 0) (at (take (suc n) f) 2) (length (take (suc n) f)) ≡ fitsKind (at f 0) (at f 2) (suc n)
+  go true e =
+      ap₂ (λ (k : ℕ) (m : ℕ). fitsKind k (at (take (suc n) f) 2) m) (getD-take (suc n) f 0 0 (omega arith))
+      (length-take-le (suc n) f (omega (arith, ltb-true (suc n) frameRoom e)))
+      ∙ third (decLt (suc n) 3)
   go false e =
       let h : frameRoom ≤ suc n = ltb-false (suc n) frameRoom e in
-      fits-many _ _ (omega (arith, length-take (suc n) f)) ∙ sym (fits-many (at f 0) (suc n) h)
+      fits-many _ _ _ (omega (arith, length-take (suc n) f)) ∙ sym (fits-many (at f 0) (at f 2) (suc n) h)
 
 -- ---- which bytes are a frame
 
-unfit : (b : List ℕ) → fitsKind (at b 0) (length b) ≡ false → checkedFrame b ≡ 0xFF ∷ refusalBytes BadFrame
+unfit : (b : List ℕ) → fitsKind (at b 0) (at b 2) (length b) ≡ false → checkedFrame b ≡ 0xFF ∷ refusalBytes BadFrame
 unfolding isFrame checkedFrame
 unfit b e = simp e
 
@@ -102,7 +128,7 @@ known b = go (leb (length b) frameRoom) refl where
   go true e = ap checkedFrame (take-all frameRoom b (leb-true (length b) frameRoom e))
   go false e =
       let h : frameRoom < length b = leb-false (length b) frameRoom e in
-      unfit (take frameRoom b) (fits-many _ _ (omega (arith, length-take frameRoom b))) ∙ sym (unfit b (fits-many _ _ (omega arith)))
+      unfit (take frameRoom b) (fits-many _ _ _ (omega (arith, length-take frameRoom b))) ∙ sym (unfit b (fits-many _ _ _ (omega arith)))
 
 parts : (f : List ℕ) → 3 ≤ length f → at f 0 ∷ at f 1 ∷ at f 2 ∷ drop 3 f ≡ f
 parts [] h = absurd (omega arith)
@@ -113,18 +139,18 @@ parts (x ∷ y ∷ z ∷ s) h = refl
 -- ---- the first n bytes of a buffer
 
 module _ (f : List ℕ) (n : ℕ) (size : length f ≡ frameRoom) where
-  pub unfit-read : fitsKind (at f 0) n ≡ false → 0xFF ∷ refusalBytes BadFrame ≡ checkedFrame (take n f)
+  pub unfit-read : fitsKind (at f 0) (at f 2) n ≡ false → 0xFF ∷ refusalBytes BadFrame ≡ checkedFrame (take n f)
   unfit-read e = sym (unfit (take n f) (fits-taken f n size ∙ e))
 
-  module _ (k : ℕ) (kind : at f 0 ≡ k) (fits : fitsKind (at f 0) n ≡ true) where
+  module _ (k : ℕ) (kind : at f 0 ≡ k) (fits : fitsKind (at f 0) (at f 2) n ≡ true) where
     kind-taken : at (take n f) 0 ≡ k
     kind-taken = go n refl where
       go : (m : ℕ) → n ≡ m → at (take n f) 0 ≡ k
-      go zero e = absurd (true≢false (sym fits ∙ ap (fitsKind (at f 0)) e ∙ fits-none (at f 0)))
+      go zero e = absurd (true≢false (sym fits ∙ ap (fitsKind (at f 0) (at f 2)) e ∙ fits-none (at f 0) (at f 2)))
       go (suc m) e = getD-take n f 0 0 (omega arith) ∙ kind
 
-    taken-fits : fitsKind k (length (take n f)) ≡ true
-    taken-fits = ap (λ (x : ℕ). fitsKind x (length (take n f))) (sym kind-taken) ∙ fits-taken f n size ∙ fits
+    taken-fits : fitsKind k (at (take n f) 2) (length (take n f)) ≡ true
+    taken-fits = ap (λ (x : ℕ). fitsKind x (at (take n f) 2) (length (take n f))) (sym kind-taken) ∙ fits-taken f n size ∙ fits
 
     pub kind-read : eqb k 0x02 && anyOf hasBit6 (drop 3 (take n f)) ≡ false → take n f ≡ checkedFrame (take n f)
     unfolding isFrame checkedFrame
@@ -135,21 +161,77 @@ module _ (f : List ℕ) (n : ℕ) (size : length f ≡ frameRoom) where
     bit6-read high = sym (simp (kind-taken, high, and-false))
 
     -- a kind with one length m: its first m bytes
-    pub exact-read : (m : ℕ) → fitsKind k n ≡ eqb n m → eqb k 0x02 && anyOf hasBit6 (drop 3 (take n f)) ≡ false
+    pub exact-read : (m : ℕ) → fitsKind k (at f 2) n ≡ eqb n m → eqb k 0x02 && anyOf hasBit6 (drop 3 (take n f)) ≡ false
         → take m (k ∷ at f 1 ∷ at f 2 ∷ drop 3 f) ≡ checkedFrame (take n f)
     exact-read m one low =
-        let e : n ≡ m = eqb-true n m (sym one ∙ fits-at k (at f 0) n kind ∙ fits) in
+        let e : n ≡ m = eqb-true n m (sym one ∙ fits-at k (at f 0) (at f 2) n kind ∙ fits) in
         ap₂ (λ (i : ℕ) (x : ℕ). take i (x ∷ at f 1 ∷ at f 2 ∷ drop 3 f)) (sym e) (sym kind) ∙ ap (take n) (parts f (omega arith)) ∙ kind-read low
 
     -- a kind with two values and further bytes
-    pub range-read : (least most : ℕ) → fitsKind k n ≡ leb least n && leb n most → 3 ≤ least → eqb k 0x02 && anyOf hasBit6 (drop 3 (take n f)) ≡ false
+    pub range-read : (least most : ℕ) → fitsKind k (at f 2) n ≡ leb least n && leb n most → 3 ≤ least → eqb k 0x02 && anyOf hasBit6 (drop 3 (take n f)) ≡ false
         → k ∷ at f 1 ∷ at f 2 ∷ drop 3 (take n f) ≡ checkedFrame (take n f)
     range-read least most some three low =
-        let h : least ≤ n = leb-true least n (and-left _ _ (sym some ∙ fits-at k (at f 0) n kind ∙ fits)) in
+        let h : least ≤ n = leb-true least n (and-left _ _ (sym some ∙ fits-at k (at f 0) (at f 2) n kind ∙ fits)) in
         let b : List ℕ = take n f in
         ap₂ (λ (x : ℕ) (y : ℕ). x ∷ y ∷ at f 2 ∷ drop 3 b) (sym kind-taken) (sym (getD-take n f 1 0 (omega arith)))
         ∙ ap (λ (z : ℕ). at b 0 ∷ at b 1 ∷ z ∷ drop 3 b) (sym (getD-take n f 2 0 (omega arith)))
         ∙ parts b (omega (arith, length-take n f)) ∙ kind-read low
+
+  -- ---- kinds 07 and 08
+
+  fourth-on : drop 3 f ≡ at f 3 ∷ at f 4 ∷ at f 5 ∷ at f 6 ∷ drop 7 f
+  fourth-on =
+      drop-cons f 3 0 (omega arith) ∙ ap (λ (r : List ℕ). at f 3 ∷ r) (drop-cons f 4 0 (omega arith))
+      ∙ ap (λ (r : List ℕ). at f 3 ∷ at f 4 ∷ r) (drop-cons f 5 0 (omega arith))
+      ∙ ap (λ (r : List ℕ). at f 3 ∷ at f 4 ∷ at f 5 ∷ r) (drop-cons f 6 0 (omega arith))
+
+  pub enter-read : at f 0 ≡ 0x07 → fitsKind (at f 0) (at f 2) n ≡ true → (w : ℕ) → fourBytes w ≡ at f 2 ∷ at f 3 ∷ at f 4 ∷ at f 5 ∷ []
+      → 0x07 ∷ at f 1 ∷ fourBytes w ≡ checkedFrame (take n f)
+  unfolding fitsKind
+  enter-read kind fits w e =
+      ap (λ (b : List ℕ). 0x07 ∷ at f 1 ∷ b) e ∙ ap (λ (r : List ℕ). take 6 (0x07 ∷ at f 1 ∷ at f 2 ∷ r)) (sym fourth-on) ∙ exact-read 0x07 kind fits 6 refl refl
+
+  pub relate-read : at f 0 ≡ 0x08 → fitsKind (at f 0) (at f 2) n ≡ true → (x : Formula) → formulaBytes x ≡ formulaPart f
+      → 0x08 ∷ at f 1 ∷ formulaBytes x ≡ checkedFrame (take n f)
+  unfolding fitsKind fitsFormula
+  relate-read kind fits x e = ap (λ (b : List ℕ). 0x08 ∷ at f 1 ∷ b) e ∙ go (eqb (at f 2) 0x01) refl (eqb (at f 2) 0x02) refl
+    where
+      -- with the bytes up to the seventh or the fourth
+      ends : (form m : ℕ) → at f 2 ≡ form → fitsKind 0x08 (at f 2) n ≡ eqb n m → take m (0x08 ∷ at f 1 ∷ form ∷ at f 3 ∷ at f 4 ∷ at f 5 ∷ at f 6 ∷ drop 7 f) ≡ checkedFrame (take n f)
+      ends form m is one =
+          ap₂ (λ (y : ℕ) (r : List ℕ). take m (0x08 ∷ at f 1 ∷ y ∷ r)) (sym is) (sym fourth-on) ∙ exact-read 0x08 kind fits m one refl
+
+      go : (b : Bool) → eqb (at f 2) 0x01 ≡ b → (c : Bool) → eqb (at f 2) 0x02 ≡ c
+          → 0x08 ∷ at f 1 ∷ cond b (0x01 ∷ at f 3 ∷ at f 4 ∷ at f 5 ∷ at f 6 ∷ []) (0x02 ∷ at f 3 ∷ []) ≡ checkedFrame (take n f)
+      go true t c u = ends 0x01 7 (eqb-true (at f 2) 1 t) (rw t refl)
+      go false t true u = ends 0x02 4 (eqb-true (at f 2) 2 u) (rw (t, u) refl)
+      go false t false u =
+          absurd (true≢false (sym fits ∙ sym (fits-at 0x08 (at f 0) (at f 2) n kind) ∙ rw (t, u) refl))
+
+-- the bytes of a number
+pub pair-bytes : (a b : ℕ) → b < 256 → twoBytes (a * 256 + b) ≡ a ∷ b ∷ []
+pair-bytes a b h =
+    let x : (a * 256 + b) / 256 ≡ a = omega arith in
+    let y : (a * 256 + b) % 256 ≡ b = omega arith in
+    rw (x, y) refl
+
+pub word-bytes : (a b c d : ℕ) → b < 256 → c < 256 → d < 256 → fourBytes (a * 16777216 + b * 65536 + c * 256 + d) ≡ a ∷ b ∷ c ∷ d ∷ []
+word-bytes a b c d h i j =
+    let n : ℕ = a * 16777216 + b * 65536 + c * 256 + d in
+    let w : n / 16777216 ≡ a = omega arith in
+    let x : n / 65536 % 256 ≡ b = omega arith in
+    let y : n / 256 % 256 ≡ c = omega arith in
+    let z : n % 256 ≡ d = omega arith in
+    rw (w, x, y, z) refl
+
+-- the bytes of a ratio and of a sum
+pub ratio-part : (f : List ℕ) (p q : ℕ) → at f 2 ≡ 0x01 → twoBytes p ≡ at f 3 ∷ at f 4 ∷ [] → twoBytes q ≡ at f 5 ∷ at f 6 ∷ []
+    → formulaBytes (Ratio p q) ≡ formulaPart f
+ratio-part f p q e x y =
+    rw (eq-eqb (at f 2) 1 e) (ap₂ (λ (a : List ℕ) (b : List ℕ). 0x01 ∷ at a 0 ∷ at a 1 ∷ at b 0 ∷ at b 1 ∷ []) x y)
+
+pub sum-part : (f : List ℕ) → (at f 2 ≡ 0x01 → ⊥) → formulaBytes (Sum (at f 3)) ≡ formulaPart f
+sum-part f e = rw (ne-eqb (at f 2) 1 e) refl
 
 -- ---- a line
 
@@ -222,12 +304,12 @@ module _ (s : List ℕ) (r : Line) (l : LineRead s r) where
 
 -- bytes that are no refusal fit their kind
 abbrev Fits : List ℕ → Type 0
-Fits b = (at b 0 ≡ 0xFF → ⊥) → fitsKind (at b 0) (length b) ≡ true
+Fits b = (at b 0 ≡ 0xFF → ⊥) → fitsKind (at b 0) (at b 2) (length b) ≡ true
 
 checked-fits : (b : List ℕ) → Fits (checkedFrame b)
 unfolding checkedFrame isFrame
-checked-fits b = go (fitsKind (at b 0) (length b)) (not (eqb (at b 0) 0x02 && anyOf hasBit6 (drop 3 b))) refl where
-  go : (x y : Bool) → fitsKind (at b 0) (length b) ≡ x → Fits (cond (x && y) b (0xFF ∷ refusalBytes BadFrame))
+checked-fits b = go (fitsKind (at b 0) (at b 2) (length b)) (not (eqb (at b 0) 0x02 && anyOf hasBit6 (drop 3 b))) refl where
+  go : (x y : Bool) → fitsKind (at b 0) (at b 2) (length b) ≡ x → Fits (cond (x && y) b (0xFF ∷ refusalBytes BadFrame))
   go true true e h = e
   go true false e h = absurd (h refl)
   go false y e h = absurd (h refl)
@@ -245,7 +327,7 @@ unfolding fitsKind
 add-reaches s r id level l e =
     let fields : List ℕ = drop 3 (take (r .len) (r .frame)) in
     let is : 0x02 ∷ id ∷ level ∷ fields ≡ frameOf s = ap (λ (c : Command). commandBytes c fields) (sym e) ∙ l .bytes in
-    let fits : fitsKind 0x02 (length (0x02 ∷ id ∷ level ∷ fields)) ≡ true =
-    ap (λ (f : List ℕ). fitsKind (at f 0) (length f)) is ∙ frame-fits s (λ k. let z : _≡_ {A = ℕ} 2 255 = ap (λ (f : List ℕ). at f 0) is ∙ k in omega arith)
+    let fits : fitsKind 0x02 level (length (0x02 ∷ id ∷ level ∷ fields)) ≡ true =
+    ap (λ (f : List ℕ). fitsKind (at f 0) (at f 2) (length f)) is ∙ frame-fits s (λ k. let z : _≡_ {A = ℕ} 2 255 = ap (λ (f : List ℕ). at f 0) is ∙ k in omega arith)
     in
     omega (arith, leb-true 4 (length (0x02 ∷ id ∷ level ∷ fields)) (and-left _ _ fits), length-drop 3 (take (r .len) (r .frame)), length-take (r .len) (r .frame))

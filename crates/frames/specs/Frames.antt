@@ -1,38 +1,50 @@
--- A line's frame, its command, and what document 01's panel answers it.
-use Prim.Native.Nat.{ℕ, _+_, _%_, min}
+-- A line's frame, its command, and what it is answered. Quotations are of document 01, or of document 02 where that is said.
+use Prim.Native.Nat.{ℕ, _+_, _*_, _/_, _%_, min}
 use mathlib.Core.Bool.{Bool, false, not, _&&_, cond}
 use mathlib.Core.List.{List, [], _∷_}
 use mathlib.Core.Option.{Option, none, some}
 use lib.Dec.{eqb, leb}
 use lib.ListN.{length, drop}
-use Rattle.panel.specs.declared.Panel.{Panel}
 use Rattle.panel.specs.declared.Refusal.{Refusal}
 use Rattle.panel.specs.declared.Refusal.the-variants.{BadHex, BadFrame}
 use Rattle.fieldset.specs.Tables.{at}
-use Rattle.panel.specs.Answers.{Answer, refusalBytes}
+use Rattle.panel.specs.Answers.{twoBytes, refusalBytes}
 use Rattle.panel.specs.Panels.{opened}
-use Rattle.panel.specs.Commands as panel
-use Rattle.panel.specs.Commands.{hasBit6, anyOf, opening, adding, removing, touching, planning, performed}
+use Rattle.panel.specs.Commands.{hasBit6, anyOf, opening, adding, removing, touching, planning}
+use Rattle.values.specs.Words.{valueOf}
+use Rattle.formulas.specs.declared.Formula.{Formula}
+use Rattle.formulas.specs.declared.Formula.the-variants.{None, Ratio, Sum}
+use Rattle.sheet.specs.declared.Sheet.{Sheet}
+use Rattle.sheet.specs.Sheets.{blank}
+use Rattle.sheet.specs.Commands as sheet
+use Rattle.sheet.specs.Commands.{Answer, solving, entering, relating, performed}
 use Rattle.hex.specs.Hex.{isHex, offsetOf, bytesOf}
 use Rattle.frames.specs.declared.Command.{Command}
-use Rattle.frames.specs.declared.Command.the-variants.{Open, Add, Remove, Touch, Plan, Refused}
+use Rattle.frames.specs.declared.Command.the-variants.{Open, Add, Remove, Touch, Plan, Enter, Relate, Refused}
 use Rattle.frames.specs.Texts.{Answered, LineAnswer, stateAfter, outputOf}
 
 -- ---- frames
 
--- whether n bytes fit the kind: "01 n: open", "02 id level, then 1 to 8 field bytes: add", "03 id: remove", "04 f: touch", "05: plan"
-unfoldable pub fitsKind : ℕ → ℕ → Bool
-fitsKind kind n =
+-- whether n bytes fit a kind of formula: "08 id 01 pppp qqqq", "08 id 02 f" (document 02, request 2)
+unfoldable pub fitsFormula : ℕ → ℕ → Bool
+fitsFormula form n = cond (eqb form 0x01) (eqb n 7) (cond (eqb form 0x02) (eqb n 4) false)
+
+-- whether n bytes, whose third is `form`, fit the kind: "01 n: open", "02 id level, then 1 to 8 field bytes: add", "03 id: remove", "04 f: touch", "05:
+-- plan"; "07 f and four bytes", and 08 with a formula: "Another length or formula kind is a BadFrame" (document 02, request 2)
+unfoldable pub fitsKind : ℕ → ℕ → ℕ → Bool
+fitsKind kind form n =
     cond (eqb kind 0x01) (eqb n 2)
     (cond (eqb kind 0x02) (leb (3 + 1) n && leb n (3 + 8))
     (cond (eqb kind 0x03) (eqb n 2)
     (cond (eqb kind 0x04) (eqb n 2)
     (cond (eqb kind 0x05) (eqb n 1)
-    false))))
+    (cond (eqb kind 0x07) (eqb n 6)
+    (cond (eqb kind 0x08) (fitsFormula form n)
+    false))))))
 
 -- bytes that are not refused with BadFrame "(unknown kind, wrong length for the kind, bit 6 set in a field byte)"
 unfoldable pub isFrame : List ℕ → Bool
-isFrame bytes = fitsKind (at bytes 0) (length bytes) && not (eqb (at bytes 0) 0x02 && anyOf hasBit6 (drop 3 bytes))
+isFrame bytes = fitsKind (at bytes 0) (at bytes 2) (length bytes) && not (eqb (at bytes 0) 0x02 && anyOf hasBit6 (drop 3 bytes))
 
 -- the bytes where they are a frame, else FF and the number of BadFrame
 unfoldable pub checkedFrame : List ℕ → List ℕ
@@ -46,17 +58,45 @@ badHex line = BadHex (min (offsetOf line) 0xFFFF)
 unfoldable pub frameOf : List ℕ → List ℕ
 frameOf line = cond (isHex line) (checkedFrame (bytesOf line)) (0xFF ∷ refusalBytes (badHex line))
 
+-- ---- numbers of several bytes, "most significant first .. as in every number of several bytes" (document 02, request 1)
+
+abbrev pub fourBytes : ℕ → List ℕ
+fourBytes n = n / 16777216 ∷ n / 65536 % 256 ∷ n / 256 % 256 ∷ n % 256 ∷ []
+
+-- the numbers of the first two, and of the first four bytes of a list
+abbrev pub pairOf : List ℕ → ℕ
+pairOf b = at b 0 * 256 + at b 1
+
+abbrev pub wordOf : List ℕ → ℕ
+wordOf b = at b 0 * 16777216 + at b 1 * 65536 + at b 2 * 256 + at b 3
+
 -- ---- commands
 
+-- "01 pppp qqqq": a ratio; "02 f": a sum (document 02, request 2)
+abbrev pub formulaIn : List ℕ → Formula
+formulaIn b = cond (eqb (at b 0) 0x01) (Ratio (pairOf (drop 1 b)) (pairOf (drop 3 b))) (Sum (at b 1))
+
 -- the command of a frame, by its kind; "A line refused with 1 or 2 gives no command"
-unfoldable pub commandOf : List ℕ → Option panel.Command
+unfoldable pub commandOf : List ℕ → Option sheet.Command
 commandOf bytes =
-    cond (eqb (at bytes 0) 0x01) (some (opening (at bytes 1)))
-    (cond (eqb (at bytes 0) 0x02) (some (adding (at bytes 1) (at bytes 2) (drop 3 bytes)))
-    (cond (eqb (at bytes 0) 0x03) (some (removing (at bytes 1)))
-    (cond (eqb (at bytes 0) 0x04) (some (touching (at bytes 1)))
-    (cond (eqb (at bytes 0) 0x05) (some planning)
-    none))))
+    cond (eqb (at bytes 0) 0x01) (some (solving (opening (at bytes 1))))
+    (cond (eqb (at bytes 0) 0x02) (some (solving (adding (at bytes 1) (at bytes 2) (drop 3 bytes))))
+    (cond (eqb (at bytes 0) 0x03) (some (solving (removing (at bytes 1))))
+    (cond (eqb (at bytes 0) 0x04) (some (solving (touching (at bytes 1))))
+    (cond (eqb (at bytes 0) 0x05) (some (solving planning))
+    (cond (eqb (at bytes 0) 0x07) (some (entering (at bytes 1) (valueOf (wordOf (drop 2 bytes)))))
+    (cond (eqb (at bytes 0) 0x08) (some (relating (at bytes 1) (formulaIn (drop 2 bytes))))
+    none))))))
+
+-- a formula's kind and values; no formula has no frame
+abbrev pub formulaBytes : Formula → List ℕ
+formulaBytes None = 0x00 ∷ []
+formulaBytes (Ratio p q) = 0x01 ∷ p / 256 ∷ p % 256 ∷ q / 256 ∷ q % 256 ∷ []
+formulaBytes (Sum f) = 0x02 ∷ f ∷ []
+
+-- those of a frame of kind 08
+abbrev pub formulaPart : List ℕ → List ℕ
+formulaPart frame = cond (eqb (at frame 2) 0x01) (0x01 ∷ at frame 3 ∷ at frame 4 ∷ at frame 5 ∷ at frame 6 ∷ []) (0x02 ∷ at frame 3 ∷ [])
 
 -- a line's command as the code has it, by its number and values, the field bytes of an add behind them
 abbrev pub commandBytes : Command → List ℕ → List ℕ
@@ -65,6 +105,8 @@ commandBytes (Add id level) fields = 0x02 ∷ id ∷ level ∷ fields
 commandBytes (Remove id) fields = 0x03 ∷ id ∷ []
 commandBytes (Touch f) fields = 0x04 ∷ f ∷ []
 commandBytes Plan fields = 0x05 ∷ []
+commandBytes (Enter f n) fields = 0x07 ∷ f ∷ fourBytes n
+commandBytes (Relate id formula) fields = 0x08 ∷ id ∷ formulaBytes formula
 commandBytes (Refused r) fields = 0xFF ∷ refusalBytes r
 
 -- the number of the link that a command names; 0 where it names none
@@ -74,35 +116,43 @@ numberOf (Add id level) = id % 128
 numberOf (Remove id) = id % 128
 numberOf (Touch f) = 0
 numberOf Plan = 0
+numberOf (Enter f n) = 0
+numberOf (Relate id formula) = id % 128
 numberOf (Refused r) = 0
 
--- ---- document 01's panel
+-- ---- answers
 
 -- the answer to a command as one to a line
-abbrev pub answerTo : Answer → Answered Panel
-answerTo a = record { state = a .panel; reply = a .reply }
+abbrev pub answerTo : Answer → Answered Sheet
+answerTo a = record { state = a .sheet; reply = a .reply }
 
 -- what a command is answered, with the field bytes beside it
-abbrev pub commandAnswer : Panel → Command → List ℕ → Answered Panel
-commandAnswer q (Open n) fields = answerTo (performed q (opening n))
-commandAnswer q (Add id level) fields = answerTo (performed q (adding id level fields))
-commandAnswer q (Remove id) fields = answerTo (performed q (removing id))
-commandAnswer q (Touch f) fields = answerTo (performed q (touching f))
-commandAnswer q Plan fields = answerTo (performed q planning)
-commandAnswer q (Refused r) fields = record { state = q; reply = 0xFF ∷ refusalBytes r }
+abbrev pub commandAnswer : Sheet → Command → List ℕ → Answered Sheet
+commandAnswer s (Open n) fields = answerTo (performed s (solving (opening n)))
+commandAnswer s (Add id level) fields = answerTo (performed s (solving (adding id level fields)))
+commandAnswer s (Remove id) fields = answerTo (performed s (solving (removing id)))
+commandAnswer s (Touch f) fields = answerTo (performed s (solving (touching f)))
+commandAnswer s Plan fields = answerTo (performed s (solving planning))
+commandAnswer s (Enter f n) fields = answerTo (performed s (entering f (valueOf n)))
+commandAnswer s (Relate id formula) fields = answerTo (performed s (relating id formula))
+commandAnswer s (Refused r) fields = record { state = s; reply = 0xFF ∷ refusalBytes r }
 
 -- what a command is answered; no command "leaves the panel as it stood", and its reply is the refusal
-abbrev pub answered : Panel → List ℕ → Option panel.Command → Answered Panel
-answered p bytes none = record { state = p; reply = bytes }
-answered p bytes (some c) = answerTo (performed p c)
+abbrev pub answered : Sheet → List ℕ → Option sheet.Command → Answered Sheet
+answered s bytes none = record { state = s; reply = bytes }
+answered s bytes (some c) = answerTo (performed s c)
 
-unfoldable pub lineAnswer : LineAnswer Panel
-lineAnswer p line = answered p (frameOf line) (commandOf (frameOf line))
+unfoldable pub lineAnswer : LineAnswer Sheet
+lineAnswer s line = answered s (frameOf line) (commandOf (frameOf line))
 
--- the panel after lines
-abbrev pub panelAfter : Panel → List (List ℕ) → Panel
-panelAfter p lines = stateAfter lineAnswer p lines
+-- the sheet of an unopened panel
+abbrev pub unopened : Sheet
+unopened = blank (opened 0)
+
+-- the sheet after lines
+abbrev pub sheetAfter : Sheet → List (List ℕ) → Sheet
+sheetAfter s lines = stateAfter lineAnswer s lines
 
 -- what the run program writes for a text
 abbrev pub panelOutput : List ℕ → List ℕ
-panelOutput text = outputOf lineAnswer (opened 0) text
+panelOutput text = outputOf lineAnswer unopened text

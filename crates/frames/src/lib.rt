@@ -1,11 +1,14 @@
 // Lines of hexadecimal, one frame a line.
+use formulas::Formula;
 use panel::Refusal;
 ghost use mathlib.Core.Path.{_≡_};
 ghost use Prim.Native.Nat.{_≤_, _<_, min};
 ghost use lib.ListN.{length, take, drop};
 ghost use Rattle.panel.specs.Commands.{hasBit6, anyOf};
 ghost use Rattle.hex.specs.Hex.{frameRoom};
-ghost use Rattle.frames.specs.Frames.{fitsKind, checkedFrame, commandBytes, numberOf};
+ghost use mathlib.Core.List.{[], _∷_};
+ghost use Rattle.panel.specs.Answers.{twoBytes};
+ghost use Rattle.frames.specs.Frames.{fitsFormula, fitsKind, fourBytes, checkedFrame, formulaBytes, formulaPart, commandBytes, numberOf};
 ghost use Rattle.frames.specs.Reading.{LineRead};
 
 // What a line asks. The field bytes of an add stand beside it, in the frame.
@@ -15,6 +18,9 @@ pub enum Command {
     Remove(u8),
     Touch(u8),
     Plan,
+    // a field, and the value as a number of 32 bits in two's complement
+    Enter(u8, u32),
+    Relate(u8, Formula),
     Refused(Refusal),
 }
 
@@ -25,9 +31,20 @@ pub struct Line {
     pub len: usize,
 }
 
-// Whether n bytes fit the kind of a frame.
-fn fits_kind(kind: u8, n: usize) -> bool
-    ensures { λ r. ⌜ r ≡ fitsKind kind n ⌝ }
+// Whether n bytes fit a kind of formula.
+fn fits_formula(form: u8, n: usize) -> bool
+    ensures { λ r. ⌜ r ≡ fitsFormula form n ⌝ }
+{
+    match form {
+        0x01 => n == 7,
+        0x02 => n == 4,
+        _ => false,
+    }
+}
+
+// Whether n bytes fit the kind of a frame, whose third byte is `form`.
+fn fits_kind(kind: u8, form: u8, n: usize) -> bool
+    ensures { λ r. ⌜ r ≡ fitsKind kind form n ⌝ }
 {
     match kind {
         0x01 => n == 2,
@@ -35,6 +52,8 @@ fn fits_kind(kind: u8, n: usize) -> bool
         0x03 => n == 2,
         0x04 => n == 2,
         0x05 => n == 1,
+        0x07 => n == 6,
+        0x08 => fits_formula(form, n),
         _ => false,
     }
 }
@@ -54,13 +73,39 @@ fn has_bit6(frame: &[u8; hex::FRAME_ROOM], n: usize) -> bool
     false
 }
 
+// The number of two bytes, most significant first.
+fn pair(a: u8, b: u8) -> u16
+    ensures { λ r. ⌜ twoBytes r ≡ a ∷ b ∷ [] ⌝ }
+{
+    (a as u16) * 256 + (b as u16)
+}
+
+// The number of four bytes, most significant first.
+fn word(a: u8, b: u8, c: u8, d: u8) -> u32
+    ensures { λ r. ⌜ fourBytes r ≡ a ∷ b ∷ c ∷ d ∷ [] ⌝ }
+{
+    (a as u32) * 16777216 + (b as u32) * 65536 + (c as u32) * 256 + (d as u32)
+}
+
+// The formula of a frame of kind 08.
+fn formula_of(frame: &[u8; hex::FRAME_ROOM]) -> Formula
+    requires { ⌜ length (now frame) ≡ frameRoom ⌝ }
+    ensures { λ r. ⌜ formulaBytes r ≡ formulaPart (now (frame .entry)) ⌝ }
+{
+    if frame[2] == 0x01 {
+        Formula::Ratio(pair(frame[3], frame[4]), pair(frame[5], frame[6]))
+    } else {
+        Formula::Sum(frame[3])
+    }
+}
+
 // The command of the first n bytes of a buffer. A frame is shorter than the buffer: where n is its whole length, they are no frame.
 pub fn read_frame(frame: &[u8; hex::FRAME_ROOM], n: usize) -> Command
     requires { ⌜ length (now frame) ≡ frameRoom ⌝ }
     ensures { λ r. ⌜ commandBytes r (drop 3 (take n (now (frame .entry)))) ≡ checkedFrame (take n (now (frame .entry))) ⌝ }
 {
     let kind = frame[0];
-    if !fits_kind(kind, n) {
+    if !fits_kind(kind, frame[2], n) {
         return Command::Refused(Refusal::BadFrame);
     }
     match kind {
@@ -74,6 +119,8 @@ pub fn read_frame(frame: &[u8; hex::FRAME_ROOM], n: usize) -> Command
         0x03 => Command::Remove(frame[1]),
         0x04 => Command::Touch(frame[1]),
         0x05 => Command::Plan,
+        0x07 => Command::Enter(frame[1], word(frame[2], frame[3], frame[4], frame[5])),
+        0x08 => Command::Relate(frame[1], formula_of(frame)),
         _ => Command::Refused(Refusal::BadFrame),
     }
 }
@@ -133,6 +180,8 @@ pub fn number_of(command: Command) -> u8
         Command::Remove(id) => id % 128,
         Command::Touch(_) => 0,
         Command::Plan => 0,
+        Command::Enter(_, _) => 0,
+        Command::Relate(id, _) => id % 128,
         Command::Refused(_) => 0,
     }
 }

@@ -1,6 +1,6 @@
 -- `frames::read_frame` meets its contract. Bytes that do not fit their kind are refused (`unfit-read`); so is an add with bit 6 set in a field byte
 -- (`bit6-read`). Else a kind with one length has its first bytes (`exact-read`), an add all of them (`range-read`); another kind would not have
--- fitted (`fits-other`). Assumes nothing.
+-- fitted (`fits-other`). Kinds 07 and 08 have numbers of several bytes (`enter-read`, `relate-read`). Assumes nothing.
 use borrow.Author.Needs.{needs}
 use borrow.Author.Tests.{not-true, not-false}
 use mathlib.Core.Path.{_≡_, refl, sym, _∙_}
@@ -13,25 +13,25 @@ use Prim.Native.Nat.{ℕ}
 use native.Mathlib.Omega.{arith}
 use Rattle.fieldset.specs.Tables.{at}
 use Rattle.frames.specs.Frames.{fitsKind, checkedFrame}
-use Rattle.frames.proofs.Reading.{fits-other, fits-short, unfit-read, bit6-read, exact-read, range-read}
+use Rattle.frames.proofs.Reading.{fits-other, fits-short, unfit-read, bit6-read, exact-read, range-read, enter-read, relate-read}
 use Rattle.frames.proofs.read_frame.Statement.{statement}
 use Rattle.frames.proofs.read_frame.Tie as tie
 
 -- ---- the places: the kind is looked at, its length fits, and of an add bit 6 is looked for
 
 abbrev start : tie.After-fits-kind → tie.Start
-start k = k .before .before
+start k = k .before .before .before
 
 abbrev fitting : tie.After-has-bit6 → tie.Else1
 fitting h = h .before .before
 
 -- where the match begins the length fits the kind
-fits : (c : tie.Else1) → let s = start (c .before) .args in fitsKind (at (s .frame .now) 0) (s .n) ≡ true
+fits : (c : tie.Else1) → let s = start (c .before) .args in fitsKind (at (s .frame .now) 0) (at (s .frame .now) 2) (s .n) ≡ true
 fits c = sym (c .before .fits-kind .ensures) ∙ not-false _ (c .if1 .left)
 
 -- a kind with one length
 exactly : (c : tie.Else1) → let s = start (c .before) .args in
-    (k : ℕ) → at (s .frame .now) 0 ≡ k → (m : ℕ) → fitsKind k (s .n) ≡ eqb (s .n) m → eqb k 0x02 && anyOf hasBit6 (drop 3 (take (s .n) (s .frame .now))) ≡ false
+    (k : ℕ) → at (s .frame .now) 0 ≡ k → (m : ℕ) → fitsKind k (at (s .frame .now) 2) (s .n) ≡ eqb (s .n) m → eqb k 0x02 && anyOf hasBit6 (drop 3 (take (s .n) (s .frame .now))) ≡ false
     → take m (k ∷ at (s .frame .now) 1 ∷ at (s .frame .now) 2 ∷ drop 3 (s .frame .now)) ≡ checkedFrame (take (s .n) (s .frame .now))
 exactly c k kind m one low = let s = start (c .before) in exact-read (s .args .frame .now) (s .args .n) (s .pre) k kind (fits c) m one low
 
@@ -43,7 +43,7 @@ returns c =
     unfit-read (s .args .frame .now) (s .args .n) (s .pre) (sym (c .before .fits-kind .ensures) ∙ not-true _ (c .if1 .taken))
 
 has-bit6-requires : tie.Need-has-bit6-requires
-has-bit6-requires c κs = let s = start (c .before .before) in (omega (arith, fits-short _ (s .args .n) (fits (c .before))), s .pre)
+has-bit6-requires c κs = let s = start (c .before .before) in (omega (arith, fits-short _ _ (s .args .n) (fits (c .before))), s .pre)
 
 returns-2 : tie.Need-returns-2
 returns-2 c =
@@ -77,13 +77,26 @@ returns-7 c = exactly (c .before) 0x05 (c .match .keys5) 1 refl refl
 
 returns-8 : tie.Need-returns-8
 returns-8 c =
+    let k = c .before .before .before .before .before .before in
+    let s = start (k .before .before) in
+    enter-read (s .args .frame .now) (s .args .n) (s .pre) (k .match .keys6) (fits (k .before)) _ (c .word .ensures)
+
+returns-9 : tie.Need-returns-9
+returns-9 c =
+    let k = c .before .before in
+    let s = start (k .before .before) in
+    relate-read (s .args .frame .now) (s .args .n) (s .pre) (k .match .keys7) (fits (k .before)) (c .formula-of .result) (c .formula-of .ensures)
+
+returns-10 : tie.Need-returns-10
+returns-10 c =
     let s = start (c .before .before) in
-    unfit-read (s .args .frame .now) (s .args .n) (s .pre) (sym (fits-other _ _ (c .match .rest)))
+    unfit-read (s .args .frame .now) (s .args .n) (s .pre) (sym (fits-other _ _ _ (c .match .rest)))
 
 pub read-frame-spec : {M : Type 1} → statement M
 read-frame-spec =
     tie.close
     (tie.spec
+    (λ c. search needs)
     (λ c. search needs)
     (λ c κs. search needs)
     returns
@@ -94,9 +107,19 @@ read-frame-spec =
     (λ c. search needs)
     (λ c. search needs)
     (λ c. search needs)
+    (λ c. search needs)
+    (λ c. search needs)
+    (λ c. search needs)
+    (λ c. search needs)
+    (λ c. search needs)
+    (λ c κs. search needs)
+    (λ c. search needs)
+    (λ c κs. search needs)
     returns-3
     returns-4
     returns-5
     returns-6
     returns-7
-    returns-8)
+    returns-8
+    returns-9
+    returns-10)
