@@ -1,4 +1,6 @@
 // The step of one line, by its command.
+use formulas::Formula;
+use formulas::Rule;
 use frames::Command;
 use frames::Line;
 use panel::Link;
@@ -7,6 +9,7 @@ use panel::ROWS;
 use panel::Reply;
 use panel::Step;
 use panel::unchanged;
+use relating::relate;
 ghost use mathlib.Core.Path.{_≡_};
 ghost use lib.ListN.{length};
 ghost use Rattle.panel.specs.Items.{linkAt};
@@ -15,7 +18,7 @@ ghost use Rattle.panel.specs.Outcomes.{unchanged};
 ghost use Rattle.panel.specs.Legal.{Legal};
 ghost use Rattle.tables.specs.Tables.{Tabled};
 ghost use Rattle.frames.specs.Frames.{numberOf};
-ghost use Rattle.deciding.specs.Lines.{fieldBytesOf, Framed, DecidedLine};
+ghost use Rattle.deciding.specs.Lines.{formulaAfter, fieldBytesOf, Framed, DecidedLine};
 
 // The step of a line that leaves the panel as it is.
 fn keep(p: Panel, named: Link, reply: Reply) -> Step
@@ -25,7 +28,23 @@ fn keep(p: Panel, named: Link, reply: Reply) -> Step
     unchanged(p.size, &place, named, reply)
 }
 
-// The step of a line by its command, but for a removal; `named` is the link of the number that the command names.
+// What a command and its reply leave of the formula of the link that the command names.
+pub fn rule_after(command: Command, reply: Reply, old: Rule) -> Rule
+    ensures { λ r. ⌜ r .formula ≡ formulaAfter command reply (old .formula) ⌝ }
+{
+    match reply {
+        Reply::Refused(_) => old,
+        Reply::Accepted(_) => match command {
+            Command::Remove(_) => Rule {
+                formula: Formula::None,
+            },
+            Command::Relate(_, formula) => Rule { formula: formula },
+            _ => old,
+        },
+    }
+}
+
+// The step of a line by its command, but for a removal and a value that is entered; `named` is the link of the number that the command names.
 pub fn decide_line(
     p: Panel,
     named: Link,
@@ -63,6 +82,11 @@ pub fn decide_line(
         Command::Touch(f) => touching::touch(p, named, levels, others, reads, f, path),
         Command::Plan => {
             let reply = planning::plan(p, levels, others, reads, rows);
+            keep(p, named, reply)
+        }
+        Command::Enter(_, _) => keep(p, named, Reply::Accepted(0)),
+        Command::Relate(id, formula) => {
+            let reply = relate(p, named, id, formula);
             keep(p, named, reply)
         }
         Command::Refused(r) => keep(p, named, Reply::Refused(r)),

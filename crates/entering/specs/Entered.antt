@@ -3,17 +3,11 @@ use Prim.Native.Nat.{ℕ}
 use mathlib.Core.Path.{_≡_}
 use mathlib.Core.List.{List}
 use lib.IntN.{ℤ}
-use Rattle.panel.specs.declared.Panel.{Panel}
 use Rattle.panel.specs.declared.Step.{Step}
 use Rattle.panel.specs.Answers.{replyBytes}
 use Rattle.panel.specs.Outcomes.{Takes}
-use Rattle.formulas.specs.declared.Formulas.{Formulas}
 use Rattle.sheet.specs.declared.Sheet.{Sheet}
 use Rattle.sheet.specs.Commands.{entering, performed}
-
--- the sheet of these parts
-abbrev pub sheetOf : Panel → Formulas → List ℤ → Sheet
-sheetOf p formulas values = record { panel = p; formulas = formulas; values = values }
 
 -- the step, which names the link of number 0, and the values afterwards are those of the command; no formula changes
 pub record Entered (s : Sheet) (f : ℕ) (v : ℤ) (path : List ℕ) (after : List ℤ) (step : Step) : Type 0 where

@@ -17,7 +17,8 @@ ghost use lib.ListN.{length};
 ghost use Rattle.panel.specs.Items.{linkAt};
 ghost use Rattle.tables.specs.Tables.{Tabled};
 ghost use Rattle.sheet.specs.Legal.{LegalSheet};
-ghost use Rattle.entering.specs.Entered.{sheetOf, Entered};
+ghost use Rattle.sheet.specs.Sheets.{sheetOf};
+ghost use Rattle.entering.specs.Entered.{Entered};
 
 // Decides on entering a value in a field: the field is touched, the value is stored and the whole plan is run, on copies of the panel and its tables.
 // The values are changed where nothing refuses.

@@ -5,7 +5,7 @@ use lib.ListN.{length, take, replicate}
 use Rattle.panel.specs.declared.Reply.{Reply}
 use Rattle.panel.specs.Answers.{replyBytes, planRest, rowsLength}
 use Rattle.frames.specs.declared.Command.{Command}
-use Rattle.frames.specs.declared.Command.the-variants.{Open, Add, Remove, Touch, Plan, Refused}
+use Rattle.frames.specs.declared.Command.the-variants.{Open, Add, Remove, Touch, Plan, Enter, Relate, Refused}
 use Rattle.replies.specs.declared.RefusalBytes.{RefusalBytes}
 
 -- the characters of the longest reply's line: a plan of 64 fields has 2 + 3 * 64 bytes, and the line an LF
@@ -27,6 +27,8 @@ restOf (Add id level) reply = 0
 restOf (Remove id) reply = 0
 restOf (Touch f) reply = 0
 restOf Plan reply = planRest reply
+restOf (Enter f n) reply = 0
+restOf (Relate id formula) reply = 0
 restOf (Refused r) reply = 0
 
 -- the reply to a command, for a plan with the first rows of the buffer

@@ -77,7 +77,7 @@ unused-none formula l (inl e) u = e
 unused-none formula l (inr (t, e)) u = absurd (clash t u)
 
 -- no check applies where no refusal is replied
-reply-passes : (cs : List Check) → isRefusal (checkReply cs) ≡ false → Passes cs
+pub reply-passes : (cs : List Check) → isRefusal (checkReply cs) ≡ false → Passes cs
 unfolding checkReply
 reply-passes [] e = tt
 reply-passes (c ∷ cs) e = go (c .applies) refl e (reply-passes cs)

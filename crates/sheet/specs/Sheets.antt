@@ -13,6 +13,10 @@ use Rattle.formulas.specs.Formulas.{formulaOf}
 use Rattle.evaluation.specs.Runs.{Run, run}
 use Rattle.sheet.specs.declared.Sheet.{Sheet}
 
+-- the sheet of these parts
+abbrev pub sheetOf : Panel → Formulas → List ℤ → Sheet
+sheetOf p formulas values = record { panel = p; formulas = formulas; values = values }
+
 -- a panel with no formula; values are "zero at opening"
 abbrev pub blank : Panel → Sheet
 blank p = record { panel = p; formulas = record { of = replicate 128 (record { formula = None }) }; values = replicate 64 (pos 0) }

@@ -1,5 +1,5 @@
--- `deciding::decide_line` meets its contract, an arm by one law: what the arm's operation promises is the step of the command (`performed-step`,
--- `plan-step`, `refused-step`); an add is given the frame's bytes from the fourth on (`add-tail`).
+-- `deciding::decide_line` meets its contract, an arm by one law: what the arm's operation promises is the step of the command (`solved-step`,
+-- `plan-step`, `relate-step`, `refused-step`); an add is given the frame's bytes from the fourth on (`add-tail`).
 use mathlib.Core.Path.{_≡_, refl, sym, ap, _∙_}
 use Prim.Native.Nat.{_≤_}
 use native.Mathlib.Omega.{arith}
@@ -11,8 +11,9 @@ use Rattle.panel.specs.Commands.{opening, adding, touching}
 use Rattle.frames.specs.declared.Command.{Command}
 use Rattle.frames.specs.declared.Command.the-variants.{Open, Add, Touch}
 use Rattle.frames.specs.Frames.{numberOf}
+use Rattle.sheet.specs.Sheets.{sheetOf}
 use Rattle.deciding.specs.Lines.{fieldBytesOf}
-use Rattle.deciding.proofs.Arms.{performed-step, refused-step, plan-step, add-tail}
+use Rattle.deciding.proofs.Arms.{formula-kept, solved-step, refused-step, relate-step, plan-step, add-tail}
 use Rattle.deciding.proofs.decide_line.Statement.{statement}
 use Rattle.deciding.proofs.decide_line.Tie as tie
 
@@ -57,12 +58,19 @@ add-requires c κs =
     let s = start k in
     (s .pre .0 .0, s .pre .0 .1, named-at s (k .command2 .given .1), s .pre .1 .1)
 
+relate-requires : tie.Need-relate-requires
+relate-requires c κs =
+    let k = c .before in
+    named-at (k .before .before) (k .command4 .given .1)
+
 returns : tie.Need-returns
 returns c =
     let k = c .before .before in
     let s = k .before .before in
     let e = k .command .given .1 in
-    rw e (performed-step _ 0 _ _ _ (s .pre .1 .2) (Open _) (opening _) _ refl refl (c .open .ensures 0 _ (s .pre .1 .1) (named-at s e)))
+    rw e (λ formulas values.
+    solved-step (sheetOf _ formulas values) 0 _ _ _ (s .pre .1 .2) (Open _) (opening _) _ refl refl (λ a. formula-kept formulas 0)
+    (c .open .ensures 0 _ (s .pre .1 .1) (named-at s e)))
 
 returns-2 : tie.Need-returns-2
 returns-2 c =
@@ -70,8 +78,8 @@ returns-2 c =
     let s = start k in
     let l = s .args .line in
     let e = k .command2 .given .1 in
-    rw e
-    (performed-step _ _ _ _ _ (s .pre .1 .2) (Add _ _) (adding _ _ (fieldBytesOf l)) _ refl refl
+    rw e (λ formulas values.
+    solved-step (sheetOf _ formulas values) _ _ _ _ (s .pre .1 .2) (Add _ _) (adding _ _ (fieldBytesOf l)) _ refl refl (λ a. formula-kept formulas _)
     (add-tail _ _ _ _ (take (l .len) (l .frame)) _ _ (c .add .ensures)))
 
 returns-3 : tie.Need-returns-3
@@ -82,7 +90,9 @@ returns-4 c =
     let k = c .before .before .before in
     let s = k .before .before in
     let e = k .command3 .given .1 in
-    rw e (performed-step _ 0 _ _ _ (s .pre .1 .2) (Touch _) (touching _) _ refl refl (c .touch .ensures 0 (named-at s e)))
+    rw e (λ formulas values.
+    solved-step (sheetOf _ formulas values) 0 _ _ _ (s .pre .1 .2) (Touch _) (touching _) _ refl refl (λ a. formula-kept formulas 0)
+    (c .touch .ensures 0 (named-at s e)))
 
 returns-5 : tie.Need-returns-5
 returns-5 c =
@@ -90,14 +100,27 @@ returns-5 c =
     let t = n .before .before in
     let e = t .enum-told2 .given .1 in
     let s = t .before .before in
-    rw (e, c .keep2 .ensures) (plan-step _ 0 _ _ _ (s .pre .1 .1) _ (named-at s e) _ _ (s .pre .1 .2) (n .plan .ensures))
+    rw (e, c .keep2 .ensures) (λ formulas values.
+    plan-step (sheetOf _ formulas values) 0 _ _ _ (s .pre .1 .1) _ (named-at s e) _ _ (s .pre .1 .2) (n .plan .ensures))
 
 returns-6 : tie.Need-returns-6
-returns-6 c =
-    let k = c .before .before in
+returns-6 c = rw (c .before .enum-told3 .given .1) (c .keep3 .ensures)
+
+returns-7 : tie.Need-returns-7
+returns-7 c =
+    let r = c .before in
+    let k = r .before .before in
     let s = k .before .before in
     let e = k .command4 .given .1 in
-    rw (e, c .keep3 .ensures) (refused-step _ 0 _ _ _ (s .pre .1 .1) _ (named-at s e) (s .pre .1 .2) _)
+    rw (e, c .keep4 .ensures) (λ formulas values.
+    relate-step (sheetOf _ formulas values) _ _ _ _ (s .pre .1 .1) _ (named-at s e) (s .pre .1 .2) _ _ _ (r .relate .ensures) refl)
+
+returns-8 : tie.Need-returns-8
+returns-8 c =
+    let k = c .before .before in
+    let s = k .before .before in
+    let e = k .command5 .given .1 in
+    rw (e, c .keep5 .ensures) (λ formulas values. refused-step (sheetOf _ formulas values) 0 _ _ _ (s .pre .1 .1) _ (named-at s e) (s .pre .1 .2) _)
 
 pub decide-line-spec : {M : Type 1} → statement M
 decide-line-spec =
@@ -121,9 +144,16 @@ decide-line-spec =
     (λ c κs. search needs)
     (λ c. search needs)
     (λ c κs. search needs)
+    (λ c. search needs)
+    relate-requires
+    (λ c κs. search needs)
+    (λ c. search needs)
+    (λ c κs. search needs)
     returns
     returns-2
     returns-3
     returns-4
     returns-5
-    returns-6)
+    returns-6
+    returns-7
+    returns-8)

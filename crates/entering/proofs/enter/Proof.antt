@@ -22,9 +22,9 @@ use Rattle.panel.specs.Legal.{Legal}
 use Rattle.panel.proofs.Performed.{legal-performed}
 use Rattle.taking.proofs.Taking.{Taken, places-taken, taken-reversed, tabled-altered, taken-unmoved}
 use Rattle.sheet.specs.declared.Sheet.{Sheet}
+use Rattle.sheet.specs.Sheets.{sheetOf}
 use Rattle.sheet.specs.Commands.{isDriven}
 use Rattle.sheet.specs.Legal.{LegalSheet}
-use Rattle.entering.specs.Entered.{sheetOf}
 use Rattle.entering.proofs.Entering.{Tried, tried-by, kept, enter-refused, enter-driven, enter-ready, enter-out, enter-done}
 use Rattle.entering.proofs.enter.Statement.{statement}
 use Rattle.entering.proofs.enter.Tie as tie
