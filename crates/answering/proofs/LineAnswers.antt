@@ -1,23 +1,45 @@
--- What document 01's panel answers one line: the answer to a command is the answer to the line with its bytes, and is legal, both by cases on the
+-- What one line is answered: the answer to a command is the answer to the line with its bytes, and is legal, both by cases on the
 -- command; so the step of a line, once it is taken, does what the line asks (`did`). Assumes nothing.
-use mathlib.Core.Path.{_≡_, refl, ap, ap₂, _∙_}
-use mathlib.Core.List.{List}
-use Prim.Native.Nat.{ℕ}
+use mathlib.Core.Path.{_≡_, refl, sym, ap, ap₂, subst, _∙_}
+use mathlib.Core.Bool.{Bool, true, false, cond}
+use mathlib.Core.List.{List, append-nil}
+use mathlib.Core.Logic.{inl, inr}
+use Prim.Native.Nat.{ℕ, _%_, _<_}
+use native.Mathlib.Nat.{mod-eq-of-lt}
+use native.Mathlib.Omega.{arith}
+use lib.ListN.{length}
+use Rattle.fieldset.proofs.Numbers.{clash}
+use lib.IntN.{ℤ}
 use Rattle.panel.specs.declared.Panel.{Panel}
 use Rattle.panel.specs.declared.Step.{Step}
+use Rattle.panel.specs.Answers.{isRefusal, replyBytes, rowsLength}
+use Rattle.panel.specs.Outcomes.{Decides}
+use Rattle.panel.specs.Commands as panel
 use Rattle.panel.specs.Commands.{opening, adding, removing, touching, planning}
-use Rattle.panel.specs.Legal.{Legal}
-use Rattle.panel.proofs.Performed.{legal-performed}
+use Rattle.panel.proofs.Checks.{removable}
+use Rattle.panel.proofs.Performed.{Keeps, kept-performed}
+use Rattle.values.specs.Words.{valueOf}
+use Rattle.formulas.specs.declared.Formula.{Formula}
+use Rattle.formulas.specs.declared.Formula.the-variants.{None}
+use Rattle.formulas.specs.declared.Formulas.{Formulas}
+use Rattle.sheet.specs.declared.Sheet.{Sheet}
+use Rattle.sheet.specs.Sheets.{sheetOf, formulaAt, withFormula}
+use Rattle.sheet.specs.Commands.{solving, entering, relating, performed}
+use Rattle.sheet.specs.Legal.{LegalSheet}
+use Rattle.sheet.proofs.Legal.{legal-sheet, entered-formulas}
+use Rattle.entering.specs.Entered.{Entered}
 use Rattle.frames.specs.declared.Command.{Command}
-use Rattle.frames.specs.declared.Command.the-variants.{Open, Add, Remove, Touch, Plan, Refused}
-use Rattle.frames.specs.Frames.{frameOf, commandBytes, commandOf, answered, commandAnswer, lineAnswer}
+use Rattle.frames.specs.declared.Command.the-variants.{Open, Add, Remove, Touch, Plan, Enter, Relate, Refused}
+use Rattle.frames.specs.Frames.{frameOf, commandBytes, commandOf, answerTo, answered, commandAnswer, lineAnswer}
+use Rattle.frames.proofs.Answers.{word-at, formula-at}
 use Rattle.replies.specs.Replies.{wholeReply}
 use Rattle.replies.proofs.Replies.{reply-short}
-use Rattle.deciding.specs.Lines.{LineStep}
+use Rattle.deciding.specs.Lines.{formulaAfter, LineStep}
+use Rattle.deciding.proofs.Arms.{formula-kept, solved-step}
 use Rattle.answering.proofs.Going.{Did}
 
 -- what its command is answered is what a line is answered
-line-answer : (q : Panel) (line : List ℕ) (k : Command) (fields : List ℕ) → commandBytes k fields ≡ frameOf line → commandAnswer q k fields ≡ lineAnswer q line
+line-answer : (q : Sheet) (line : List ℕ) (k : Command) (fields : List ℕ) → commandBytes k fields ≡ frameOf line → commandAnswer q k fields ≡ lineAnswer q line
 unfolding lineAnswer commandOf
 line-answer q line k fields read = go k ∙ ap (λ (x : List ℕ). answered q x (commandOf x)) read where
   go : (c : Command) → commandAnswer q c fields ≡ answered q (commandBytes c fields) (commandOf (commandBytes c fields))
@@ -26,20 +48,66 @@ line-answer q line k fields read = go k ∙ ap (λ (x : List ℕ). answered q x 
   go (Remove id) = refl
   go (Touch f) = refl
   go Plan = refl
+  go (Enter f n) = ap (λ (x : ℕ). answerTo (performed q (entering f (valueOf x)))) (sym (word-at n))
+  go (Relate id formula) = ap (λ (x : Formula). answerTo (performed q (relating id x))) (sym (formula-at formula))
   go (Refused r) = refl
 
-pub answer-legal : (q : Panel) (k : Command) (fields : List ℕ) → Legal q → Legal (commandAnswer q k fields .state)
-answer-legal q (Open n) fields h = legal-performed q (opening n) h
-answer-legal q (Add id level) fields h = legal-performed q (adding id level fields) h
-answer-legal q (Remove id) fields h = legal-performed q (removing id) h
-answer-legal q (Touch f) fields h = legal-performed q (touching f) h
-answer-legal q Plan fields h = legal-performed q planning h
+pub answer-legal : (q : Sheet) (k : Command) (fields : List ℕ) → LegalSheet q → LegalSheet (commandAnswer q k fields .state)
+answer-legal q (Open n) fields h = legal-sheet q h (solving (opening n))
+answer-legal q (Add id level) fields h = legal-sheet q h (solving (adding id level fields))
+answer-legal q (Remove id) fields h = legal-sheet q h (solving (removing id))
+answer-legal q (Touch f) fields h = legal-sheet q h (solving (touching f))
+answer-legal q Plan fields h = legal-sheet q h (solving planning)
+answer-legal q (Enter f n) fields h = legal-sheet q h (entering f (valueOf n))
+answer-legal q (Relate id formula) fields h = legal-sheet q h (relating id formula)
 answer-legal q (Refused r) fields h = h
 
-pub did : (q : Panel) (line : List ℕ) (c : Command) (fields : List ℕ) → commandBytes c fields ≡ frameOf line → (k : ℕ) (path rows : List ℕ) (s : Step)
-    → LineStep q k c fields path rows s → (p : Panel) → p ≡ commandAnswer q c fields .state → Legal p → Did lineAnswer Legal q line p (wholeReply c (s .reply) rows)
-did q line c fields read k path rows s d p e h = record {
-  is = ap₂ (λ (x : Panel) (y : List ℕ). record { state = x; reply = y }) e (d .reply) ∙ line-answer q line c fields read;
-  legal = h;
-  short = reply-short c (s .reply) rows (d .rest);
-}
+-- ---- the steps that are decided beside the others
+
+-- a removal that is not refused has a number below 128
+removed-number : (p : Panel) (id : ℕ) → isRefusal (panel.performed p (removing id) .reply) ≡ false → id < 128
+removed-number p id e = go (kept-performed (λ q. id < 128) (λ q c vs h. h) p (removing id) (λ a. removable p id a .number))
+  where
+    go : Keeps (λ q. id < 128) p (panel.performed p (removing id)) → id < 128
+    go (inl (r, q)) = absurd (clash r e)
+    go (inr (r, l)) = l
+
+pub removed-step : (s : Sheet) (id : ℕ) (fields path rows : List ℕ) → length rows ≡ rowsLength → (step : Step) → Decides (s .panel) (id % 128) (removing id) path step
+    → LineStep s (id % 128) (Remove id) fields path rows (s .values) step
+removed-step s id fields path rows full step d =
+    solved-step s (id % 128) fields path rows full (Remove id) (removing id) step refl refl
+    (λ e. ap (λ (k : ℕ). withFormula (s .formulas) k None) (mod-eq-of-lt (removed-number (s .panel) id e))) d
+
+pub entered-step : (s : Sheet) → LegalSheet s → (f n : ℕ) (v : ℤ) → v ≡ valueOf n → (fields path rows : List ℕ) → length rows ≡ rowsLength
+    → (after : List ℤ) (step : Step) → Entered s f v path after step → LineStep s 0 (Enter f n) fields path rows after step
+entered-step s h f n v e fields path rows full after step d =
+    let d′ : Entered s f (valueOf n) path after step = subst (λ (x : ℤ). Entered s f x path after step) e d in
+    record {
+      takes = d′ .takes;
+      formulas = either (isRefusal (replyBytes (step .reply))) ∙ sym (entered-formulas s h f (valueOf n));
+      values = d′ .values;
+      reply = append-nil (replyBytes (step .reply)) ∙ d′ .reply;
+      rest = omega arith;
+      rows-full = full;
+    }
+  where
+    either : (b : Bool) → withFormula (s .formulas) 0 (cond b (formulaAt (s .formulas) 0) (formulaAt (s .formulas) 0)) ≡ s .formulas
+    either true = formula-kept (s .formulas) 0
+    either false = formula-kept (s .formulas) 0
+
+-- ---- what a line does
+
+-- the formulas with the one that the command leaves, and the panel that has taken the step, are the answer's
+pub did : (q : Sheet) (line : List ℕ) (c : Command) (fields : List ℕ) → commandBytes c fields ≡ frameOf line → (k : ℕ) (path rows : List ℕ) (values : List ℤ) (s : Step)
+    → LineStep q k c fields path rows values s → (p : Panel) → p ≡ commandAnswer q c fields .state .panel
+    → (formulas : Formulas) → formulas ≡ withFormula (q .formulas) k (formulaAfter c (s .reply) (formulaAt (q .formulas) k)) → LegalSheet q
+    → Did lineAnswer LegalSheet q line (sheetOf p formulas values) (wholeReply c (s .reply) rows)
+did q line c fields read k path rows values s d p e formulas given h =
+    let same : sheetOf p formulas values ≡ commandAnswer q c fields .state =
+    ap (λ (x : Panel). sheetOf x formulas values) e
+    ∙ ap₂ (λ (x : Formulas) (y : List ℤ). sheetOf (commandAnswer q c fields .state .panel) x y) (given ∙ d .formulas) (d .values) in
+    record {
+      is = ap₂ (λ (x : Sheet) (y : List ℕ). record { state = x; reply = y }) same (d .reply) ∙ line-answer q line c fields read;
+      legal = subst LegalSheet (sym same) (answer-legal q c fields h);
+      short = reply-short c (s .reply) rows (d .rest);
+    }

@@ -6,7 +6,7 @@ use mathlib.Core.List.{List, [], _∷_, _++_}
 use lib.Dec.{leb}
 use lib.ListN.{length, take, drop}
 use lib.Seq.{sets}
-use Rattle.panel.specs.declared.Panel.{Panel}
+use Rattle.sheet.specs.declared.Sheet.{Sheet}
 use Rattle.hex.specs.Hex.{lineOf}
 use Rattle.tally.specs.declared.Tally.{Tally}
 use Rattle.lines.specs.Lines.{linesOf}
@@ -22,8 +22,8 @@ pub record Reached (S : Type 0) : Type 0 where
   pub written : ℕ
 
 -- what the code answers
-abbrev pub reached : Progress → Reached Panel
-reached r = record { next = r .next; state = r .panel; tally = r .tally; written = r .written }
+abbrev pub reached : Progress → Reached Sheet
+reached r = record { next = r .next; state = r .sheet; tally = r .tally; written = r .written }
 
 -- how far a run got that answered n lines
 pub record Paced {S : Type 0} (text : List ℕ) (from room n : ℕ) (r : Reached S) : Type 0 where

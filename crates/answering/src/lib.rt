@@ -1,29 +1,32 @@
 // The answers to the lines of a text, one after the other.
 use deciding::decide_line;
+use deciding::rule_after;
+use entering::enter;
 use fieldset::wide;
 use frames::Command;
-use panel::Panel;
 use panel::ROWS;
 use removing::remove;
 use replies::LONGEST;
 use replies::put_reply;
 use replies::refusal_of;
+use sheet::Sheet;
 use tables::fill_tables;
 use tables::stay_levels;
 use taking::reverse;
 use tally::Tally;
 use tally::tallied_line;
+use values::of_bits;
 ghost use Prim.Native.Nat.{_^_, _≤_, _<_};
 ghost use lib.ListN.{length, drop};
-ghost use Rattle.panel.specs.Legal.{Legal};
+ghost use Rattle.sheet.specs.Legal.{LegalSheet};
 ghost use Rattle.lines.specs.Lines.{linesOf};
 ghost use Rattle.frames.specs.Frames.{lineAnswer};
 ghost use Rattle.answering.specs.Runs.{reached, fitting, RanFrom, Paced, Resumed};
 
-// Where a run over a text stands: the position of the next line, the panel, the tally, and how many bytes were written.
+// Where a run over a text stands: the position of the next line, the sheet, the tally, and how many bytes were written.
 pub struct Progress {
     pub next: usize,
-    pub panel: Panel,
+    pub sheet: Sheet,
     pub tally: Tally,
     pub written: usize,
 }
@@ -33,17 +36,19 @@ pub struct Progress {
 pub fn answer_lines(
     text: &[u8],
     from: usize,
-    p: Panel,
+    s: Sheet,
     t: Tally,
     out: &mut [u8],
     room: usize,
 ) -> Progress
-    requires { ⌜ Legal p × (room < 2 ^ 63) ⌝ }
-    ensures { λ r. ⌜ RanFrom lineAnswer Legal (now (text .entry)) from room p t (now (out .entry)) (now (out .exit)) (reached r) ⌝ }
-    ensures { λ r. ⌜ Paced (now (text .entry)) from room (fitting lineAnswer room p (linesOf (drop from (now (text .entry))))) (reached r) ⌝ }
+    requires { ⌜ LegalSheet s × (room < 2 ^ 63) ⌝ }
+    ensures { λ r. ⌜ RanFrom lineAnswer LegalSheet (now (text .entry)) from room s t (now (out .entry)) (now (out .exit)) (reached r) ⌝ }
+    ensures { λ r. ⌜ Paced (now (text .entry)) from room (fitting lineAnswer room s (linesOf (drop from (now (text .entry))))) (reached r) ⌝ }
 {
     let mut at = from;
-    let mut q = p;
+    let mut q = s.panel;
+    let mut formulas = s.formulas;
+    let mut values = s.values;
     let mut u = t;
     let mut n: usize = 0;
     let mut rows = [0u8; ROWS];
@@ -58,9 +63,14 @@ pub fn answer_lines(
         let command = line.command;
         let k = wide(frames::number_of(command));
         let old = q.links[k];
-        // a removal scans all links: it stands here, since in decide_line it would have the panel copied for every line
+        // a removal scans all links, and a value that is entered needs all formulas: they stand here, since in decide_line they would have the panel
+        // copied for every line
         let step = match command {
             Command::Remove(id) => remove(q, old, &levels, &others, &reads, id, &mut path),
+            Command::Enter(f, n) => {
+                let v = of_bits(n);
+                enter(q, old, &levels, &others, &reads, formulas, f, v, &mut path, &mut values)
+            }
             _ => decide_line(q, old, &levels, &others, &reads, line, &mut path, &mut rows),
         };
         // the panel takes the step
@@ -75,24 +85,31 @@ pub fn answer_lines(
             q = reverse(q, step, &path, &mut levels, &mut others, &mut reads);
         }
         let reply = step.reply;
+        let rule = rule_after(command, reply, formulas.of[k]);
+        formulas.of[k] = rule;
         n = put_reply(out, n, command, reply, &rows[..ROWS]);
         u = tallied_line(u, refusal_of(reply));
         at = lines::behind(text, end);
     }
+    let after = Sheet {
+        panel: q,
+        formulas: formulas,
+        values: values,
+    };
     Progress {
         next: at,
-        panel: q,
+        sheet: after,
         tally: u,
         written: n,
     }
 }
 
 // Goes on from a position of a text: answers whole lines while a longest reply, with its LF, still fits the buffer.
-pub fn lines_from(text: &[u8], from: usize, p: Panel, t: Tally, out: &mut [u8]) -> Progress
-    requires { ⌜ Legal p ⌝ }
-    ensures { λ r. ⌜ RanFrom lineAnswer Legal (now (text .entry)) from (length (now (out .entry))) p t (now (out .entry)) (now (out .exit)) (reached r) ⌝ }
-    ensures { λ r. ⌜ Resumed lineAnswer (now (text .entry)) from p t (now (out .entry)) (now (out .exit)) (reached r) ⌝ }
+pub fn lines_from(text: &[u8], from: usize, s: Sheet, t: Tally, out: &mut [u8]) -> Progress
+    requires { ⌜ LegalSheet s ⌝ }
+    ensures { λ r. ⌜ RanFrom lineAnswer LegalSheet (now (text .entry)) from (length (now (out .entry))) s t (now (out .entry)) (now (out .exit)) (reached r) ⌝ }
+    ensures { λ r. ⌜ Resumed lineAnswer (now (text .entry)) from s t (now (out .entry)) (now (out .exit)) (reached r) ⌝ }
 {
     let room = out.len();
-    answer_lines(text, from, p, t, out, room)
+    answer_lines(text, from, s, t, out, room)
 }

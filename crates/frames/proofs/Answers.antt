@@ -15,10 +15,6 @@ use Rattle.frames.specs.declared.Command.{Command}
 use Rattle.frames.specs.declared.Command.the-variants.{Open, Add, Remove, Touch, Plan, Enter, Relate, Refused}
 use Rattle.frames.specs.Frames.{fourBytes, wordOf, formulaIn, formulaBytes, commandBytes}
 
--- the formula of a kind and values
-abbrev pub formulaAt : List ℕ → Formula
-formulaAt b = cond (eqb (at b 0) 0x00) None (formulaIn b)
-
 -- the command of a number and values
 abbrev commandAt : List ℕ → Command
 commandAt b =
@@ -28,13 +24,13 @@ commandAt b =
     (cond (eqb (at b 0) 0x04) (Touch (at b 1))
     (cond (eqb (at b 0) 0x05) Plan
     (cond (eqb (at b 0) 0x07) (Enter (at b 1) (wordOf (drop 2 b)))
-    (cond (eqb (at b 0) 0x08) (Relate (at b 1) (formulaAt (drop 2 b))) (Refused (refusalAt (drop 1 b)))))))))
+    (cond (eqb (at b 0) 0x08) (Relate (at b 1) (formulaIn (drop 2 b))) (Refused (refusalAt (drop 1 b)))))))))
 
 -- the number of four bytes, and the formula of its bytes
 pub word-at : (n : ℕ) → wordOf (fourBytes n) ≡ n
 word-at n = omega arith
 
-pub formula-at : (x : Formula) → formulaAt (formulaBytes x) ≡ x
+pub formula-at : (x : Formula) → formulaIn (formulaBytes x) ≡ x
 formula-at None = refl
 formula-at (Ratio p q) = ap₂ Ratio (two p) (two q)
   where

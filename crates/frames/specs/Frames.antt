@@ -72,9 +72,12 @@ wordOf b = at b 0 * 16777216 + at b 1 * 65536 + at b 2 * 256 + at b 3
 
 -- ---- commands
 
--- "01 pppp qqqq": a ratio; "02 f": a sum (document 02, request 2)
+-- "01 pppp qqqq": a ratio; "02 f": a sum (document 02, request 2); a frame has no other kind of formula
 abbrev pub formulaIn : List ℕ → Formula
-formulaIn b = cond (eqb (at b 0) 0x01) (Ratio (pairOf (drop 1 b)) (pairOf (drop 3 b))) (Sum (at b 1))
+formulaIn b =
+    cond (eqb (at b 0) 0x01) (Ratio (pairOf (drop 1 b)) (pairOf (drop 3 b)))
+    (cond (eqb (at b 0) 0x02) (Sum (at b 1))
+    None)
 
 -- the command of a frame, by its kind; "A line refused with 1 or 2 gives no command"
 unfoldable pub commandOf : List ℕ → Option sheet.Command

@@ -233,6 +233,23 @@ module _ (s : Sheet) (h : LegalSheet s) where
       go a k (inl (e, d)) = rw e h
       go a k (inr (e, t)) = driven a k t e (isDriven (a .panel) f) refl
 
+  -- no formula changes
+  pub entered-formulas : (f : ℕ) (v : ℤ) → performed s (entering f v) .sheet .formulas ≡ s .formulas
+  unfolding entered
+  entered-formulas f v = go (panel.performed (s .panel) (touching f))
+    where
+      ran : (a : answers.Answer) (r : Run) (b : Bool) → r .fits ≡ b → valued s a r .sheet .formulas ≡ s .formulas
+      ran a r true d = rw d refl
+      ran a r false d = rw d refl
+
+      driven : (a : answers.Answer) (b c : Bool) → isRefusal (a .reply) ≡ b → isDriven (a .panel) f ≡ c → entered s f v a .sheet .formulas ≡ s .formulas
+      driven a true c e d = rw e refl
+      driven a false true e d = rw (e, d) refl
+      driven a false false e d = rw (e, d) (ran a (evaluated (a .panel) (s .formulas) (set (s .values) f v)) _ refl)
+
+      go : (a : answers.Answer) → entered s f v a .sheet .formulas ≡ s .formulas
+      go a = driven a _ _ refl refl
+
   -- ---- kind 08
 
   legal-related : (id : ℕ) (formula : Formula) → LegalSheet (performed s (relating id formula) .sheet)

@@ -9,43 +9,46 @@ use mathlib.Core.Logic.{⊎-elim}
 use mathlib.Core.List.{List}
 use Prim.Native.Nat.{ℕ, _+_, _-_, _≤_, _<_}
 use native.Mathlib.Omega.{arith}
-use lib.ListN.{length, take, drop}
+use mir.Facts.{toZ-ofZ}
+use lib.ListN.{length, take, drop, set}
 use lib.Seq.{sets, length-sets}
 use Rattle.panel.specs.declared.Panel.{Panel}
 use Rattle.panel.specs.Items.{linkAt}
-use Rattle.panel.specs.Commands.{removing}
 use Rattle.panel.specs.Legal.{Legal}
+use Rattle.formulas.specs.declared.Formulas.{Formulas}
+use Rattle.sheet.specs.declared.Sheet.{Sheet}
+use Rattle.sheet.specs.Sheets.{sheetOf, formulaAt, withFormula}
+use Rattle.sheet.specs.Legal.{LegalSheet}
 use Rattle.tables.specs.Tables.{Tabled}
 use Rattle.taking.proofs.Taking.{Taken, places-taken, taken-reversed, tabled-altered, taken-unmoved}
 use Rattle.hex.specs.Hex.{lineOf}
 use Rattle.tally.specs.Tallies.{tallied}
 use Rattle.frames.specs.declared.Command.{Command}
-use Rattle.frames.specs.declared.Command.the-variants.{Remove}
 use Rattle.frames.specs.Frames.{numberOf, commandAnswer, lineAnswer}
 use Rattle.lines.proofs.Lines.{end-within, behind-on}
 use Rattle.panel.specs.Answers.{rowsLength}
 use Rattle.replies.specs.Replies.{restOf, wholeReply}
 use Rattle.replies.proofs.Replies.{rows-tell-none, reply-short}
-use Rattle.deciding.specs.Lines.{fieldBytesOf, LineStep}
-use Rattle.deciding.proofs.Arms.{performed-step, decided-step, framed}
-use Rattle.answering.proofs.LineAnswers.{answer-legal, did}
+use Rattle.deciding.specs.Lines.{formulaAfter, fieldBytesOf, LineStep}
+use Rattle.deciding.proofs.Arms.{decided-step, framed}
+use Rattle.answering.proofs.LineAnswers.{answer-legal, removed-step, entered-step, did}
 use Rattle.answering.proofs.Going.{Did, Going, start, line-done, finish-end, finish-full}
 use Rattle.answering.proofs.answer_lines.Statement.{statement}
 use Rattle.answering.proofs.answer_lines.Tie as tie
 
 abbrev Inv-loop : tie.InvT-loop
-Inv-loop text from out₀ room at₀ q₀ u₀ n₀ rows₀ path₀ levels₀ others₀ reads₀ out at q u n rows path levels others reads =
+Inv-loop text from out₀ room at₀ q₀ formulas₀ values₀ u₀ n₀ rows₀ path₀ levels₀ others₀ reads₀ out at q formulas values u n rows path levels others reads =
     (length rows ≡ rowsLength) × (length path ≡ 64) × Tabled q levels others reads
-    × Going lineAnswer Legal text from room q₀ u₀ out₀ out (record { next = at; state = q; tally = u; written = n })
+    × Going lineAnswer LegalSheet text from room (sheetOf q₀ formulas₀ values₀) u₀ out₀ out (record { next = at; state = sheetOf q formulas values; tally = u; written = n })
 
 abbrev μ-loop : tie.MeasureT-loop
-μ-loop text from out₀ room at₀ q₀ u₀ n₀ rows₀ path₀ levels₀ others₀ reads₀ out at q u n rows path levels others reads =
+μ-loop text from out₀ room at₀ q₀ formulas₀ values₀ u₀ n₀ rows₀ path₀ levels₀ others₀ reads₀ out at q formulas values u n rows path levels others reads =
     length text - at
 
 -- ---- the places: the line is read, and the link that its command names is known
 
 abbrev begin : tie.After-reads Inv-loop μ-loop → tie.Start Inv-loop μ-loop
-begin c = c .before .before .before .before .before
+begin c = c .before .before .before .before .before .before .before .before
 
 -- from where the link is known: the line that was read, the line's end, and the round of the loop
 abbrev read : tie.After-old Inv-loop μ-loop → tie.After-read-line Inv-loop μ-loop
@@ -60,7 +63,11 @@ looped c = ended c .before .before .before
 abbrev text-of : tie.At-loop Inv-loop μ-loop → List ℕ
 text-of c = begin (c .before .before) .args .text .now
 
-is-legal : (c : tie.After-old Inv-loop μ-loop) → Legal (looped c .loop .q)
+-- the sheet that the line meets
+abbrev sheet-of : tie.After-old Inv-loop μ-loop → Sheet
+sheet-of c = let l = looped c .loop in sheetOf (l .q) (l .formulas) (l .values)
+
+is-legal : (c : tie.After-old Inv-loop μ-loop) → LegalSheet (sheet-of c)
 is-legal c = looped c .loop .inv .3 .legal
 
 number-small : (c : tie.After-wide Inv-loop μ-loop) → c .wide .result < 128
@@ -81,7 +88,7 @@ ends : (c : tie.After-line-end Inv-loop μ-loop) → c .line-end .result ≤ len
 ends c = let l = c .before .before .before in end-within (text-of l) (l .loop .at) (c .line-end .result) (c .before .before .loop-test .taken) (c .line-end .ensures)
 
 fill-tables-requires : tie.Need-fill-tables-requires Inv-loop μ-loop
-fill-tables-requires c κs = (begin c .pre .0, refl, refl, refl)
+fill-tables-requires c κs = (begin c .pre .0 .panel, refl, refl, refl)
 
 loop-holds : tie.Need-loop-holds Inv-loop μ-loop
 loop-holds c = (refl, refl, c .fill-tables .ensures, start _ _ _ _ _ _ _ _ (begin (c .before) .pre .0))
@@ -98,11 +105,14 @@ mul-old c = omega (arith, number-small c)
 element-copy-out-old : tie.Need-element-copy-out-old Inv-loop μ-loop
 element-copy-out-old c = omega (arith, number-small c)
 
--- in the arms of the match, the command is a removal, or another
+-- in the arms of the match, the command is a removal, a value that is entered, or another
 abbrev removes : tie.After-levels2 Inv-loop μ-loop → tie.After-command Inv-loop μ-loop
 removes c = c .before .before
 
-abbrev decides : tie.After-levels3 Inv-loop μ-loop → tie.After-old Inv-loop μ-loop
+abbrev enters : tie.After-of-bits Inv-loop μ-loop → tie.After-command2 Inv-loop μ-loop
+enters c = c .before .before
+
+abbrev decides : tie.After-levels4 Inv-loop μ-loop → tie.After-old Inv-loop μ-loop
 decides c = c .before .before
 
 remove-requires : tie.Need-remove-requires Inv-loop μ-loop
@@ -110,13 +120,20 @@ remove-requires c κs =
     let k = removes (c .before .before .before) in
     let n = k .before .before in
     let l = looped n .loop .inv in
-    (is-legal n, l .2, named-at n ∙ ap (λ (x : Command). linkAt (looped n .loop .q .links) (numberOf x)) (k .command .given .1), l .1)
+    (is-legal n .panel, l .2, named-at n ∙ ap (λ (x : Command). linkAt (looped n .loop .q .links) (numberOf x)) (k .command .given .1), l .1)
+
+enter-requires : tie.Need-enter-requires Inv-loop μ-loop
+enter-requires c κs =
+    let k = enters (c .before .before .before .before .before) in
+    let n = k .before .before in
+    let l = looped n .loop .inv in
+    ((is-legal n, l .2), (named-at n ∙ ap (λ (x : Command). linkAt (looped n .loop .q .links) (numberOf x)) (k .command2 .given .1), l .1))
 
 decide-line-requires : tie.Need-decide-line-requires Inv-loop μ-loop
 decide-line-requires c κs =
     let n = decides (c .before .before .before .before) in
     let l = looped n .loop .inv in
-    ((is-legal n, l .2, named-at n), (framed _ _ (read n .read-line .ensures), l .1, l .0))
+    ((is-legal n .panel, l .2, named-at n), (framed _ _ (read n .read-line .ensures), l .1, l .0))
 
 -- ---- the step of the line, and the panel that has taken it
 
@@ -128,36 +145,43 @@ abbrev parts : tie.After-stay-levels Inv-loop μ-loop → tie.After-setter Inv-l
 parts c = c .before .before .before .before
 
 -- the step changes setters
-abbrev changes : tie.After-path3 Inv-loop μ-loop → tie.After-stay-levels Inv-loop μ-loop
+abbrev changes : tie.After-path4 Inv-loop μ-loop → tie.After-stay-levels Inv-loop μ-loop
 changes c = c .before .before .before
 
 abbrev fields-at : tie.After-old Inv-loop μ-loop → List ℕ
 fields-at c = fieldBytesOf (read c .read-line .result)
 
 same-command : (c : tie.At-match-came Inv-loop μ-loop) → c .match .command ≡ command-of (c .before)
-same-command c = ⊎-elim (λ w. w .10 ∙ sym (w .1 .given .1)) (λ w. w .9) (c .match .came)
+same-command c = ⊎-elim (λ w. w .11 ∙ sym (w .1 .given .1)) (⊎-elim (λ w. w .13 ∙ sym (w .1 .given .1)) (λ w. w .10)) (c .match .came)
 
 stepped : (c : tie.At-match-came Inv-loop μ-loop)
-    → let n = c .before in let m = c .match in LineStep (looped n .loop .q) (n .before .wide .result) (command-of n) (fields-at n) (m .path) (m .rows) (m .step)
+    → let n = c .before in let m = c .match in LineStep (sheet-of n) (n .before .wide .result) (command-of n) (fields-at n) (m .path) (m .rows) (m .values) (m .step)
 stepped c =
     let n = c .before in
     let m = c .match in
     let l = looped n .loop in
-    subst (λ (k : ℕ). LineStep (l .q) k (command-of n) (fields-at n) (m .path) (m .rows) (m .step)) (sym (number-is n))
+    subst (λ (k : ℕ). LineStep (sheet-of n) k (command-of n) (fields-at n) (m .path) (m .rows) (m .values) (m .step)) (sym (number-is n))
     (⊎-elim
     (λ w.
     let path = w .7 .last .1 .1 .1 .1 .1 .1 .0 in
-    rw (w .9, w .11, w .8)
-    (subst (λ (x : Command). LineStep (l .q) (numberOf x) x (fields-at n) path (l .rows) (w .7 .result)) (sym (w .1 .given .1))
-    (performed-step _ _ _ _ _ (l .inv .0) (Remove _) (removing _) _ refl refl (w .7 .ensures))))
-    (λ w. rw (w .8, w .10, w .7) (decided-step _ _ _ _ _ _ _ (command-of n) (w .0 .keys2) (w .6 .ensures)))
+    rw (w .8, w .9, w .10, w .12)
+    (subst (λ (x : Command). LineStep (sheet-of n) (numberOf x) x (fields-at n) path (l .rows) (l .values) (w .7 .result)) (sym (w .1 .given .1))
+    (removed-step (sheet-of n) _ _ _ _ (l .inv .0) _ (w .7 .ensures))))
+    (⊎-elim
+    (λ w.
+    let path = w .9 .last .1 .1 .1 .1 .1 .1 .1 .1 .0 in
+    let after = w .9 .last .1 .1 .1 .1 .1 .1 .1 .1 .1 .0 in
+    rw (w .10, w .11, w .12, w .14)
+    (subst (λ (x : Command). LineStep (sheet-of n) (numberOf x) x (fields-at n) path (l .rows) after (w .9 .result)) (sym (w .1 .given .1))
+    (entered-step (sheet-of n) (is-legal n) _ _ _ (toZ-ofZ (record { sfits = w .3 .ok }) ∙ w .3 .ensures) _ path _ (l .inv .0) after _ (w .9 .ensures))))
+    (λ w. rw (w .7, w .8, w .9, w .11) (decided-step _ _ _ _ _ _ _ (command-of n) (w .0 .keys3) (w .6 .ensures) (l .formulas) (l .values))))
     (m .came))
 
 abbrev after-of : tie.At-match-came Inv-loop μ-loop → Panel
-after-of c = let n = c .before in commandAnswer (looped n .loop .q) (command-of n) (fields-at n) .state
+after-of c = let n = c .before in commandAnswer (sheet-of n) (command-of n) (fields-at n) .state .panel
 
 legal-after : (c : tie.At-match-came Inv-loop μ-loop) → Legal (after-of c)
-legal-after c = let n = c .before in answer-legal _ (command-of n) (fields-at n) (is-legal n)
+legal-after c = let n = c .before in answer-legal (sheet-of n) (command-of n) (fields-at n) (is-legal n) .panel
 
 mul-link : tie.Need-mul-link Inv-loop μ-loop
 mul-link c = omega (arith, number-small (met c .before .before))
@@ -177,7 +201,7 @@ reverse-requires c κs =
     let t = stepped m .takes in (
       t .path-of,
       places-taken t (legal-after m),
-      tabled-altered t (legal-after m) (is-legal (m .before)) (number-small (m .before .before)) (looped (m .before) .loop .inv .2) (k .stay-levels .ensures),
+      tabled-altered t (legal-after m) (is-legal (m .before) .panel) (number-small (m .before .before)) (looped (m .before) .loop .inv .2) (k .stay-levels .ensures),
     )
 
 -- the panel after the line, and its tables
@@ -191,7 +215,7 @@ taken j =
     ⊎-elim
     (λ w. rw (w .6, w .7, w .8, w .9) (taken-reversed (stepped m .takes) (legal-after m) (w .5 .ensures .0) (w .5 .ensures .1)))
     (λ w. rw (w .1, w .2, w .3, w .4)
-    (taken-unmoved (stepped m .takes) (legal-after m) (is-legal (m .before)) (number-small (m .before .before)) (looped (m .before) .loop .inv .2) l (w .0 .left)))
+    (taken-unmoved (stepped m .takes) (legal-after m) (is-legal (m .before) .panel) (number-small (m .before .before)) (looped (m .before) .loop .inv .2) l (w .0 .left)))
     (j .if2 .came)
 
 -- ---- what one line does
@@ -203,23 +227,53 @@ line-of c = let l = looped c in take (ended c .line-end .result - l .loop .at) (
 abbrev reply-of : tie.Joined2 Inv-loop μ-loop → List ℕ
 reply-of j = let m = joined j in wholeReply (command-of (m .before)) (m .match .step .reply) (m .match .rows)
 
-line-does : (j : tie.Joined2 Inv-loop μ-loop)
-    → let n = joined j .before in Did lineAnswer Legal (looped n .loop .q) (line-of n) (j .if2 .q) (reply-of j)
-line-does j =
+-- the formula of the named link afterwards
+abbrev ruled : tie.After-rule-after Inv-loop μ-loop → tie.Joined2 Inv-loop μ-loop
+ruled c = c .before .before
+
+mul-rule-after : tie.Need-mul-rule-after Inv-loop μ-loop
+mul-rule-after c = omega (arith, number-small (joined c .before .before))
+
+element-copy-out-rule-after : tie.Need-element-copy-out-rule-after Inv-loop μ-loop
+element-copy-out-rule-after c = number-small (joined c .before .before)
+
+mul-rule : tie.Need-mul-rule Inv-loop μ-loop
+mul-rule c = omega (arith, number-small (joined (ruled c) .before .before))
+
+element-set-from-rule : tie.Need-element-set-from-rule Inv-loop μ-loop
+element-set-from-rule c = number-small (joined (ruled c) .before .before)
+
+abbrev formulas-after : tie.After-rule-after Inv-loop μ-loop → Formulas
+formulas-after c =
+    let n = joined (ruled c) .before in
+    record { of = set (looped n .loop .formulas .of) (n .before .wide .result) (c .rule-after .result) }
+
+rule-is : (c : tie.After-rule-after Inv-loop μ-loop) → let m = joined (ruled c) in let n = m .before in let k = n .before .wide .result in
+    formulas-after c ≡ withFormula (looped n .loop .formulas) k (formulaAfter (command-of n) (m .match .step .reply) (formulaAt (looped n .loop .formulas) k))
+rule-is c =
+    let m = joined (ruled c) in
+    let n = m .before in
+    let k = n .before .wide .result in
+    let old = formulaAt (looped n .loop .formulas) k in
+    ap (withFormula (looped n .loop .formulas) k) (c .rule-after .ensures ∙ ap (λ (x : Command). formulaAfter x (m .match .step .reply) old) (same-command m))
+
+line-does : (c : tie.After-rule-after Inv-loop μ-loop) → let j = ruled c in let m = joined j in let n = m .before in
+    Did lineAnswer LegalSheet (sheet-of n) (line-of n) (sheetOf (j .if2 .q) (formulas-after c) (m .match .values)) (reply-of j)
+line-does c =
+    let j = ruled c in
     let m = joined j in
     let n = m .before in
-    let t = taken j in
-    did _ (line-of n) _ (fields-at n) (read n .read-line .ensures .bytes) _ _ _ _ (stepped m) _ (t .panel) (t .legal)
+    did (sheet-of n) (line-of n) _ (fields-at n) (read n .read-line .ensures .bytes) _ _ _ _ _ (stepped m) _ (taken j .panel) _ (rule-is c) (is-legal n)
 
 is-written : (j : tie.Joined2 Inv-loop μ-loop) → let m = joined j in wholeReply (m .match .command) (m .match .step .reply) (m .match .rows) ≡ reply-of j
 is-written j = let m = joined j in ap (λ (k : Command). wholeReply k (m .match .step .reply) (m .match .rows)) (same-command m)
 
 slice-aggregate-put-reply : tie.Need-slice-aggregate-put-reply Inv-loop μ-loop
-slice-aggregate-put-reply c = sym (stepped (joined (c .before .before)) .rows-full)
+slice-aggregate-put-reply c = sym (stepped (joined (ruled (c .before .before))) .rows-full)
 
 put-reply-requires : tie.Need-put-reply-requires Inv-loop μ-loop
 put-reply-requires c κs =
-    let m = joined (c .before .before) in
+    let m = joined (ruled (c .before .before)) in
     let l = looped (m .before) in
     let d = stepped m in
     let few = ap (λ (k : Command). restOf k (m .match .step .reply)) (same-command m) in
@@ -227,7 +281,7 @@ put-reply-requires c κs =
     (omega (arith, few, d .rest, d .rows-full), omega (arith, short, l .loop .inv .3 .fits, begin (l .before .before) .pre .1))
 
 -- the reply is written, and its refusal told
-abbrev step-taken : tie.After-put-reply Inv-loop μ-loop → tie.Joined2 Inv-loop μ-loop
+abbrev step-taken : tie.After-put-reply Inv-loop μ-loop → tie.After-rule-after Inv-loop μ-loop
 step-taken c = c .before .before .before
 
 abbrev replied : tie.After-refusal-of Inv-loop μ-loop → tie.After-put-reply Inv-loop μ-loop
@@ -235,14 +289,15 @@ replied c = c .before .before .before
 
 loop-less : tie.Need-loop-less Inv-loop μ-loop
 loop-less c =
-    let e = ended (joined (step-taken (replied (c .before .before))) .before) in
+    let e = ended (joined (ruled (step-taken (replied (c .before .before)))) .before) in
     let l = e .before .before .before in
     omega (arith, c .behind .ensures, behind-on (text-of l) (l .loop .at) (e .line-end .result) (e .before .before .loop-test .taken) (e .line-end .ensures), ends e)
 
 loop-again : tie.Need-loop-again Inv-loop μ-loop
 loop-again c =
     let r = replied (c .before .before) in
-    let j = step-taken r in
+    let t = step-taken r in
+    let j = ruled t in
     let m = joined j in
     let n = m .before in
     let l = looped n .loop in
@@ -252,7 +307,7 @@ loop-again c =
       stepped m .takes .path-of .full,
       taken j .tabled,
       line-done _ _ _ _ _ _ _ _ _ _ (l .inv .3) (e .before .before .loop-test .taken) (leb-true _ _ (e .before .if1 .taken)) (e .line-end .result) (e .line-end .ensures)
-          (line-of n) refl _ _ (reply-of j) (line-does j)
+          (line-of n) refl _ _ (reply-of j) (line-does t)
           (w .0 ∙ ap (λ (b : List ℕ). sets (l .out) (l .n) (lineOf b)) (is-written j)) (w .1 ∙ ap (λ (b : List ℕ). l .n + length (lineOf b)) (is-written j))
           (c .before .tallied-line .ensures ∙ ap (tallied (l .u)) (c .before .before .refusal-of .ensures ∙ rows-tell-none (command-of n) (m .match .step .reply) (m .match .rows))) (c .behind .ensures),
     )
@@ -289,11 +344,19 @@ answer-lines-spec =
     element-copy-out-old
     (λ c. search needs)
     remove-requires
+    (λ c. search needs)
+    (λ c κs. search needs)
+    enter-requires
     decide-line-requires
     mul-link
     element-set-from-link
     stay-levels-requires
     reverse-requires
+    mul-rule-after
+    element-copy-out-rule-after
+    (λ c κs. search needs)
+    mul-rule
+    element-set-from-rule
     slice-aggregate-put-reply
     put-reply-requires
     (λ c κs. search needs)
