@@ -9,13 +9,12 @@ use Rattle.panel.specs.declared.Refusal.{Refusal}
 use Rattle.panel.specs.declared.Refusal.the-variants.{BadHex, BadFrame}
 use Rattle.fieldset.specs.Tables.{at}
 use Rattle.panel.specs.Answers.{twoBytes, refusalBytes}
-use Rattle.panel.specs.Panels.{opened}
 use Rattle.panel.specs.Commands.{hasBit6, anyOf, opening, adding, removing, touching, planning}
 use Rattle.values.specs.Words.{valueOf}
 use Rattle.formulas.specs.declared.Formula.{Formula}
 use Rattle.formulas.specs.declared.Formula.the-variants.{None, Ratio, Sum}
 use Rattle.sheet.specs.declared.Sheet.{Sheet}
-use Rattle.sheet.specs.Sheets.{blank}
+use Rattle.sheet.specs.Sheets.{unopened}
 use Rattle.sheet.specs.Commands as sheet
 use Rattle.sheet.specs.Commands.{Answer, solving, entering, relating, performed}
 use Rattle.hex.specs.Hex.{isHex, offsetOf, bytesOf}
@@ -147,10 +146,6 @@ answered s bytes (some c) = answerTo (performed s c)
 
 unfoldable pub lineAnswer : LineAnswer Sheet
 lineAnswer s line = answered s (frameOf line) (commandOf (frameOf line))
-
--- the sheet of an unopened panel
-abbrev pub unopened : Sheet
-unopened = blank (opened 0)
 
 -- the sheet after lines
 abbrev pub sheetAfter : Sheet → List (List ℕ) → Sheet

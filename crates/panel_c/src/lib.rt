@@ -4,8 +4,8 @@ use text::Outcome;
 ghost use mathlib.Core.Path.{_≡_};
 ghost use mathlib.Core.Bool.{cond};
 ghost use lib.ListN.{length};
-ghost use Rattle.panel.specs.Panels.{opened};
 ghost use Rattle.frames.specs.Texts.{isTooLong};
+ghost use Rattle.sheet.specs.Sheets.{unopened};
 ghost use Rattle.frames.specs.Frames.{lineAnswer};
 ghost use Rattle.text.specs.Outcomes.{wholeOutput, bufferAfter, tallyAtEnd};
 ghost use Rattle.panel_c.specs.Lengths.{lengthOf};
@@ -24,9 +24,9 @@ fn length_of(outcome: Outcome) -> usize
 // lends is updated.
 #[no_mangle]
 pub extern "C" fn panel_run_text(text: &[u8], out: &mut [u8], tally: &mut Tally) -> usize
-    ensures { λ r. ⌜ r ≡ cond (isTooLong (now (text .entry))) 0 (length (wholeOutput lineAnswer (opened 0) (now (tally .entry)) (now (text .entry)))) ⌝ }
-    ensures { λ r. ⌜ now (out .exit) ≡ bufferAfter lineAnswer (opened 0) (now (tally .entry)) (now (text .entry)) (now (out .entry)) ⌝ }
-    ensures { λ r. ⌜ now (tally .exit) ≡ tallyAtEnd lineAnswer (opened 0) (now (tally .entry)) (now (text .entry)) ⌝ }
+    ensures { λ r. ⌜ r ≡ cond (isTooLong (now (text .entry))) 0 (length (wholeOutput lineAnswer unopened (now (tally .entry)) (now (text .entry)))) ⌝ }
+    ensures { λ r. ⌜ now (out .exit) ≡ bufferAfter lineAnswer unopened (now (tally .entry)) (now (text .entry)) (now (out .entry)) ⌝ }
+    ensures { λ r. ⌜ now (tally .exit) ≡ tallyAtEnd lineAnswer unopened (now (tally .entry)) (now (text .entry)) ⌝ }
 {
     let outcome = text::run_text(text, out, tally);
     length_of(outcome)

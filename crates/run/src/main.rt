@@ -40,7 +40,7 @@ fn answer(text: &[u8]) -> Output
     }
     let mut sent = 0;
     let mut next = 0;
-    let mut p = opening::unopened();
+    let mut s = sheet::unopened();
     let mut t = Tally {
         lines: 0,
         accepted: 0,
@@ -48,9 +48,9 @@ fn answer(text: &[u8]) -> Output
         last: 0,
     };
     while next < text.len() {
-        let r = answering::lines_from(text, next, p, t, &mut out);
+        let r = answering::lines_from(text, next, s, t, &mut out);
         next = r.next;
-        p = r.panel;
+        s = r.sheet;
         t = r.tally;
         let n = r.written;
         let part = send(text, sent, &out[..n]);

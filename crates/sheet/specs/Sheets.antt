@@ -4,6 +4,7 @@ use mathlib.Core.List.{List}
 use lib.IntN.{ℤ, pos}
 use lib.ListN.{getD, set, replicate}
 use Rattle.panel.specs.declared.Panel.{Panel}
+use Rattle.panel.specs.Panels.{opened}
 use Rattle.panel.specs.Solution.{setterReads, planOf}
 use Rattle.formulas.specs.declared.Formula.{Formula}
 use Rattle.formulas.specs.declared.Formula.the-variants.{None}
@@ -20,6 +21,10 @@ sheetOf p formulas values = record { panel = p; formulas = formulas; values = va
 -- a panel with no formula; values are "zero at opening"
 abbrev pub blank : Panel → Sheet
 blank p = record { panel = p; formulas = record { of = replicate 128 (record { formula = None }) }; values = replicate 64 (pos 0) }
+
+-- the sheet of an unopened panel
+abbrev pub unopened : Sheet
+unopened = blank (opened 0)
 
 -- the formula of the link of a number
 abbrev pub formulaAt : Formulas → ℕ → Formula

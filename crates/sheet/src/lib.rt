@@ -4,7 +4,8 @@ use formulas::Formulas;
 use formulas::Rule;
 use panel::Panel;
 ghost use mathlib.Core.Path.{_≡_};
-ghost use Rattle.sheet.specs.Sheets.{blank};
+ghost use Rattle.sheet.specs.Sheets.{blank, unopened};
+ghost use Rattle.sheet.specs.Legal.{LegalSheet};
 
 pub struct Sheet {
     pub panel: Panel,
@@ -14,8 +15,8 @@ pub struct Sheet {
     pub values: [i32; 64],
 }
 
-// The sheet of a panel without formulas and values.
-pub fn blank(p: Panel) -> Sheet
+// The sheet of a panel without formulas, all values zero.
+fn blank(p: Panel) -> Sheet
     ensures { λ r. ⌜ r ≡ blank p ⌝ }
 {
     let rule = Rule {
@@ -29,4 +30,11 @@ pub fn blank(p: Panel) -> Sheet
         formulas: rules,
         values: [0i32; 64],
     }
+}
+
+// The sheet of an unopened panel.
+pub fn unopened() -> Sheet
+    ensures { λ r. ⌜ (r ≡ unopened) × LegalSheet r ⌝ }
+{
+    blank(opening::unopened())
 }

@@ -3,6 +3,7 @@ use answering::answer_lines;
 use panel::Refusal;
 use replies::LONGEST;
 use replies::put_refusal;
+use sheet::unopened;
 use tally::Tally;
 ghost use mathlib.Core.Path.{_≡_};
 ghost use Prim.Native.Nat.{_+_, _^_, _<_};
@@ -11,10 +12,10 @@ ghost use lib.Seq.{sets};
 ghost use mathlib.Core.List.{_∷_};
 ghost use Rattle.panel.specs.declared.Refusal.the-variants.{TextTooLong as TooLong};
 ghost use Rattle.panel.specs.Answers.{refusalBytes};
-ghost use Rattle.panel.specs.Panels.{opened};
 ghost use Rattle.hex.specs.Hex.{lineOf};
 ghost use Rattle.tally.specs.Tallies.{tallyBytes};
 ghost use Rattle.frames.specs.Texts.{isTooLong};
+ghost use Rattle.sheet.specs.Sheets.{unopened};
 ghost use Rattle.frames.specs.Frames.{lineAnswer};
 ghost use Rattle.text.specs.Outcomes.{tallyLength, Told};
 
@@ -66,7 +67,7 @@ pub struct Ending {
 
 // The length of a text's whole output, from an unopened panel and a tally on, and as many of its first bytes as fit the buffer.
 pub fn run_tallied(text: &[u8], out: &mut [u8], t: Tally) -> Ending
-    ensures { λ r. ⌜ Told lineAnswer (opened 0) t (now (text .entry)) (r .tally) (now (out .entry)) (now (out .exit)) (r .outcome) ⌝ }
+    ensures { λ r. ⌜ Told lineAnswer unopened t (now (text .entry)) (r .tally) (now (out .entry)) (now (out .exit)) (r .outcome) ⌝ }
 {
     if is_too_long(text) {
         let outcome = Outcome::TextTooLong;
@@ -75,7 +76,7 @@ pub fn run_tallied(text: &[u8], out: &mut [u8], t: Tally) -> Ending
             tally: t,
         };
     }
-    let r = answer_lines(text, 0, opening::unopened(), t, out, ROOM);
+    let r = answer_lines(text, 0, unopened(), t, out, ROOM);
     let u = r.tally;
     let n = put_tally(out, r.written, u);
     let outcome = Outcome::Length(n);
@@ -87,7 +88,7 @@ pub fn run_tallied(text: &[u8], out: &mut [u8], t: Tally) -> Ending
 
 // The same, from a panel that is not opened and the tally that the caller lends.
 pub fn run_text(text: &[u8], out: &mut [u8], t: &mut Tally) -> Outcome
-    ensures { λ r. ⌜ Told lineAnswer (opened 0) (now (t .entry)) (now (text .entry)) (now (t .exit)) (now (out .entry)) (now (out .exit)) r ⌝ }
+    ensures { λ r. ⌜ Told lineAnswer unopened (now (t .entry)) (now (text .entry)) (now (t .exit)) (now (out .entry)) (now (out .exit)) r ⌝ }
 {
     let before = *t;
     let a = run_tallied(text, out, before);

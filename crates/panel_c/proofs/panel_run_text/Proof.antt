@@ -48,7 +48,7 @@ use Rattle.text.proofs.run_text as run-text
 use Rattle.text.proofs.run_text.Symbol as run-text-def
 use Rattle.text.proofs.run_text.Symbol.{name as #text·run-text}
 use Rattle.text.proofs.run_text.Met as run-text-thm
-use Rattle.panel.specs.Panels.{opened}
+use Rattle.sheet.specs.Sheets.{unopened}
 use Rattle.frames.specs.Frames.{lineAnswer}
 use Rattle.panel_c.specs.Lengths.{lengthOf}
 use Rattle.panel_c.proofs.Told.{told-length}
@@ -110,7 +110,7 @@ module _ {M : Type 1} (𝓤 : URA M) (H : Heap 𝓤) (A : Atoms 𝓤) (W : Given
 
   -- what `run_text` ensures of its answer, the buffer's last bytes and the last tally
   abbrev Given-told : Outcome → Last → Type 0
-  Given-told r zs = Told lineAnswer (opened 0) h (x₁ .now) (zs .1 .1 .0) (x₂ .now) (zs .1 .0) r
+  Given-told r zs = Told lineAnswer unopened h (x₁ .now) (zs .1 .1 .0) (x₂ .now) (zs .1 .0) r
 
   abbrev to-run-text : Run-text 𝓤 H A at-mem run .Ghost
   to-run-text = (((κ₁, (κ₂, (κ, tt))), (q₁, (q₂, (q, tt))), tt, a, at), tt)
@@ -132,7 +132,7 @@ module _ {M : Type 1} (𝓤 : URA M) (H : Heap 𝓤) (A : Atoms 𝓤) (W : Given
       -- what is had of the parameters, the result, and the tokens
       move ! (1 ∷ 2 ∷ 3 ∷ []) $ nothing ! $ move ! (1 ∷ 0 ∷ []) $ fjoin ! $ move ! (1 ∷ 0 ∷ []) $ fjoin ! $ move ! (1 ∷ 0 ∷ []) $ fjoin ! $
       owned ! usize (Is usize) (uint-makes 𝓤 H A W w64) n (v ∷ []) is $ move ! (1 ∷ 0 ∷ []) $ join ! $ move ! (1 ∷ 0 ∷ []) $ join ! $ frame ! $
-      by ! (three-facts 𝓤 (e ∙ told-length lineAnswer (opened 0) h (x₁ .now) r (told .outcome)) (told .buffer) (told .tally))
+      by ! (three-facts 𝓤 (e ∙ told-length lineAnswer unopened h (x₁ .now) r (told .outcome)) (told .buffer) (told .tally))
 
   module _ (C : Calls 𝓤 H) (Λ : Loops 𝓤 H) (fm : FmC 𝓤 H (W .laws) C) (known : Triple 𝓤 (C #text·run-text) (Run-text 𝓤 H A at-mem run)) (known-length : Triple 𝓤 (C #panel-c·length-of) (Length-of 𝓤 H A at-mem run)) where
     walk : Is (ShrSlice (named 0) κ₁ u8) x₁ (s₁ ∷ []) → Is (MutSlice (named 1) κ₂ u8) x₂ (s₂ ∷ [])

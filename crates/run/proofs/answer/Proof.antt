@@ -10,8 +10,8 @@ use mathlib.Core.List.{List}
 use lib.ListN.{length, take}
 use lib.Seq.{length-take-le}
 use borrow.Author.Tests.{not-true}
-use Rattle.panel.specs.Panels.{opened}
-use Rattle.panel.specs.Legal.{Legal}
+use Rattle.sheet.specs.Sheets.{unopened}
+use Rattle.sheet.specs.Legal.{LegalSheet}
 use Rattle.hex.specs.Hex.{lineOf}
 use Rattle.tally.specs.Tallies.{tallyBytes}
 use Rattle.frames.specs.Texts.{outputOf}
@@ -21,7 +21,7 @@ use Rattle.run.proofs.answer.Statement.{statement}
 use Rattle.run.proofs.answer.Tie as tie
 
 abbrev Inv-loop : tie.InvT-loop
-Inv-loop text out₀ sent₀ next₀ p₀ t₀ out sent next p t = Sent lineAnswer Legal (opened 0) text out sent next p t
+Inv-loop text out₀ sent₀ next₀ p₀ t₀ out sent next p t = Sent lineAnswer LegalSheet unopened text out sent next p t
 
 abbrev μ-loop : tie.MeasureT-loop
 μ-loop text out₀ sent₀ next₀ p₀ t₀ out sent next p t = length text - next
@@ -37,8 +37,8 @@ full c = sym (c .before .large-buffer .ensures)
 abbrev long : tie.After-put-too-long Inv-loop μ-loop → tie.After-is-too-long Inv-loop μ-loop
 long c = c .before .before .before
 
-is-too-long : (c : tie.After-put-too-long Inv-loop μ-loop) → outputOf lineAnswer (opened 0) (start (long c) .args .text .now) ≡ tooLongLine
-is-too-long c = too-long-line lineAnswer Legal (opened 0) (start (long c) .args .text .now) (sym (long c .is-too-long .ensures) ∙ c .before .before .if1 .taken)
+is-too-long : (c : tie.After-put-too-long Inv-loop μ-loop) → outputOf lineAnswer unopened (start (long c) .args .text .now) ≡ tooLongLine
+is-too-long c = too-long-line lineAnswer LegalSheet unopened (start (long c) .args .text .now) (sym (long c .is-too-long .ensures) ∙ c .before .before .if1 .taken)
 
 line-fits : (c : tie.After-put-too-long Inv-loop μ-loop) → c .put-too-long .result ≤ length (c .put-too-long .last .0)
 line-fits c =
@@ -107,7 +107,7 @@ send-requires c κs =
     let t = long p in
     let e = p .put-too-long .ensures in (
       put-part (t .before .large-buffer .result) _ tooLongLine (p .put-too-long .result) (full t) too-long-short (e .0) (from-zero _ _ (e .1))
-          (outputOf lineAnswer (opened 0) (start t .args .text .now)) 0 (is-too-long p),
+          (outputOf lineAnswer unopened (start t .args .text .now)) 0 (is-too-long p),
       omega (arith, line-length p, e .1, too-long-short),
     )
 
@@ -180,7 +180,7 @@ send-requires-3 c κs =
     let l = ended p .before .loop in
     let s = l .inv in (
       put-part (l .out) _ (lineOf (tallyBytes (l .t))) (p .put-tally .result) (s .full) (tally-short _ _ _ _ _ _ _ _ _ s) (e .0) (e .1)
-          (outputOf lineAnswer (opened 0) (text-of (ended p .before))) (l .sent) (tally-last _ _ _ _ _ _ _ _ _ s (omega (arith, ended p .loop-test .left))),
+          (outputOf lineAnswer unopened (text-of (ended p .before))) (l .sent) (tally-last _ _ _ _ _ _ _ _ _ s (omega (arith, ended p .loop-test .left))),
       omega (arith, last-length p, s .few, s .short, s .within, tally-short _ _ _ _ _ _ _ _ _ s, e .1),
     )
 

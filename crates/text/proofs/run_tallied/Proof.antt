@@ -7,7 +7,7 @@ use borrow.Author.Tests.{ltb-false}
 use lib.ListN.{length}
 use native.Mathlib.Omega.{arith}
 use Prim.Native.Nat.{_*_}
-use Rattle.panel.specs.Panels.{opened}
+use Rattle.sheet.specs.Sheets.{unopened}
 use Rattle.frames.specs.Texts.{textLimit, isTooLong}
 use Rattle.frames.specs.Frames.{lineAnswer}
 use Rattle.lines.proofs.Lines.{lines-few}
@@ -32,7 +32,7 @@ answered c = c .before .before .before .before .before
 returns : tie.Need-returns
 returns c =
     let s = start (c .before) .args in
-    too-long lineAnswer (s .text .now) (s .out .now) (opened 0) (s .t) (sym (c .before .is-too-long .ensures) ∙ c .if1 .taken)
+    too-long lineAnswer (s .text .now) (s .out .now) unopened (s .t) (sym (c .before .is-too-long .ensures) ∙ c .if1 .taken)
 
 answer-lines-requires : tie.Need-answer-lines-requires
 answer-lines-requires c κs = (c .before .unopened .ensures .1, omega arith)
@@ -45,7 +45,7 @@ returns-2 c =
     let s = start (o .before .before) .args in
     let short : isTooLong (s .text .now) ≡ false = sym (o .before .before .is-too-long .ensures) ∙ o .before .if1 .left in
     let t = p .put-tally .ensures in
-    whole-text _ _ (s .text .now) (s .out .now) _ _ (s .t) _ _ _ (opened 0) _ (longest * textLimit) (o .unopened .ensures .0) (a .answer-lines .ensures .0)
+    whole-text _ _ (s .text .now) (s .out .now) _ _ (s .t) _ _ _ unopened _ (longest * textLimit) (o .unopened .ensures .0) (a .answer-lines .ensures .0)
     (a .answer-lines .ensures .1) (omega (arith, lines-few (s .text .now), ltb-false textLimit (length (s .text .now)) short)) (t .0) (t .1) short
 
 pub run-tallied-spec : {M : Type 1} → statement M

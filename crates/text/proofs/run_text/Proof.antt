@@ -48,7 +48,7 @@ use Rattle.text.specs.declared.Ending.{Ending}
 use Rattle.text.specs.declared.Outcome.{Outcome}
 use Rattle.text.proofs.Outcome as O
 use Rattle.text.proofs.Outcome.Laws as O′
-use Rattle.panel.specs.Panels.{opened}
+use Rattle.sheet.specs.Sheets.{unopened}
 use Rattle.frames.specs.Frames.{lineAnswer}
 use Rattle.text.specs.Outcomes.{Told}
 use Rattle.text.proofs.Ending as S
@@ -114,7 +114,7 @@ module _ {M : Type 1} (𝓤 : URA M) (H : Heap 𝓤) (A : Atoms 𝓤) (W : Given
 
   -- what `run_tallied` ensures of its answer and of the buffer's last bytes
   abbrev Given-told : Ending → List ℕ → Type 0
-  Given-told r zs = Told lineAnswer (opened 0) h (x₁ .now) (r .tally) (x₂ .now) zs (r .outcome)
+  Given-told r zs = Told lineAnswer unopened h (x₁ .now) (r .tally) (x₂ .now) zs (r .outcome)
 
   -- what whoever holds an answer knows of its fields
   fields : (r : Ending) (v : Val) → Is S.the-row r (v ∷ []) → Is O.the-row (r .outcome) (outcome-vals (r .outcome)) × Is T.the-row (r .tally) (vals (r .tally))
