@@ -7,7 +7,7 @@ ghost use lib.ListN.{length};
 ghost use Rattle.frames.specs.Texts.{isTooLong};
 ghost use Rattle.sheet.specs.Sheets.{unopened};
 ghost use Rattle.frames.specs.Frames.{lineAnswer};
-ghost use Rattle.text.specs.Outcomes.{wholeOutput, bufferAfter, tallyAtEnd};
+ghost use Rattle.text.specs.Outcomes.{wholeOutput, bufferAfter, tallyAtEnd, fieldsAfter, valuesAfter};
 ghost use Rattle.panel_c.specs.Lengths.{lengthOf};
 
 // The number that stands for a text's outcome: the length of the whole output, 0 where the text is too long.
@@ -30,4 +30,14 @@ pub extern "C" fn panel_run_text(text: &[u8], out: &mut [u8], tally: &mut Tally)
 {
     let outcome = text::run_text(text, out, tally);
     length_of(outcome)
+}
+
+// The values of the panel's fields after a text, in 64 places of which those past the fields are zero; the answer is how many fields there are, 0 while
+// the panel is unopened. Where the text is too long the answer is 0, and the places are as they were.
+#[no_mangle]
+pub extern "C" fn panel_values(text: &[u8], values: &mut [i32; 64]) -> usize
+    ensures { λ r. ⌜ r ≡ fieldsAfter (now (text .entry)) ⌝ }
+    ensures { λ r. ⌜ now (values .exit) ≡ valuesAfter (now (text .entry)) (now (values .entry)) ⌝ }
+{
+    text::values_after(text, values)
 }

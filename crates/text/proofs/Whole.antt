@@ -15,7 +15,7 @@ use Rattle.tally.specs.declared.Tally.{Tally}
 use Rattle.tally.specs.Tallies.{threeBytes, tallyBytes}
 use Rattle.lines.specs.Lines.{linesOf}
 use Rattle.lines.proofs.Lines.{lines-on, lines-end}
-use Rattle.frames.specs.Texts.{LineAnswer, replies, tallyAfter, written, output, isTooLong}
+use Rattle.frames.specs.Texts.{LineAnswer, stateAfter, replies, tallyAfter, written, output, isTooLong}
 use Rattle.replies.specs.Replies.{longest}
 use Rattle.answering.specs.Runs.{Reached, Ran, Paced}
 use Rattle.text.specs.declared.Outcome.the-variants.{Length, TextTooLong}
@@ -37,21 +37,28 @@ module _ {S : Type 0} (answer : LineAnswer S) (Legal : S → Type 0) where
         absurd (omega (arith, paced .stops l, paced .paced, more, length-drop n (linesOf text)))
     go (no l) = omega arith
 
-  module _ (text before middle after : List ℕ) (t : Tally) (n k : ℕ) (p s : S) (r : Reached S) (room : ℕ)
+  module _ (text before middle : List ℕ) (t : Tally) (n : ℕ) (p s : S) (r : Reached S) (room : ℕ)
       (starts : p ≡ s) (ran : Ran answer Legal text (linesOf text) n p t before middle r) (paced : Paced text 0 room n r)
-      (enough : longest * length (linesOf text) ≤ room) (put : after ≡ sets middle (r .written) (lineOf (tallyBytes (r .tally))))
-      (size : k ≡ r .written + length (lineOf (tallyBytes (r .tally)))) where
+      (enough : longest * length (linesOf text) ≤ room) where
     all-done : take n (linesOf text) ≡ linesOf text
     all-done =
         let none : drop n (linesOf text) ≡ [] = sym (ran .rest) ∙ lines-end text (r .next) (none-left text room n p t before middle r ran paced enough) in
         take-all n (linesOf text) (omega (arith, ap length none, length-drop n (linesOf text)))
 
+    -- the state after the text
+    pub state-done : r .state ≡ stateAfter answer s (linesOf text)
+    state-done = ran .state ∙ ap₂ (stateAfter answer) starts all-done
+
+  module _ (text before middle after : List ℕ) (t : Tally) (n k : ℕ) (p s : S) (r : Reached S) (room : ℕ)
+      (starts : p ≡ s) (ran : Ran answer Legal text (linesOf text) n p t before middle r) (paced : Paced text 0 room n r)
+      (enough : longest * length (linesOf text) ≤ room) (put : after ≡ sets middle (r .written) (lineOf (tallyBytes (r .tally))))
+      (size : k ≡ r .written + length (lineOf (tallyBytes (r .tally)))) where
     abbrev answers : List (List ℕ)
     answers = replies answer s (linesOf text)
 
     -- the lines that were answered are all, from the start on
     same : replies answer p (take n (linesOf text)) ≡ answers
-    same = ap₂ (replies answer) starts all-done
+    same = ap₂ (replies answer) starts (all-done text before middle t n p s r room starts ran paced enough)
 
     tally-done : r .tally ≡ tallyAfter t answers
     tally-done = ran .tally ∙ ap (tallyAfter t) same

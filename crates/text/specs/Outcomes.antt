@@ -3,6 +3,7 @@ use Prim.Native.Nat.{ℕ}
 use mathlib.Core.Path.{_≡_}
 use mathlib.Core.Bool.{cond}
 use mathlib.Core.List.{List, [], _∷_}
+use lib.IntN.{ℤ}
 use lib.ListN.{length}
 use lib.Seq.{sets}
 use Rattle.panel.specs.declared.Refusal.the-variants.{TextTooLong as TooLong}
@@ -11,6 +12,8 @@ use Rattle.hex.specs.Hex.{lineOf}
 use Rattle.tally.specs.declared.Tally.{Tally}
 use Rattle.lines.specs.Lines.{linesOf}
 use Rattle.frames.specs.Texts.{LineAnswer, replies, tallyAfter, output, isTooLong, outputOf}
+use Rattle.sheet.specs.Sheets.{unopened}
+use Rattle.frames.specs.Frames.{sheetAfter}
 use Rattle.text.specs.declared.Outcome.{Outcome}
 use Rattle.text.specs.declared.Outcome.the-variants.{Length, TextTooLong}
 
@@ -50,3 +53,13 @@ module _ {S : Type 0} (answer : LineAnswer S) (s : S) (t : Tally) where
 abbrev pub AsWritten : {S : Type 0} → LineAnswer S → S → List ℕ → List ℕ → List ℕ → Outcome → Type 0
 AsWritten answer s text before after (Length n) = (n ≡ length (outputOf answer s text)) × (after ≡ sets before 0 (outputOf answer s text))
 AsWritten answer s text before after TextTooLong = (outputOf answer s text ≡ lineOf (0xFF ∷ refusalBytes TooLong)) × (after ≡ before)
+
+-- ---- the fields after a text
+
+-- how many there are after the text's lines, from an unopened panel on; 0 where it is too long
+unfoldable pub fieldsAfter : List ℕ → ℕ
+fieldsAfter text = cond (isTooLong text) 0 (sheetAfter unopened (linesOf text) .panel .size)
+
+-- their values; as before where it is too long
+unfoldable pub valuesAfter : List ℕ → List ℤ → List ℤ
+valuesAfter text before = cond (isTooLong text) before (sheetAfter unopened (linesOf text) .values)

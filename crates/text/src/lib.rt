@@ -17,7 +17,7 @@ ghost use Rattle.tally.specs.Tallies.{tallyBytes};
 ghost use Rattle.frames.specs.Texts.{isTooLong};
 ghost use Rattle.sheet.specs.Sheets.{unopened};
 ghost use Rattle.frames.specs.Frames.{lineAnswer};
-ghost use Rattle.text.specs.Outcomes.{tallyLength, Told};
+ghost use Rattle.text.specs.Outcomes.{tallyLength, Told, fieldsAfter, valuesAfter};
 
 // The greatest length of a text.
 const TEXT_LIMIT: usize = 65535;
@@ -94,4 +94,29 @@ pub fn run_text(text: &[u8], out: &mut [u8], t: &mut Tally) -> Outcome
     let a = run_tallied(text, out, before);
     *t = a.tally;
     a.outcome
+}
+
+// The values of the fields after a text, from an unopened panel on; the answer is how many fields there are. Where the text is too long the buffer is
+// as it was, and the answer 0.
+pub fn values_after(text: &[u8], values: &mut [i32; 64]) -> usize
+    ensures { λ r. ⌜ r ≡ fieldsAfter (now (text .entry)) ⌝ }
+    ensures { λ r. ⌜ now (values .exit) ≡ valuesAfter (now (text .entry)) (now (values .entry)) ⌝ }
+{
+    if is_too_long(text) {
+        return 0;
+    }
+    let t = Tally {
+        lines: 0,
+        accepted: 0,
+        refused: 0,
+        last: 0,
+    };
+    // the replies are not wanted
+    let mut out = [0u8; 1];
+    let r = answer_lines(text, 0, unopened(), t, &mut out, ROOM);
+    let s = r.sheet;
+    let last = s.values;
+    *values = last;
+    let p = s.panel;
+    p.size
 }
