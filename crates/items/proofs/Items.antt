@@ -16,7 +16,7 @@ use Rattle.hex.specs.Hex.{isDigit, digitOf, charOf, areDigits, isHex, offsetOf,
 use Rattle.lines.specs.Lines.{linesOf}
 use Rattle.tally.specs.Tallies.{more, tallied, threeBytes, tallyBytes}
 use Rattle.frames.specs.Texts.{refusalOf, replies, tallyAfter, written, output, outputOf}
-use Rattle.frames.specs.Frames.{fitsKind, isFrame, checkedFrame, frameOf, commandOf, lineAnswer}
+use Rattle.frames.specs.Frames.{fitsFormula, fitsKind, isFrame, checkedFrame, frameOf, commandOf, lineAnswer}
 use Rattle.items.specs.Characters.{characters}
 use Rattle.items.specs.Items.{Hold, items, itemCount}
 use Rattle.items.specs.Further.{further}
@@ -27,7 +27,7 @@ unfolding items
 items-all = refl
 
 pub items-hold : Hold items
-unfolding characters items outputOf output written tallyAfter replies refusalOf linesOf lineAnswer commandOf frameOf checkedFrame isFrame fitsKind
+unfolding characters items outputOf output written tallyAfter replies refusalOf linesOf lineAnswer commandOf frameOf checkedFrame isFrame fitsKind fitsFormula
     tallyBytes threeBytes tallied more lineOf hexOf bytesOf isHex offsetOf areDigits charOf digitOf isDigit checked areFieldBytes isRising fieldsIn anyOf
     planStep touchStep removeStep enterStep reverseStep rowsOf isLooped planOf leastBlocked least reversed pathFor isBlocked strengthOf moved
     toFront dropped opened itemsOf isInForce setterOf tabulate hasLoop order following next path strongest lowestAt strength greatest within only
@@ -35,7 +35,7 @@ unfolding characters items outputOf output written tallyAfter replies refusalOf 
 items-hold = refl
 
 pub further-hold : Hold further
-unfolding characters further outputOf output written tallyAfter replies refusalOf linesOf lineAnswer commandOf frameOf checkedFrame isFrame fitsKind
+unfolding characters further outputOf output written tallyAfter replies refusalOf linesOf lineAnswer commandOf frameOf checkedFrame isFrame fitsKind fitsFormula
     tallyBytes threeBytes tallied more lineOf hexOf bytesOf isHex offsetOf areDigits charOf digitOf isDigit checked areFieldBytes isRising fieldsIn anyOf
     planStep touchStep removeStep enterStep reverseStep rowsOf isLooped planOf leastBlocked least reversed pathFor isBlocked strengthOf moved
     toFront dropped opened itemsOf isInForce setterOf tabulate hasLoop order following next path strongest lowestAt strength greatest within only
