@@ -78,13 +78,13 @@ removed-step s id fields path rows full step d =
     solved-step s (id % 128) fields path rows full (Remove id) (removing id) step refl refl
     (λ e. ap (λ (k : ℕ). withFormula (s .formulas) k None) (mod-eq-of-lt (removed-number (s .panel) id e))) d
 
-pub entered-step : (s : Sheet) → LegalSheet s → (f n : ℕ) (v : ℤ) → v ≡ valueOf n → (fields path rows : List ℕ) → length rows ≡ rowsLength
+pub entered-step : (s : Sheet) (f n : ℕ) (v : ℤ) → v ≡ valueOf n → (fields path rows : List ℕ) → length rows ≡ rowsLength
     → (after : List ℤ) (step : Step) → Entered s f v path after step → LineStep s 0 (Enter f n) fields path rows after step
-entered-step s h f n v e fields path rows full after step d =
+entered-step s f n v e fields path rows full after step d =
     let d′ : Entered s f (valueOf n) path after step = subst (λ (x : ℤ). Entered s f x path after step) e d in
     record {
       takes = d′ .takes;
-      formulas = either (isRefusal (replyBytes (step .reply))) ∙ sym (entered-formulas s h f (valueOf n));
+      formulas = either (isRefusal (replyBytes (step .reply))) ∙ sym (entered-formulas s f (valueOf n));
       values = d′ .values;
       reply = append-nil (replyBytes (step .reply)) ∙ d′ .reply;
       rest = omega arith;

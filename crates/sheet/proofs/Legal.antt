@@ -42,7 +42,7 @@ use Rattle.formulas.specs.Formulas.{formulaOf, accepted}
 use Rattle.evaluation.specs.Runs.{Run, run}
 use Rattle.evaluation.proofs.Settled.{run-within, run-others, run-length}
 use Rattle.sheet.specs.declared.Sheet.{Sheet}
-use Rattle.sheet.specs.Sheets.{blank, formulaAt, withFormula, evaluated}
+use Rattle.sheet.specs.Sheets.{sheetOf, blank, formulaAt, withFormula, evaluated}
 use Rattle.sheet.specs.Commands.{Command, solving, entering, relating, Answer, formulasAfter, solved, isDriven, valued, entered, formulaChecks, related, performed}
 use Rattle.sheet.specs.Legal.{Fits, LegalSheet}
 
@@ -107,6 +107,48 @@ dropped-links p id = go (linkAt (p .links) id .standing)
     go : (s : Standing) → (freed (withLink p id noLink) s .links ≡ set (p .links) id noLink) × (freed (withLink p id noLink) s .size ≡ p .size)
     go Waiting = (refl, refl)
     go (Holding v) = (refl, refl)
+
+-- ---- kind 07, by its cases
+
+-- a refusal leaves the sheet
+pub record Left (s : Sheet) (a : Answer) : Type 0 where
+  pub refusal : isRefusal (a .reply) ≡ true
+  pub same : a .sheet ≡ s
+
+-- the touch is accepted, no link sets the field, and every result is within the limits
+pub record Stored (s : Sheet) (f : ℕ) (v : ℤ) (a : Answer) : Type 0 where
+  pub touched : isRefusal (panel.performed (s .panel) (touching f) .reply) ≡ false
+  pub free : isDriven (panel.performed (s .panel) (touching f) .panel) f ≡ false
+  pub fits : evaluated (panel.performed (s .panel) (touching f) .panel) (s .formulas) (set (s .values) f v) .fits ≡ true
+  pub is : a ≡ record {
+    sheet = sheetOf (panel.performed (s .panel) (touching f) .panel) (s .formulas)
+        (evaluated (panel.performed (s .panel) (touching f) .panel) (s .formulas) (set (s .values) f v) .values);
+    reply = panel.performed (s .panel) (touching f) .reply;
+  }
+
+pub entering-cases : (s : Sheet) (f : ℕ) (v : ℤ) → Left s (performed s (entering f v)) ⊎ Stored s f v (performed s (entering f v))
+unfolding entered
+entering-cases s f v =
+    go (isRefusal (touch .reply)) refl (isDriven (touch .panel) f) refl (evaluated (touch .panel) (s .formulas) (set (s .values) f v) .fits) refl
+  where
+    touch : answers.Answer
+    touch = panel.performed (s .panel) (touching f)
+
+    go : (b : Bool) → isRefusal (touch .reply) ≡ b → (c : Bool) → isDriven (touch .panel) f ≡ c
+        → (d : Bool) → evaluated (touch .panel) (s .formulas) (set (s .values) f v) .fits ≡ d
+        → Left s (performed s (entering f v)) ⊎ Stored s f v (performed s (entering f v))
+    go true e c g d h = inl (record { refusal = rw e e; same = rw e refl })
+    go false e true g d h = inl (record { refusal = rw (e, g) refl; same = rw (e, g) refl })
+    go false e false g false h = inl (record { refusal = rw (e, g, h) refl; same = rw (e, g, h) refl })
+    go false e false g true h = inr (record { touched = e; free = g; fits = h; is = rw (e, g, h) refl })
+
+-- no formula changes
+pub entered-formulas : (s : Sheet) (f : ℕ) (v : ℤ) → performed s (entering f v) .sheet .formulas ≡ s .formulas
+entered-formulas s f v = go (entering-cases s f v)
+  where
+    go : Left s (performed s (entering f v)) ⊎ Stored s f v (performed s (entering f v)) → performed s (entering f v) .sheet .formulas ≡ s .formulas
+    go (inl l) = ap (λ (x : Sheet). x .formulas) (l .same)
+    go (inr a) = ap (λ (x : Answer). x .sheet .formulas) (a .is)
 
 module _ (s : Sheet) (h : LegalSheet s) where
   abbrev after : panel.Command → ℕ → Formula
@@ -216,39 +258,18 @@ module _ (s : Sheet) (h : LegalSheet s) where
         start g (no d) = inr (ap outside (getD-set-other (s .values) f g v (pos 0) d) ∙ h .within g)
 
   legal-entered : (f : ℕ) (v : ℤ) → LegalSheet (performed s (entering f v) .sheet)
-  unfolding entered
-  legal-entered f v = go (panel.performed (s .panel) (touching f)) (legal-performed (s .panel) (touching f) (h .panel)) (touched f)
+  legal-entered f v = go (entering-cases s f v)
     where
-      ran : (a : answers.Answer) → Legal (a .panel) → Touched f (a .panel) → isDriven (a .panel) f ≡ false → (r : Run)
-          → evaluated (a .panel) (s .formulas) (set (s .values) f v) ≡ r → (b : Bool) → r .fits ≡ b → LegalSheet (valued s a r .sheet)
-      ran a k t free r e true d = rw d (legal-run f v (a .panel) k t free r e d)
-      ran a k t free r e false d = rw d h
+      kept : isRefusal (panel.performed (s .panel) (touching f) .reply) ≡ false → Keeps (Touched f) (s .panel) (panel.performed (s .panel) (touching f))
+          → Touched f (panel.performed (s .panel) (touching f) .panel)
+      kept ok (inl (e, d)) = absurd (clash e ok)
+      kept ok (inr (e, t)) = t
 
-      driven : (a : answers.Answer) → Legal (a .panel) → Touched f (a .panel) → isRefusal (a .reply) ≡ false → (b : Bool) → isDriven (a .panel) f ≡ b
-          → LegalSheet (entered s f v a .sheet)
-      driven a k t e true d = rw (e, d) h
-      driven a k t e false d = rw (e, d) (ran a k t d (evaluated (a .panel) (s .formulas) (set (s .values) f v)) refl _ refl)
-
-      go : (a : answers.Answer) → Legal (a .panel) → Keeps (Touched f) (s .panel) a → LegalSheet (entered s f v a .sheet)
-      go a k (inl (e, d)) = rw e h
-      go a k (inr (e, t)) = driven a k t e (isDriven (a .panel) f) refl
-
-  -- no formula changes
-  pub entered-formulas : (f : ℕ) (v : ℤ) → performed s (entering f v) .sheet .formulas ≡ s .formulas
-  unfolding entered
-  entered-formulas f v = go (panel.performed (s .panel) (touching f))
-    where
-      ran : (a : answers.Answer) (r : Run) (b : Bool) → r .fits ≡ b → valued s a r .sheet .formulas ≡ s .formulas
-      ran a r true d = rw d refl
-      ran a r false d = rw d refl
-
-      driven : (a : answers.Answer) (b c : Bool) → isRefusal (a .reply) ≡ b → isDriven (a .panel) f ≡ c → entered s f v a .sheet .formulas ≡ s .formulas
-      driven a true c e d = rw e refl
-      driven a false true e d = rw (e, d) refl
-      driven a false false e d = rw (e, d) (ran a (evaluated (a .panel) (s .formulas) (set (s .values) f v)) _ refl)
-
-      go : (a : answers.Answer) → entered s f v a .sheet .formulas ≡ s .formulas
-      go a = driven a _ _ refl refl
+      go : Left s (performed s (entering f v)) ⊎ Stored s f v (performed s (entering f v)) → LegalSheet (performed s (entering f v) .sheet)
+      go (inl l) = subst LegalSheet (sym (l .same)) h
+      go (inr a) =
+          subst LegalSheet (ap (λ (x : Answer). x .sheet) (sym (a .is)))
+          (legal-run f v _ (legal-performed (s .panel) (touching f) (h .panel)) (kept (a .touched) (touched f)) (a .free) _ refl (a .fits))
 
   -- ---- kind 08
 

@@ -173,7 +173,7 @@ stepped c =
     let after = w .9 .last .1 .1 .1 .1 .1 .1 .1 .1 .1 .0 in
     rw (w .10, w .11, w .12, w .14)
     (subst (λ (x : Command). LineStep (sheet-of n) (numberOf x) x (fields-at n) path (l .rows) after (w .9 .result)) (sym (w .1 .given .1))
-    (entered-step (sheet-of n) (is-legal n) _ _ _ (toZ-ofZ (record { sfits = w .3 .ok }) ∙ w .3 .ensures) _ path _ (l .inv .0) after _ (w .9 .ensures))))
+    (entered-step (sheet-of n) _ _ _ (toZ-ofZ (record { sfits = w .3 .ok }) ∙ w .3 .ensures) _ path _ (l .inv .0) after _ (w .9 .ensures))))
     (λ w. rw (w .7, w .8, w .9, w .11) (decided-step _ _ _ _ _ _ _ (command-of n) (w .0 .keys3) (w .6 .ensures) (l .formulas) (l .values))))
     (m .came))
 

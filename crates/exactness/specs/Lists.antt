@@ -1,0 +1,51 @@
+-- What holds after every list of commands, kinds 07 and 08 among them (document 02, request 2): statements.
+use Prim.Native.Nat.{ℕ}
+use mathlib.Core.Path.{_≡_}
+use mathlib.Core.Bool.{false}
+use lib.IntN.{ℤ}
+use Rattle.panel.specs.Items.{linkAt}
+use Rattle.panel.specs.Commands.{planning, touching}
+use Rattle.values.specs.Limits.{valueAt, outside}
+use Rattle.sheet.specs.declared.Sheet.{Sheet}
+use Rattle.sheet.specs.Sheets.{unopened, formulaAt}
+use Rattle.sheet.specs.Commands.{Command, solving, entering, relating, performed}
+use Rattle.sheet.specs.Legal.{Fits}
+use Rattle.optimality.specs.Condition3 as store
+use Rattle.optimality.specs.Condition3.{Store, empty, Optimal, System, Run, AfterEveryList}
+use Rattle.exactness.specs.Values.{EnteredExactly}
+
+-- what a command that is not refused changes in the store: kind 07 "touches f", kind 08 enters and strikes out nothing
+abbrev pub entered : Store → Command → Store
+entered b (solving c) = store.entered b c
+entered b (entering f v) = store.entered b (touching f)
+entered b (relating id formula) = b
+
+abbrev pub sheets : System
+sheets =
+    record {
+      State = Sheet;
+      Command = Command;
+      step = λ s c. performed s c .sheet;
+      reply = λ s c. performed s c .reply;
+      plan = λ s. performed s (solving planning) .reply;
+      entered = entered;
+    }
+
+abbrev pub start : Run sheets
+start = record { state = unopened; store = empty }
+
+-- condition 3 of the tender, over lists with kinds 07 and 08
+abbrev pub Condition3 : Type 0
+Condition3 = AfterEveryList sheets start (λ r. Optimal (r .store) (sheets .plan (r .state)))
+
+-- a formula fits its link
+abbrev pub FormulasFit : Type 0
+FormulasFit = AfterEveryList sheets start (λ r. (k : ℕ) → Fits (formulaAt (r .state .formulas) k) (linkAt (r .state .panel .links) k))
+
+-- values are within the limits
+abbrev pub ValuesWithin : Type 0
+ValuesWithin = AfterEveryList sheets start (λ r. (f : ℕ) → outside (valueAt (r .state .values) f) ≡ false)
+
+-- a value that is entered then leaves each held formula right
+abbrev pub ValuesRight : Type 0
+ValuesRight = AfterEveryList sheets start (λ r. EnteredExactly (r .state))
