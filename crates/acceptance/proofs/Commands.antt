@@ -1,37 +1,42 @@
--- Lines and the commands that they give: a line changes the panel as its command does, or not at all where it gives none, so a text's lines leave
--- the panel of their commands (by induction on the lines), and condition 3 of these is one of every text. Assumes nothing.
+-- Lines and the commands that they give: a line changes the sheet as its command does, or not at all where it gives none, so a text's lines leave
+-- the sheet of their commands (by induction on the lines), and condition 3 of these is one of every text. Assumes nothing.
 use mathlib.Core.Path.{_≡_, refl, sym}
 use mathlib.Core.Bool.{true}
 use mathlib.Core.List.{[], _∷_, filterMap}
 use mathlib.Core.Option.{Option, none, some, Option·elim}
-use Rattle.panel.specs.declared.Panel.{Panel}
 use Rattle.panel.specs.Answers.{isRefusal}
-use Rattle.panel.specs.Panels.{opened}
-use Rattle.panel.specs.Commands.{Command}
-use Rattle.optimality.specs.Condition3.{Store, empty, stepped, after, panels}
-use Rattle.optimality.proofs.Answers.{refused-unchanged}
-use Rattle.optimality.proofs.Runs.{condition-3}
+use Rattle.sheet.specs.declared.Sheet.{Sheet}
+use Rattle.sheet.specs.Sheets.{unopened}
+use Rattle.sheet.specs.Commands.{Command}
+use Rattle.optimality.specs.Condition3.{Store, empty, stepped, after}
+use Rattle.exactness.specs.Lists.{sheets}
+use Rattle.exactness.proofs.Values.{refused-sheet-unchanged}
+use Rattle.exactness.proofs.Lists.{condition-3, values-right}
 use Rattle.lines.specs.Lines.{linesOf}
 use Rattle.frames.specs.Texts.{stateAfter}
-use Rattle.frames.specs.Frames.{lineAnswer, answered, frameOf, commandOf, panelAfter}
+use Rattle.frames.specs.Frames.{lineAnswer, answered, frameOf, commandOf, sheetAfter}
 use Rattle.acceptance.specs.Lines.{commandsOf, LinesAsCommands, AfterEveryText, RefusedLineUnchanged}
 
 pub lines-as-commands : LinesAsCommands
 unfolding stateAfter lineAnswer commandsOf filterMap after stepped
 lines-as-commands p b [] = refl
 lines-as-commands p b (l ∷ ls) = go (commandOf (frameOf l)) (λ q d. lines-as-commands q d ls) where
-  go : (c : Option Command) → ((q : Panel) (d : Store) → panelAfter q ls ≡ after panels (record { state = q; store = d }) (commandsOf ls) .state)
-      → panelAfter (answered p (frameOf l) c .state) ls
-      ≡ after panels (record { state = p; store = b }) (Option·elim c (commandsOf ls) (λ x. x ∷ commandsOf ls)) .state
+  go : (c : Option Command) → ((q : Sheet) (d : Store) → sheetAfter q ls ≡ after sheets (record { state = q; store = d }) (commandsOf ls) .state)
+      → sheetAfter (answered p (frameOf l) c .state) ls
+      ≡ after sheets (record { state = p; store = b }) (Option·elim c (commandsOf ls) (λ x. x ∷ commandsOf ls)) .state
   go none rest = rest p b
   go (some c) rest = rest _ _
 
 pub after-every-text : AfterEveryText
-after-every-text text = record { optimal = condition-3 (commandsOf (linesOf text)); panel = sym (lines-as-commands (opened 0) empty (linesOf text)) }
+after-every-text text = record {
+  optimal = condition-3 (commandsOf (linesOf text));
+  exact = values-right (commandsOf (linesOf text));
+  sheet = sym (lines-as-commands unopened empty (linesOf text));
+}
 
 pub refused-line-unchanged : RefusedLineUnchanged
 unfolding lineAnswer
 refused-line-unchanged p line = go (commandOf (frameOf line)) where
   go : (c : Option Command) → isRefusal (answered p (frameOf line) c .reply) ≡ true → answered p (frameOf line) c .state ≡ p
   go none e = refl
-  go (some c) e = refused-unchanged p c e
+  go (some c) e = refused-sheet-unchanged p c e

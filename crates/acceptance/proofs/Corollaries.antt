@@ -12,16 +12,19 @@ use lib.ListN.{length}
 use Rattle.fieldset.specs.Tables.{at}
 use Rattle.fieldset.specs.Lists.{All}
 use Rattle.fieldset.proofs.Numbers.{clash}
-use Rattle.panel.specs.declared.Panel.{Panel}
 use Rattle.panel.specs.Answers.{isRefusal}
-use Rattle.panel.specs.Panels.{opened}
-use Rattle.panel.specs.Commands.{planning, performed}
-use Rattle.optimality.specs.Condition3.{Optimal, after, panels, start}
+use Rattle.panel.specs.Commands.{planning}
+use Rattle.optimality.specs.Condition3.{Optimal, after}
+use Rattle.sheet.specs.declared.Sheet.{Sheet}
+use Rattle.sheet.specs.Sheets.{unopened}
+use Rattle.sheet.specs.Commands.{solving, performed}
+use Rattle.exactness.specs.Values.{EnteredExactly}
+use Rattle.exactness.specs.Lists.{sheets, start}
 use Rattle.hex.specs.Hex.{digitOf, charOf, bytesOf, hexOf}
 use Rattle.lines.specs.Lines.{linesOf}
 use Rattle.tally.specs.Tallies.{noTally, tallyBytes}
 use Rattle.frames.specs.Texts.{LineAnswer, stateAfter, replies, tallyAfter, isTooLong}
-use Rattle.frames.specs.Frames.{lineAnswer, panelAfter, panelOutput}
+use Rattle.frames.specs.Frames.{lineAnswer, sheetAfter, panelOutput}
 use Rattle.items.specs.Characters.{characters}
 use Rattle.acceptance.specs.Lines.{repliesTo, commandsOf}
 use Rattle.acceptance.specs.Replies.{Form, IsReply, Each, Replied}
@@ -52,15 +55,19 @@ text-too-long text long = output-too-long text long
 
 -- condition 3 of the panel that the lines of a text leave, with the store of their commands
 pub lines-optimal : (text : List ℕ)
-    → Optimal (after panels start (commandsOf (linesOf text)) .store) (performed (panelAfter (opened 0) (linesOf text)) planning .reply)
+    → Optimal (after sheets start (commandsOf (linesOf text)) .store) (performed (sheetAfter unopened (linesOf text)) (solving planning) .reply)
 lines-optimal text =
     let a = after-every-text text in
-    subst (λ (p : Panel). Optimal (after panels start (commandsOf (linesOf text)) .store) (performed p planning .reply)) (a .panel) (a .optimal)
+    subst (λ (s : Sheet). Optimal (after sheets start (commandsOf (linesOf text)) .store) (performed s (solving planning) .reply)) (a .sheet) (a .optimal)
+
+-- a value that is entered after a text leaves each held formula right
+pub lines-exact : (text : List ℕ) → EnteredExactly (sheetAfter unopened (linesOf text))
+lines-exact text = let a = after-every-text text in subst EnteredExactly (a .sheet) (a .exact)
 
 -- ---- lines
 
--- lines that are all refused leave the panel as it stood
-pub refused-lines-unchanged : (p : Panel) (lines : List (List ℕ)) → All (λ r. isRefusal r ≡ true) (replies lineAnswer p lines) → panelAfter p lines ≡ p
+-- lines that are all refused leave the sheet as it stood
+pub refused-lines-unchanged : (p : Sheet) (lines : List (List ℕ)) → All (λ r. isRefusal r ≡ true) (replies lineAnswer p lines) → sheetAfter p lines ≡ p
 unfolding replies stateAfter
 refused-lines-unchanged p [] a = refl
 refused-lines-unchanged p (l ∷ ls) (e, a) = refused-lines-unchanged (lineAnswer p l .state) ls a ∙ refused-line-unchanged p l e
@@ -93,7 +100,7 @@ bytes-hex (b ∷ bs) (l, a) =
 
 -- what the reply to a line of this kind says
 pub record Says (kind : ℕ) (reply : List ℕ) : Type 0 where
-  pub refusal : isRefusal reply ≡ true → (1 ≤ at reply 1) × (at reply 1 ≤ 11)
+  pub refusal : isRefusal reply ≡ true → (1 ≤ at reply 1) × (at reply 1 ≤ 15)
   pub number : isRefusal reply ≡ false → at reply 1 ≤ 64
   pub rows : isRefusal reply ≡ false → kind ≡ 0x05 → (1 ≤ at reply 1) × (length reply ≡ 2 + 3 * at reply 1)
   pub two : isRefusal reply ≡ false → kind ≢ 0x05 → length reply ≡ 2
@@ -104,11 +111,34 @@ pub record Says (kind : ℕ) (reply : List ℕ) : Type 0 where
 pub says : (kind : ℕ) (reply : List ℕ) → IsReply kind reply → Says kind reply
 says kind reply x = go reply (x .form) (bytes-hex reply (x .bytes))
   where
+    -- a refusal that is its number
+    numbered : (n : ℕ) → 2 ≤ n → n ≤ 15 → bytesOf (hexOf (0xFF ∷ n ∷ [])) ≡ 0xFF ∷ n ∷ [] → Says kind (0xFF ∷ n ∷ [])
+    numbered n a b d =
+        record {
+          refusal = λ e. (omega arith, b);
+          number = λ e. absurd (clash refl e);
+          rows = λ e p. absurd (clash refl e);
+          two = λ e p. absurd (clash refl e);
+          number-only = λ e p. refl;
+          offset = λ e p. absurd (omega arith);
+          digits = d;
+        }
+
     go : (reply : List ℕ) → Form kind reply → bytesOf (hexOf reply) ≡ reply → Says kind reply
     go r (Form.count m k l) d =
         record {
           refusal = λ e. absurd (clash e refl);
           number = λ e. l;
+          rows = λ e p. absurd (⊎-elim (λ c. omega arith) (λ c. omega arith) k);
+          two = λ e p. refl;
+          number-only = λ e. absurd (clash e refl);
+          offset = λ e. absurd (clash e refl);
+          digits = d;
+        }
+    go r (Form.formula k) d =
+        record {
+          refusal = λ e. absurd (clash e refl);
+          number = λ e. omega arith;
           rows = λ e p. absurd (omega arith);
           two = λ e p. refl;
           number-only = λ e. absurd (clash e refl);
@@ -125,16 +155,9 @@ says kind reply x = go reply (x .form) (bytes-hex reply (x .bytes))
           offset = λ e. absurd (clash e refl);
           digits = d;
         }
-    go r (Form.refusal n a b) d =
-        record {
-          refusal = λ e. (omega arith, b);
-          number = λ e. absurd (clash refl e);
-          rows = λ e p. absurd (clash refl e);
-          two = λ e p. absurd (clash refl e);
-          number-only = λ e p. refl;
-          offset = λ e p. absurd (omega arith);
-          digits = d;
-        }
+    go r (Form.refusal n a b) d = numbered n (omega arith) (omega arith) d
+    go r (Form.noValue n k a b) d = numbered n (omega arith) (omega arith) d
+    go r (Form.noFormula k) d = numbered 15 (omega arith) (omega arith) d
     go r (Form.badHex n k) d =
         record {
           refusal = λ e. (omega arith, omega arith);
@@ -173,10 +196,10 @@ offset-read line reply t =
     )
 
 -- a line that is wrong is refused with its offset, and no other one with BadHex
-pub wrong-told : (p : Panel) (line : List ℕ) → IsWrong line → TellsAtMost line (lineAnswer p line .reply)
+pub wrong-told : (p : Sheet) (line : List ℕ) → IsWrong line → TellsAtMost line (lineAnswer p line .reply)
 wrong-told p line w = offset-told p line (bad-hex-exactly p line .1 w)
 
-pub right-not-told : (p : Panel) (line : List ℕ) → (IsWrong line → ⊥) → IsBadHex (lineAnswer p line .reply) → ⊥
+pub right-not-told : (p : Sheet) (line : List ℕ) → (IsWrong line → ⊥) → IsBadHex (lineAnswer p line .reply) → ⊥
 right-not-told p line right k = right (bad-hex-exactly p line .0 k)
 
 -- each line of a text that has an output

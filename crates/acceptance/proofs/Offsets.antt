@@ -1,5 +1,5 @@
--- Where a line is wrong. A line that is no hexadecimal is refused with its offset, whatever the panel (`bad-reply`); a frame is refused with BadFrame or
--- as its command, whose refusals are 3 to 11 (`command-other`); so BadHex is given exactly where `isHex` is false, and the laws of `offsetOf` say what
+-- Where a line is wrong. A line that is no hexadecimal is refused with its offset, whatever the sheet (`bad-reply`); a frame is refused with BadFrame or
+-- as its command, whose refusals are others (`command-other`); so BadHex is given exactly where `isHex` is false, and the laws of `offsetOf` say what
 -- stands before the offset and at it (`wrong-at`). Assumes nothing.
 use Prim.Native.Nat.{ℕ, suc, _%_, _≤_, _<_, min}
 use mathlib.Core.Path.{_≡_, refl, ap, _∙_}
@@ -20,9 +20,13 @@ use Rattle.fieldset.proofs.Tests.{and-left}
 use Rattle.panel.specs.declared.Panel.{Panel}
 use Rattle.panel.specs.declared.Refusal.the-variants.{BadFrame}
 use Rattle.panel.specs.Answers.{Answer, refusalBytes, twoBytes}
-use Rattle.panel.specs.Panels.{opened}
-use Rattle.panel.specs.Commands.{Command, performed}
+use Rattle.panel.specs.Commands as panel
+use Rattle.panel.specs.Commands.{touching}
 use Rattle.optimality.proofs.Answers.{Outcome, Any, Not, outcome-of}
+use Rattle.sheet.specs.declared.Sheet.{Sheet}
+use Rattle.sheet.specs.Sheets.{unopened}
+use Rattle.sheet.specs.Commands.{Command, solving, entering, relating, formulaChecks, performed}
+use Rattle.sheet.proofs.Answers.{entering-reply, checks-reply}
 use Rattle.hex.specs.Hex.{lf, isHex, offsetOf, bytesOf}
 use Rattle.hex.proofs.Digits.{other-digits}
 use Rattle.hex.proofs.Lines.{hex-empty, hex-odd, hex-other, hex-line}
@@ -64,15 +68,24 @@ wrong-no-hex line (inr (inr (i, o))) = hex-other line (other-digits line i (o .w
 
 -- ---- who gives BadHex
 
-command-other : (p : Panel) (c : Command) → refusalOf (performed p c .reply) ≢ 0x01
+panel-other : (p : Panel) (c : panel.Command) → refusalOf (panel.performed p c .reply) ≢ 0x01
 unfolding refusalOf
-command-other p c = go (performed p c) (outcome-of (Not 0x01) p (λ r h e. omega arith) (λ e. omega arith) (λ e. omega arith) c)
+panel-other p c = go (panel.performed p c) (outcome-of (Not 0x01) p (λ r h e. omega arith) (λ e. omega arith) (λ e. omega arith) c)
   where
     go : (a : Answer) → Outcome (Not 0x01) Any p a → refusalOf (a .reply) ≢ 0x01
     go a (Outcome.no r h) = h
     go a (Outcome.yes q bytes t) = λ e. omega arith
 
-module _ (p : Panel) (line : List ℕ) where
+command-other : (s : Sheet) (c : Command) → refusalOf (performed s c .reply) ≢ 0x01
+unfolding refusalOf
+command-other s (solving c) = panel-other (s .panel) c
+command-other s (entering f v) =
+    entering-reply (λ b. refusalOf b ≢ 0x01) s f v (panel-other (s .panel) (touching f)) (λ e. omega arith) (λ e. omega arith)
+command-other s (relating id formula) =
+    checks-reply (λ b. refusalOf b ≢ 0x01) (formulaChecks (s .panel) id formula)
+    (λ e. omega arith, (λ e. omega arith, (λ e. omega arith, (λ e. omega arith, (λ e. omega arith, tt))))) (λ e. omega arith)
+
+module _ (p : Sheet) (line : List ℕ) where
   bad-reply : isHex line ≡ false → lineAnswer p line .reply ≡ 0xFF ∷ refusalBytes (badHex line)
   unfolding lineAnswer frameOf commandOf
   bad-reply h = rw h refl
@@ -84,7 +97,7 @@ module _ (p : Panel) (line : List ℕ) where
       -- no frame begins with FF
       bytes-other : isFrame (bytesOf line) ≡ true → (b : Bool) → eqb (at (bytesOf line) 0) 0xFF ≡ b → cond b (at (bytesOf line) 1) 0 ≢ 0x01
       bytes-other f true e k =
-          let fits : fitsKind (at (bytesOf line) 0) (length (bytesOf line)) ≡ true = and-left _ _ f in
+          let fits : fitsKind (at (bytesOf line) 0) (at (bytesOf line) 2) (length (bytesOf line)) ≡ true = and-left _ _ f in
           clash (rw (eqb-true (at (bytesOf line) 0) 0xFF e) at fits) refl
       bytes-other f false e k = omega arith
 
@@ -143,7 +156,7 @@ lines-within (c ∷ s) = go (eqb c lf) (linesOf s) (all-map _ _ (λ l h. omega a
     go false [] a h = (omega arith, tt)
     go false (l ∷ ls) a h = (omega arith, a .1)
 
-lines-told : (p : Panel) (lines : List (List ℕ)) → All (λ line. length line ≤ textLimit) lines
+lines-told : (p : Sheet) (lines : List (List ℕ)) → All (λ line. length line ≤ textLimit) lines
     → Each (λ line reply. IsBadHex reply → TellsOffset line reply) lines (replies lineAnswer p lines)
 unfolding replies
 lines-told p [] a = tt
@@ -151,5 +164,5 @@ lines-told p (l ∷ ls) (h, a) = (λ k. short-told l (lineAnswer p l .reply) h (
 
 pub offsets-told : OffsetsTold
 offsets-told text short =
-    lines-told (opened 0) (linesOf text)
+    lines-told unopened (linesOf text)
     (all-map _ _ (λ l h. omega (arith, ltb-false textLimit (length text) short)) (linesOf text) (lines-within text))

@@ -20,7 +20,7 @@ use Rattle.panel.specs.Commands.{anyOf, fieldsIn, isRising, areFieldBytes, chec
 use Rattle.hex.specs.Hex.{isDigit, digitOf, charOf, areDigits, isHex, bytesOf, hexOf, lineOf}
 use Rattle.lines.specs.Lines.{linesOf}
 use Rattle.frames.specs.Texts.{replies, written, output, outputOf}
-use Rattle.frames.specs.Frames.{fitsKind, isFrame, checkedFrame, frameOf, commandOf, lineAnswer}
+use Rattle.frames.specs.Frames.{fitsFormula, fitsKind, isFrame, checkedFrame, frameOf, commandOf, lineAnswer}
 use Rattle.items.specs.Characters.{characters}
 use Rattle.acceptance.specs.ShamPanels.{refusesAll, repliesZeros, keepsSetters, solvesFirstLinkOnly, inventsMoved, shamPanels, ShamPanelsDiffer}
 
@@ -31,7 +31,7 @@ differ-at place a b h e = eqb-false (at a place) (at b place) h (ap (λ (o : Lis
 -- at the first character that is another
 pub sham-panels-differ : ShamPanelsDiffer
 unfolding characters shamPanels refusesAll repliesZeros keepsSetters solvesFirstLinkOnly inventsMoved outputOf output written
-    replies linesOf lineAnswer commandOf frameOf checkedFrame isFrame fitsKind lineOf hexOf bytesOf isHex areDigits charOf digitOf isDigit checked areFieldBytes
+    replies linesOf lineAnswer commandOf frameOf checkedFrame isFrame fitsKind fitsFormula lineOf hexOf bytesOf isHex areDigits charOf digitOf isDigit checked areFieldBytes
     isRising fieldsIn anyOf planStep touchStep enterStep reverseStep rowsOf isLooped planOf reversed pathFor isBlocked strengthOf moved toFront opened
     setterOf isInForce tabulate hasLoop order following next path strongest lowestAt strength greatest within only without with setOf member lowest any
     count

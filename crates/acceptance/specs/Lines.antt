@@ -4,16 +4,18 @@ use mathlib.Core.Path.{_≡_}
 use mathlib.Core.Bool.{true, false}
 use mathlib.Core.List.{List, [], _∷_, _++_, map, filterMap}
 use lib.ListN.{length}
-use Rattle.panel.specs.declared.Panel.{Panel}
+use Rattle.sheet.specs.declared.Sheet.{Sheet}
 use Rattle.panel.specs.Answers.{isRefusal}
-use Rattle.panel.specs.Panels.{opened}
-use Rattle.panel.specs.Commands.{Command}
-use Rattle.optimality.specs.Condition3.{Store, Optimal, Run, after, panels, start}
+use Rattle.sheet.specs.Sheets.{unopened}
+use Rattle.sheet.specs.Commands.{Command}
+use Rattle.optimality.specs.Condition3.{Store, Optimal, Run, after}
+use Rattle.exactness.specs.Values.{EnteredExactly}
+use Rattle.exactness.specs.Lists.{sheets, start}
 use Rattle.hex.specs.Hex.{hexOf}
 use Rattle.lines.specs.Lines.{linesOf}
 use Rattle.tally.specs.Tallies.{noTally, tallyBytes}
 use Rattle.frames.specs.Texts.{LineAnswer, replies, tallyAfter, isTooLong}
-use Rattle.frames.specs.Frames.{frameOf, commandOf, lineAnswer, panelAfter, panelOutput}
+use Rattle.frames.specs.Frames.{frameOf, commandOf, lineAnswer, sheetAfter, panelOutput}
 use Rattle.items.specs.Characters.{characters}
 
 -- ---- one reply for each line
@@ -24,7 +26,7 @@ OneReplyEach = (S : Type 0) (answer : LineAnswer S) (s : S) (lines : List (List 
 
 -- the replies to a text's lines; the first line meets an unopened panel
 abbrev pub repliesTo : List ℕ → List (List ℕ)
-repliesTo text = replies lineAnswer (opened 0) (linesOf text)
+repliesTo text = replies lineAnswer unopened (linesOf text)
 
 -- the bytes of the tally after them
 abbrev pub tallyTo : List ℕ → List ℕ
@@ -48,24 +50,26 @@ OutputTooLong = (text : List ℕ) → isTooLong text ≡ true → linesOf (panel
 unfoldable pub commandsOf : List (List ℕ) → List Command
 commandsOf lines = filterMap (λ line. commandOf (frameOf line)) lines
 
--- such a line "leaves the panel as it stood": the panel after lines is the panel after their commands
+-- such a line "leaves the panel as it stood": the sheet after lines is the sheet after their commands
 abbrev pub LinesAsCommands : Type 0
 LinesAsCommands =
-    (p : Panel) (b : Store) (lines : List (List ℕ)) → panelAfter p lines ≡ after panels (record { state = p; store = b }) (commandsOf lines) .state
+    (s : Sheet) (b : Store) (lines : List (List ℕ)) → sheetAfter s lines ≡ after sheets (record { state = s; store = b }) (commandsOf lines) .state
 
--- panel and store after a text's commands; the first one "meets an unopened panel"
-abbrev pub runAfter : List ℕ → Run panels
-runAfter text = after panels start (commandsOf (linesOf text))
+-- sheet and store after a text's commands; the first one "meets an unopened panel"
+abbrev pub runAfter : List ℕ → Run sheets
+runAfter text = after sheets start (commandsOf (linesOf text))
 
--- "so what holds after commands holds after lines": condition 3 after a text, about the panel that its lines leave
+-- "so what holds after commands holds after lines": condition 3 after a text, about the panel that its lines leave; and a value that is then entered
+-- leaves each held formula right (document 02, request 2)
 pub record AfterText (text : List ℕ) : Type 0 where
-  pub optimal : Optimal (runAfter text .store) (panels .plan (runAfter text .state))
-  pub panel : runAfter text .state ≡ panelAfter (opened 0) (linesOf text)
+  pub optimal : Optimal (runAfter text .store) (sheets .plan (runAfter text .state))
+  pub exact : EnteredExactly (runAfter text .state)
+  pub sheet : runAfter text .state ≡ sheetAfter unopened (linesOf text)
 
 -- a text of any length: "The list of commands may have any length"
 abbrev pub AfterEveryText : Type 0
 AfterEveryText = (text : List ℕ) → AfterText text
 
--- "a refusal .. leaves links, stay order and setters as they stood" (tender)
+-- "a refusal .. leaves links, stay order and setters as they stood" (tender), and formulas and values
 abbrev pub RefusedLineUnchanged : Type 0
-RefusedLineUnchanged = (p : Panel) (line : List ℕ) → isRefusal (lineAnswer p line .reply) ≡ true → lineAnswer p line .state ≡ p
+RefusedLineUnchanged = (s : Sheet) (line : List ℕ) → isRefusal (lineAnswer s line .reply) ≡ true → lineAnswer s line .state ≡ s

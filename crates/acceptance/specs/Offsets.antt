@@ -6,7 +6,7 @@ use mathlib.Core.Bool.{true, false}
 use mathlib.Core.List.{List, [], _∷_}
 use lib.ListN.{length}
 use Rattle.fieldset.specs.Tables.{at}
-use Rattle.panel.specs.declared.Panel.{Panel}
+use Rattle.sheet.specs.declared.Sheet.{Sheet}
 use Rattle.hex.specs.Hex.{isDigit}
 use Rattle.lines.specs.Lines.{linesOf}
 use Rattle.frames.specs.Texts.{refusalOf, isTooLong}
@@ -31,7 +31,7 @@ IsWrong line = (length line ≡ 0) ⊎ ((length line % 2 ≡ 1) ⊎ ((i : ℕ) �
 
 -- BadHex is given exactly as before
 abbrev pub BadHexExactly : Type 0
-BadHexExactly = (p : Panel) (line : List ℕ) → IsBadHex (lineAnswer p line .reply) ↔ IsWrong line
+BadHexExactly = (s : Sheet) (line : List ℕ) → IsBadHex (lineAnswer s line .reply) ↔ IsWrong line
 
 -- ---- the offset
 
@@ -58,11 +58,11 @@ abbrev pub OffsetsTold : Type 0
 OffsetsTold =
     (text : List ℕ) → isTooLong text ≡ false → Each (λ line reply. IsBadHex reply → TellsOffset line reply) (linesOf text) (repliesTo text)
 
--- a line of any length, at any panel: an offset over 65,535, which no line of a text within the limit has, is told as 65,535
+-- a line of any length, at any sheet: an offset over 65,535, which no line of a text within the limit has, is told as 65,535
 pub record TellsAtMost (line reply : List ℕ) : Type 0 where
   pub offset : ℕ
   pub wrong : WrongAt line offset
   pub bytes : reply ≡ 0xFF ∷ 0x01 ∷ min offset 0xFFFF / 256 ∷ min offset 0xFFFF % 256 ∷ []
 
 abbrev pub OffsetTold : Type 0
-OffsetTold = (p : Panel) (line : List ℕ) → IsBadHex (lineAnswer p line .reply) → TellsAtMost line (lineAnswer p line .reply)
+OffsetTold = (s : Sheet) (line : List ℕ) → IsBadHex (lineAnswer s line .reply) → TellsAtMost line (lineAnswer s line .reply)
