@@ -22,8 +22,8 @@ ghost use Rattle.entering.specs.Entered.{Entered};
 
 // Decides on entering a value in a field: the field is touched, the value is stored and the whole plan is run, on copies of the panel and its tables.
 // The values are changed where nothing refuses.
-// The contract rules out, for instance, a result outside the limits told before a field that a link sets, and a touch that a refusal leaves
-// (must-fail: limits_before_the_setter, refusal_keeps_the_touch).
+// The contract rules out, for instance, a field that a link still sets told as outside the limits and a touch that a refusal leaves (must-fail:
+// setter_told_as_limits, refusal_keeps_the_touch).
 pub fn enter(
     p: Panel,
     named: Link,

@@ -15,7 +15,7 @@ ghost use Rattle.evaluation.specs.Runs.{Runnable, run, Ran, Ready, Store
 
 // Runs the plan once: the first n fields of the order, each set by its setter (128: its stay) from the fields that this one reads.
 // Answers whether every result was within the limits; the first one outside ends the run.
-// The contract rules out, for instance, a first field that is skipped and a stay that takes a link's formula (must-fail: first_field_skipped,
+// The contract rules out, for instance, a first field that is skipped and another link's formula (must-fail: first_field_skipped,
 // formula_of_another_link).
 pub fn evaluate(
     order: &[u8; 64],
