@@ -140,7 +140,7 @@ fn note_command(cases: &mut Cases, before: &Panel, command: &Command, after: &Pa
             let blocked = middle.is_blocked(Item::Stay(field));
             ("touch", middle, blocked.then_some(Item::Stay(field)))
         }
-        Command::Open(_) | Command::Plan => return,
+        Command::Open(_) | Command::Plan | Command::Store(..) | Command::Formula(..) => return,
     };
     match item {
         _ if reply == "FF0B" => note(cases, format!("{kind}: loop")),
