@@ -66,6 +66,12 @@ fn offsets_of_bad_lines() {
     check(&worked::offsets::all());
 }
 
+/// Document 02, request 2, with looks at the values.
+#[test]
+fn values_and_formulas() {
+    check(&worked::values::all());
+}
+
 #[test]
 fn full_panels() {
     check(&worked::panels::all());
@@ -223,7 +229,7 @@ fn damaged_run() {
 
 /// A text of middle size, with damaged lines.
 fn middle_text() -> Vec<u8> {
-    let text = generate::text(714);
+    let text = generate::text(869);
     assert!((9_000..20_000).contains(&text.len()), "{}", text.len());
     text
 }
