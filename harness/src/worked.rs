@@ -52,10 +52,15 @@ fn add(id: u8, level: u8, field_bytes: impl IntoIterator<Item = u8>) -> String {
     hex(&frame)
 }
 
+/// Lines that own their characters.
+fn owned(lines: &[(&str, &str)]) -> Lines {
+    let owned = |(line, reply): &(&str, &str)| (line.to_string(), reply.to_string());
+    lines.iter().map(owned).collect()
+}
+
 /// Adds lines to others.
 fn push(lines: &mut Lines, more: &[(&str, &str)]) {
-    let owned = |(line, reply): &(&str, &str)| (line.to_string(), reply.to_string());
-    lines.extend(more.iter().map(owned));
+    lines.extend(owned(more));
 }
 
 /// The tally line that belongs to the replies to all lines of a text.

@@ -363,6 +363,41 @@ fn accepted_value(step: &Step) -> Option<Vec<u8>> {
     accepted.then(|| frame(&step.line))
 }
 
+/// Checks a line of kind 07 and counts which it was: Loop, FieldDriven, OutOfRange
+/// or accepted.
+fn check_value(step: &Step, met: &mut [usize; 4]) {
+    let frame = frame(&step.line);
+    let mut touched = step.before.clone();
+    let touch = touched.line(format!("04{:02X}", frame[1]).as_bytes());
+    if touch.starts_with("FF") {
+        met[0] += (touch == "FF0B") as usize;
+        return assert_eq!(step.reply, touch);
+    }
+    let plan = held(&touched);
+    if of_field(&plan, frame[1]).setter != Name::Stay(frame[1]) {
+        met[1] += 1;
+        return assert_eq!(step.reply, "FF0E");
+    }
+    let mut book = step.book_before.clone();
+    book.feed(&[4, frame[1]], false);
+    let mut values = step.before.values.clone();
+    values[frame[1] as usize] = i32::from_be_bytes([frame[2], frame[3], frame[4], frame[5]]);
+    let results = run_plan(&book, &plan, &values).into_iter();
+    let results: Result<Vec<i32>, _> = results.map(i32::try_from).collect();
+    match results {
+        Err(_) => {
+            met[2] += 1;
+            assert_eq!(step.reply, "FF0D");
+        }
+        Ok(values) => {
+            met[3] += 1;
+            assert_eq!(step.reply, touch);
+            assert_eq!(step.after.panel, touched.panel);
+            assert_eq!(step.after.values, values);
+        }
+    }
+}
+
 /// Kind 07 is a touch, with its refusals, its moved count and its panel after;
 /// then FieldDriven exactly where the plan gives f a link; then OutOfRange exactly
 /// where a result of the whole plan is outside the limits, and else these values.
@@ -370,38 +405,8 @@ fn accepted_value(step: &Step) -> Option<Vec<u8>> {
 fn value_is_a_touch_and_a_run_of_the_plan() {
     let mut met = [0; 4];
     for_each_small_line(|step| {
-        if !step.line.starts_with(b"07") || !holds_a_command(&step.reply) {
-            return;
-        }
-        let frame = frame(&step.line);
-        let mut touched = step.before.clone();
-        let touch = touched.line(format!("04{:02X}", frame[1]).as_bytes());
-        if touch.starts_with("FF") {
-            met[0] += (touch == "FF0B") as usize;
-            return assert_eq!(step.reply, touch);
-        }
-        let plan = held(&touched);
-        if of_field(&plan, frame[1]).setter != Name::Stay(frame[1]) {
-            met[1] += 1;
-            return assert_eq!(step.reply, "FF0E");
-        }
-        let mut book = step.book_before.clone();
-        book.feed(&[4, frame[1]], false);
-        let mut values = step.before.values.clone();
-        values[frame[1] as usize] = i32::from_be_bytes([frame[2], frame[3], frame[4], frame[5]]);
-        let results = run_plan(&book, &plan, &values);
-        let results: Result<Vec<i32>, _> = results.into_iter().map(i32::try_from).collect();
-        match results {
-            Err(_) => {
-                met[2] += 1;
-                assert_eq!(step.reply, "FF0D");
-            }
-            Ok(values) => {
-                met[3] += 1;
-                assert_eq!(step.reply, touch);
-                assert_eq!(step.after.panel, touched.panel);
-                assert_eq!(step.after.values, values);
-            }
+        if step.line.starts_with(b"07") && holds_a_command(&step.reply) {
+            check_value(step, &mut met);
         }
     });
     let least = [150, 1_000, 120, 4_000];
@@ -527,4 +532,48 @@ fn every_short_list_on_two_fields() {
     let opening = Step::new(b"0102", &Run::default(), &Book::default());
     let lists = check_lists(&opening.after, &opening.book, 4);
     assert_eq!(lists, 16_usize.pow(4));
+}
+
+/// Commands on link 1 over two fields: it comes in each direction or in both and
+/// goes, gets a ratio or a sum, and the fields get values.
+const WITH_VALUES: [&str; 10] = [
+    "0201008081",
+    "0201000081",
+    "0201008001",
+    "0301",
+    "0401",
+    "08010100020003",
+    "08010200",
+    "070000000005",
+    "0701FFFFFFFB",
+    "07016AAAAAAB",
+];
+
+/// Checks every value in every list of so many of these commands, and counts the
+/// lists.
+fn check_lists_with_values(run: &Run, book: &Book, length: u8, met: &mut [usize; 4]) -> usize {
+    if length == 0 {
+        return 1;
+    }
+    let mut lists = 0;
+    for line in WITH_VALUES {
+        let step = Step::new(line.as_bytes(), run, book);
+        match line.starts_with("07") {
+            true => check_value(&step, met),
+            false => assert_eq!(step.after.values, run.values),
+        }
+        lists += check_lists_with_values(&step.after, &step.book, length - 1, met);
+    }
+    lists
+}
+
+#[test]
+fn every_short_list_of_values() {
+    let mut met = [0; 4];
+    let opening = Step::new(b"0102", &Run::default(), &Book::default());
+    let lists = check_lists_with_values(&opening.after, &opening.book, 5, &mut met);
+    assert_eq!(lists, WITH_VALUES.len().pow(5));
+    // One link over two fields makes no loop.
+    assert!(met[0] == 0 && met[1] > 5_000, "{met:?}");
+    assert!(met[2] > 500 && met[3] > 20_000, "{met:?}");
 }

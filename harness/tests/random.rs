@@ -9,6 +9,7 @@ use harness::generate::{frames, long_text, text, Mix, Rng, MIXES};
 use harness::plain::{hex, lines, values_after, TEXT_LIMIT};
 use harness::program;
 use harness::worked::values::{look, store};
+use harness::worked::Lines;
 use std::collections::BTreeMap;
 
 /// Number of fields and number of links; a third of the texts for each. That
@@ -273,7 +274,7 @@ fn short_texts() {
 /// then gets a value, so that each held formula is right; and looks at the values
 /// that the plain solver has then. With the text come its looks, as lines and
 /// replies.
-fn looked_at(seed: u64) -> (Vec<u8>, Vec<(String, String)>) {
+fn looked_at(seed: u64) -> (Vec<u8>, Lines) {
     let mix = Mix {
         fields: (2, 20),
         ids: 12,
@@ -287,7 +288,7 @@ fn looked_at(seed: u64) -> (Vec<u8>, Vec<(String, String)>) {
     lines.push(store(fields - 2, 0));
     let values = values_after(lines.join("\n").as_bytes());
     let looks = (0..fields - 2).flat_map(|field| look(fields, field, values[field as usize]));
-    let looks: Vec<(String, String)> = looks.collect();
+    let looks: Lines = looks.collect();
     lines.extend(looks.iter().map(|(line, _)| line.clone()));
     (lines.join("\n").into_bytes(), looks)
 }

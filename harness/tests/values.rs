@@ -27,6 +27,14 @@ fn worked_ratios() {
     check(ratios::all());
 }
 
+/// `samples/airflow.txt`: 45,000 a minute, 750 a second.
+#[test]
+fn airflow_sample() {
+    let sample = ratios::sample();
+    assert_eq!(run_text(&sample.text), sample.output);
+    assert_eq!(values_after(&sample.text), [45_000, 750]);
+}
+
 #[test]
 fn worked_sums() {
     check(sums::all());

@@ -12,7 +12,7 @@ pub mod refusals;
 pub mod steps;
 pub mod sums;
 
-use super::{add, push, Lines, Worked};
+use super::{add, owned, Lines, Worked};
 use crate::plain::hex;
 
 /// The limits of a value.
@@ -48,17 +48,15 @@ impl Valued {
 
     /// A further part, after which each held formula is right.
     fn part(self, lines: &[(&str, &str)], values: &[i32]) -> Valued {
-        self.with(lines, values, true)
+        self.with(owned(lines), values, true)
     }
 
     /// A further part, after which some held formula is not right.
     fn unsettled(self, lines: &[(&str, &str)], values: &[i32]) -> Valued {
-        self.with(lines, values, false)
+        self.with(owned(lines), values, false)
     }
 
-    fn with(mut self, more: &[(&str, &str)], values: &[i32], settled: bool) -> Valued {
-        let mut lines = Lines::new();
-        push(&mut lines, more);
+    fn with(mut self, lines: Lines, values: &[i32], settled: bool) -> Valued {
         self.parts.push(Part {
             lines,
             values: values.to_vec(),
@@ -86,15 +84,14 @@ impl Valued {
     fn looked_at(&self) -> Vec<Worked> {
         let whole = self.lines_up_to(self.parts.len() - 1);
         let mut texts = vec![Worked::of_lines(&self.name, &whole)];
-        for (place, part) in self.parts.iter().enumerate() {
+        let parts = self.parts.iter().enumerate();
+        for (place, part) in parts.filter(|(_, part)| part.settled) {
             let mut lines = self.lines_up_to(place);
             let fields = part.values.len() as u8 + 2;
             for (field, &value) in (0..).zip(&part.values) {
                 lines.extend(look(fields, field, value));
             }
-            if part.settled {
-                texts.push(Worked::of_lines(&self.name, &lines));
-            }
+            texts.push(Worked::of_lines(&self.name, &lines));
         }
         texts
     }
@@ -112,18 +109,13 @@ pub fn look(fields: u8, field: u8, value: i32) -> Lines {
         1.. => (GREATEST - value, GREATEST - value + 1, "FF0D"),
         _ => (LEAST - value, LEAST - value - 1, "FF0D"),
     };
-    let mut lines = Lines::new();
-    push(
-        &mut lines,
-        &[
-            (&add(LOOKING, 0, [field, x, s | 0x80]), "0001"),
-            (&sum(LOOKING, s), "0000"),
-            (&store(x, within), "0000"),
-            (&store(x, further), reply),
-            (&hex(&[3, LOOKING]), "0001"),
-        ],
-    );
-    lines
+    owned(&[
+        (&add(LOOKING, 0, [field, x, s | 0x80]), "0001"),
+        (&sum(LOOKING, s), "0000"),
+        (&store(x, within), "0000"),
+        (&store(x, further), reply),
+        (&hex(&[3, LOOKING]), "0001"),
+    ])
 }
 
 /// A line of kind 07.

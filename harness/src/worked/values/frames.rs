@@ -1,7 +1,8 @@
 //! The frames of kinds 07 and 08: their lengths, the formula kinds, and the order
 //! of their checks.
 
-use super::super::{push, Lines, Worked};
+use super::super::push;
+use super::{Lines, Worked};
 use crate::plain::hex;
 
 /// Every text of this file.

@@ -1,7 +1,7 @@
 //! Ratios: "higher field = lower × p / q, or the reverse with q and p swapped,
 //! p and q from 1 to 65,535, rounded to nearest, halves away from zero".
 
-use super::{ratio, store, Valued, GREATEST, LEAST};
+use super::{owned, ratio, store, Valued, Worked, GREATEST, LEAST};
 
 /// Every text of this file.
 pub fn all() -> Vec<Valued> {
@@ -25,6 +25,22 @@ fn airflow() -> Valued {
         .part(&[("070000007530", "0000")], &[30_000, 500])
         .part(&[("0701000002EE", "0002")], &[45_000, 750])
         .part(&[("0700FFFFFFE2", "0002")], &[-30, -1])
+}
+
+/// `samples/airflow.txt`, the same with plans. The last value is refused: 60 times
+/// as much a minute is outside the limits.
+pub fn sample() -> Worked {
+    let lines = owned(&[
+        ("0102", "0000"),
+        ("0200008081", "0001"),
+        ("0800010001003C", "0000"),
+        ("070000007530", "0000"),
+        ("05", "0002008010010010"),
+        ("0701000002EE", "0002"),
+        ("05", "0002018010000010"),
+        ("07017FFFFFFF", "FF0D"),
+    ]);
+    Worked::of_lines("airflow sample", &lines)
 }
 
 /// The same with the volume of a breath of four seconds (field 2), 4 to 1 from

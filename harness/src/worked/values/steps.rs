@@ -3,8 +3,7 @@
 //! formula replaces the old, and removal drops it." Kind 08 computes nothing, and
 //! of the other kinds none changes a value.
 
-use super::{add, ratio, store, sum, Part, Valued, GREATEST};
-use crate::plain::hex;
+use super::{add, owned, ratio, store, sum, Valued, GREATEST, LEAST};
 
 /// Every text of this file.
 pub fn all() -> Vec<Valued> {
@@ -275,19 +274,12 @@ fn formula_of_other_fields() -> Valued {
 /// 62 fields in a row, a link with a ratio between each and the next; it may set
 /// either of them.
 fn row(name: &str, p: u16, q: u16) -> Valued {
-    let mut lines = vec![(hex(&[1, 64]), "0000".to_string())];
+    let mut lines = owned(&[("0140", "0000")]);
     for id in 0..61 {
         let link = add(id, 0, [id | 0x80, (id + 1) | 0x80]);
-        lines.push((link, "0001".to_string()));
-        lines.push((ratio(id, p, q), "0000".to_string()));
+        lines.extend(owned(&[(&link, "0001"), (&ratio(id, p, q), "0000")]));
     }
-    let mut row = Valued::new(name);
-    row.parts.push(Part {
-        lines,
-        values: vec![0; 62],
-        settled: true,
-    });
-    row
+    Valued::new(name).with(lines, &[0; 62], true)
 }
 
 /// 1 to 1: every field follows the first one. A value for the last one turns all
@@ -296,7 +288,7 @@ fn row_of_ratios() -> Valued {
     row("row of ratios", 1, 1)
         .part(&[("0700000003E8", "0000")], &[1_000; 62])
         .part(&[("073DFFFFFC18", "003E")], &[-1_000; 62])
-        .part(&[("073D80000000", "0000")], &[i32::MIN; 62])
+        .part(&[("073D80000000", "0000")], &[LEAST; 62])
 }
 
 /// 1 to 2 along the row. The greatest value gives 2 to the 30th, since its half
@@ -318,7 +310,7 @@ fn halved_61_times() -> Valued {
 /// to 1, and links 61 to 126 (level 5), which wait for the same fields with other
 /// formulas: one for each number but the one that looks.
 fn formulas_of_all_numbers() -> Valued {
-    let mut lines = vec![(hex(&[1, 64]), "0000".to_string())];
+    let mut lines = owned(&[("0140", "0000")]);
     for id in 0..127 {
         let (first, level, reply) = match id {
             0..61 => (id, 0, "0001"),
@@ -330,15 +322,8 @@ fn formulas_of_all_numbers() -> Valued {
             _ => sum(id, first),
         };
         let link = add(id, level, [first, (first + 1) | 0x80]);
-        lines.push((link, reply.to_string()));
-        lines.push((formula, "0000".to_string()));
+        lines.extend(owned(&[(&link, reply), (&formula, "0000")]));
     }
-    lines.push((store(0, GREATEST), "0000".to_string()));
-    let mut text = Valued::new("formulas of all numbers");
-    text.parts.push(Part {
-        lines,
-        values: vec![GREATEST; 62],
-        settled: true,
-    });
-    text
+    lines.extend(owned(&[(&store(0, GREATEST), "0000")]));
+    Valued::new("formulas of all numbers").with(lines, &[GREATEST; 62], true)
 }
