@@ -1,6 +1,7 @@
 //! From a line of hexadecimal to a command.
 
 use crate::fields::{below, only};
+use crate::formula::Formula;
 use crate::text::Refusal;
 
 /// A command with its numbers, not yet checked against a panel.
@@ -12,6 +13,10 @@ pub enum Command<'a> {
     Remove(u8),
     Touch(u8),
     Plan,
+    /// Field and value.
+    Store(u8, i32),
+    /// Number and formula.
+    Formula(u8, Formula),
 }
 
 /// The bytes of a line, as far as a frame can need them: one more than the
@@ -90,6 +95,12 @@ pub fn read_frame(frame: &[u8]) -> Result<Command<'_>, Refusal> {
         [3, id] => Ok(Command::Remove(id)),
         [4, field] => Ok(Command::Touch(field)),
         [5] => Ok(Command::Plan),
+        [7, field, a, b, c, d] => Ok(Command::Store(field, i32::from_be_bytes([a, b, c, d]))),
+        [8, id, 1, a, b, c, d] => {
+            let ratio = Formula::Ratio(u16::from_be_bytes([a, b]), u16::from_be_bytes([c, d]));
+            Ok(Command::Formula(id, ratio))
+        }
+        [8, id, 2, field] => Ok(Command::Formula(id, Formula::Sum(field))),
         _ => Err(Refusal::BadFrame),
     }
 }

@@ -7,6 +7,7 @@
 //! - [`sides`]: the solvers behind functions of one form.
 
 mod fields;
+mod formula;
 mod frame;
 pub mod ordinary;
 pub mod sides;

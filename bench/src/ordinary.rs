@@ -2,6 +2,7 @@
 //! and strengths worked out once per command. Between commands it keeps what document 01 names and nothing more.
 
 use crate::fields::{below, each, has, lowest, only, without};
+use crate::formula::Formula;
 use crate::frame::{read_link, read_size};
 use crate::text::{Refusal, Solver, LONGEST_REPLY};
 
@@ -24,12 +25,14 @@ const NO_LINK: Link = Link {
     holds: None,
 };
 
-/// A panel: its links, and for each field its stay's place and its setter.
+/// A panel: its links with their formulas, and for each field its stay's place, its setter and its value.
 pub struct Panel {
     size: usize,
     links: [Link; 128],
     place: [u8; 64],
     setter: [u8; 64],
+    formulas: [Formula; 128],
+    values: [i32; 64],
 }
 
 /// For each field the level, the other outputs and the read fields of its setter, and the strengths known so far.
@@ -105,6 +108,31 @@ impl Tables {
         }
     }
 
+    /// The fields in the order of the plan.
+    fn list(&self, size: usize, mut entry: impl FnMut(usize)) {
+        let mut readers = [0u64; 64];
+        for f in 0..size {
+            for g in each(self.reads[f]) {
+                readers[g] |= only(f);
+            }
+        }
+        let mut left = below(size);
+        let mut ready = each(left)
+            .filter(|&f| self.reads[f] == 0)
+            .fold(0, |s, f| s | only(f));
+        while ready != 0 {
+            let f = lowest(ready);
+            entry(f);
+            left = without(left, f);
+            ready = without(ready, f);
+            for g in each(readers[f]) {
+                if self.reads[g] & left == 0 {
+                    ready |= only(g);
+                }
+            }
+        }
+    }
+
     /// Whether the reads after a walk is turned for an item with these covered fields have a loop.
     fn turn_has_loop(&mut self, path: &[u8], covered: u64, size: usize) -> bool {
         let mut cover = covered;
@@ -155,6 +183,61 @@ impl Panel {
         }
         self.hold(incoming, None);
         Ok(len as u8)
+    }
+
+    /// A field that the panel has, after the checks 4 and 7.
+    fn field(&self, field: u8) -> Result<usize, Refusal> {
+        match field as usize {
+            _ if self.size == 0 => Err(Refusal::NotOpen),
+            v if v >= self.size => Err(Refusal::NoSuchField),
+            v => Ok(v & 63),
+        }
+    }
+
+    fn move_to_front(&mut self, v: usize) {
+        let at = self.place[v];
+        for place in self.place.iter_mut() {
+            *place += u8::from(*place < at);
+        }
+        self.place[v] = 0;
+    }
+
+    /// Turns for the first stay, whose field a link sets, if it is blocked. The tables then have the reads after it.
+    fn turn_for_stay(&mut self, t: &mut Tables, v: usize) -> Result<u8, Refusal> {
+        match t.strength(v) {
+            0..=16 => Ok(0),
+            _ => self.turn(t, STAY, only(v), only(v)),
+        }
+    }
+
+    /// The values after this one is stored and the plan is run; none where a result is outside the limits. The tables
+    /// have the reads of the setters as they are.
+    fn run_plan(&self, t: &Tables, stored: usize, value: i32) -> Option<[i32; 64]> {
+        let mut values = self.values;
+        values[stored] = value;
+        let mut fits = true;
+        t.list(self.size, |f| {
+            let id = self.setter[f];
+            if id != STAY {
+                let covered = self.links[id as usize & 127].covered;
+                match self.formulas[id as usize & 127].result(covered, f, &values) {
+                    Some(result) => values[f] = result,
+                    None => fits = false,
+                }
+            }
+        });
+        fits.then_some(values)
+    }
+
+    /// Undoes a touch. The links that it turned hold a field before and after.
+    fn put_back(&mut self, places: [u8; 64], setters: [u8; 64]) {
+        for f in 0..self.size {
+            if self.setter[f] != setters[f] {
+                self.hold(setters[f], Some(f as u8));
+            }
+        }
+        self.place = places;
+        self.setter = setters;
     }
 
     fn new_link(&self, id: u8, level: u8, field_bytes: &[u8]) -> Result<Link, Refusal> {
@@ -209,6 +292,8 @@ impl Solver for Panel {
             links: [NO_LINK; 128],
             place: std::array::from_fn(|field| field as u8),
             setter: [STAY; 64],
+            formulas: [Formula::None; 128],
+            values: [0; 64],
         }
     }
 
@@ -250,7 +335,10 @@ impl Solver for Panel {
             return Err(Refusal::NoSuchLink);
         }
         self.links[id as usize] = NO_LINK;
-        let Some(v) = old.holds else { return Ok(0) };
+        let Some(v) = old.holds else {
+            self.formulas[id as usize] = Formula::None;
+            return Ok(0);
+        };
         let before = self.setter;
         self.setter[v as usize & 63] = STAY;
         let mut t = Tables::of(self);
@@ -261,33 +349,20 @@ impl Solver for Panel {
                 return Err(refusal);
             }
         }
+        self.formulas[id as usize] = Formula::None;
         Ok((0..self.size)
             .filter(|&f| before[f] != self.setter[f])
             .count() as u8)
     }
 
     fn touch(&mut self, field: u8) -> Result<u8, Refusal> {
-        if self.size == 0 {
-            return Err(Refusal::NotOpen);
-        }
-        let v = field as usize;
-        if v >= self.size {
-            return Err(Refusal::NoSuchField);
-        }
+        let v = self.field(field)?;
         let before = self.place;
-        let at = before[v];
-        for place in self.place.iter_mut() {
-            *place += u8::from(*place < at);
-        }
-        self.place[v] = 0;
+        self.move_to_front(v);
         if self.setter[v] == STAY {
             return Ok(0);
         }
-        let mut t = Tables::of(self);
-        if t.strength(v) <= 16 {
-            return Ok(0);
-        }
-        let moved = self.turn(&mut t, STAY, only(v), only(v));
+        let moved = self.turn_for_stay(&mut Tables::of(self), v);
         if moved.is_err() {
             self.place = before;
         }
@@ -299,33 +374,47 @@ impl Solver for Panel {
             return Err(Refusal::NotOpen);
         }
         let mut t = Tables::of(self);
-        let mut readers = [0u64; 64];
         for f in 0..self.size {
             t.strength(f);
-            for g in each(t.reads[f]) {
-                readers[g] |= only(f);
-            }
         }
         reply[0] = 0;
         reply[1] = self.size as u8;
         let mut rows = reply[2..].chunks_exact_mut(3);
-        let mut left = below(self.size);
-        let mut ready = each(left)
-            .filter(|&f| t.reads[f] == 0)
-            .fold(0, |s, f| s | only(f));
-        while ready != 0 {
-            let f = lowest(ready);
+        t.list(self.size, |f| {
             if let Some(row) = rows.next() {
                 row.copy_from_slice(&[f as u8, self.setter[f], t.strength[f]]);
             }
-            left = without(left, f);
-            ready = without(ready, f);
-            for g in each(readers[f]) {
-                if t.reads[g] & left == 0 {
-                    ready |= only(g);
-                }
-            }
-        }
+        });
         Ok(2 + 3 * self.size)
+    }
+
+    fn store(&mut self, field: u8, value: i32) -> Result<u8, Refusal> {
+        let v = self.field(field)?;
+        let (places, setters) = (self.place, self.setter);
+        self.move_to_front(v);
+        let mut t = Tables::of(self);
+        let touched = match self.setter[v] {
+            STAY => Ok(0),
+            _ => self.turn_for_stay(&mut t, v),
+        };
+        let refusal = match touched {
+            Err(refusal) => refusal,
+            Ok(_) if self.setter[v] != STAY => Refusal::FieldDriven,
+            Ok(moved) => match self.run_plan(&t, v, value) {
+                Some(values) => {
+                    self.values = values;
+                    return Ok(moved);
+                }
+                None => Refusal::OutOfRange,
+            },
+        };
+        self.put_back(places, setters);
+        Err(refusal)
+    }
+
+    fn give_formula(&mut self, id: u8, formula: Formula) -> Result<u8, Refusal> {
+        formula.check(id, self.size, |id| self.links[id & 127].covered)?;
+        self.formulas[id as usize & 127] = formula;
+        Ok(0)
     }
 }

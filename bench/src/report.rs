@@ -10,18 +10,27 @@ pub fn mixes(mixed: &[Mixed], rounds: usize) -> String {
     let mut table = format!(
         "Time per command: the least of {rounds} rounds, the solvers in turn; the buffer for the output \
          is not cleared between rounds. Shares of all commands in percent.\n\n\
-         | mix | touch/remove/add/plan as drawn | commands | touch | remove | add | plan \
+         | mix | touch/remove/add/plan/formula/value as drawn | commands | touch | remove | add | plan | formula | value \
          | refused | moved | ordinary, ns | tuned, ns | proved, ns | proved ÷ ordinary | proved ÷ tuned |\n\
-         |---|---|--:|--:|--:|--:|--:|--:|--:|--:|--:|--:|--:|--:|\n"
+         |---|---|--:|--:|--:|--:|--:|--:|--:|--:|--:|--:|--:|--:|--:|--:|\n"
     );
     for row in mixed {
         let drawn = match MIXES[row.mix] {
-            Some(s) => format!("{}/{}/{}/{}", s.touch, s.remove, s.add, s.plan),
+            Some(s) => [s.touch, s.remove, s.add, s.plan, s.formula, s.value]
+                .map(|share| share.to_string())
+                .join("/"),
             None => "only the opening and adds".to_string(),
         };
         let kinds = &row.kinds;
         let all = kinds.all() as f64;
-        let counts = [kinds.touch, kinds.remove, kinds.add, kinds.plan];
+        let counts = [
+            kinds.touch,
+            kinds.remove,
+            kinds.add,
+            kinds.plan,
+            kinds.formula,
+            kinds.value,
+        ];
         let replies = [row.replies.refused, row.replies.moved];
         write!(table, "| {} | {drawn} | {all} |", row.mix + 1).expect("a string");
         for count in counts.into_iter().chain(replies) {

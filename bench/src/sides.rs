@@ -86,9 +86,20 @@ pub fn run_proved(text: &[u8], out: &mut [u8], tally: &mut Tally) -> usize {
     }
 }
 
+/// Runs the proved solver on a text, from an unopened panel, and writes the values
+/// of the fields after it: zeros past the panel's size, and all zeros while it is
+/// unopened. The answer is the number of fields, 0 while it is unopened. For a text
+/// that is too long it is 0, and the values are as they were.
+pub fn values_proved(text: &[u8], values: &mut [i32; 64]) -> usize {
+    // SAFETY: the pair is the pointer and the length of a live slice, `values` is
+    // live and borrowed by this function alone; the function called asks no more.
+    unsafe { panel_values(text.as_ptr(), text.len(), values) }
+}
+
 // In Rattle: `#[no_mangle] pub extern "C" fn panel_run_text(text: &[u8], out:
-// &mut [u8], tally: &mut Tally) -> usize` (crates/panel_c). A slice is passed as
-// its pointer and then its length.
+// &mut [u8], tally: &mut Tally) -> usize` and `panel_values(text: &[u8], values:
+// &mut [i32; 64]) -> usize` (crates/panel_c). A slice is passed as its pointer and
+// then its length.
 extern "C" {
     fn panel_run_text(
         text: *const u8,
@@ -97,4 +108,6 @@ extern "C" {
         out_len: usize,
         tally: *mut Tally,
     ) -> usize;
+
+    fn panel_values(text: *const u8, text_len: usize, values: *mut [i32; 64]) -> usize;
 }

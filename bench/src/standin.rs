@@ -1,4 +1,4 @@
-//! The plain solver under the name of the proved one.
+//! The plain solver under the names of the proved one.
 
 use crate::sides::Tally;
 use harness::plain::{self, Run, TEXT_LIMIT};
@@ -43,4 +43,27 @@ pub unsafe extern "C" fn panel_run_text(
     let fits = output.len().min(out.len());
     out[..fits].copy_from_slice(&output[..fits]);
     output.len()
+}
+
+/// See `sides`.
+///
+/// # Safety
+///
+/// The pair is the pointer and the length of a live slice, `values` points to 64
+/// live values, and nothing else uses them meanwhile.
+#[no_mangle]
+pub unsafe extern "C" fn panel_values(
+    text: *const u8,
+    text_len: usize,
+    values: *mut [i32; 64],
+) -> usize {
+    let text = unsafe { std::slice::from_raw_parts(text, text_len) };
+    let values = unsafe { &mut *values };
+    if text.len() > TEXT_LIMIT {
+        return 0;
+    }
+    let after = plain::values_after(text);
+    values.fill(0);
+    values[..after.len()].copy_from_slice(&after);
+    after.len()
 }

@@ -1,5 +1,6 @@
 //! Whole texts: replies and the tally.
 
+use crate::formula::Formula;
 use crate::frame::{read_frame, read_line, Command};
 
 /// The refusals with their numbers. BadHex has no offset here, as the plain
@@ -18,15 +19,21 @@ pub enum Refusal {
     Conflict = 10,
     Loop = 11,
     TextTooLong = 12,
+    OutOfRange = 13,
+    FieldDriven = 14,
+    BadFormula = 15,
 }
 
-/// The state of a solver, with its operations. The first four answer the moved count.
+/// The state of a solver, with its operations. All but the plan answer the moved
+/// count.
 pub trait Solver {
     fn unopened() -> Self;
     fn open(&mut self, size: u8) -> Result<u8, Refusal>;
     fn add(&mut self, id: u8, level: u8, field_bytes: &[u8]) -> Result<u8, Refusal>;
     fn remove(&mut self, id: u8) -> Result<u8, Refusal>;
     fn touch(&mut self, field: u8) -> Result<u8, Refusal>;
+    fn store(&mut self, field: u8, value: i32) -> Result<u8, Refusal>;
+    fn give_formula(&mut self, id: u8, formula: Formula) -> Result<u8, Refusal>;
     /// Writes the reply; the answer is its length.
     fn plan(&self, reply: &mut [u8; LONGEST_REPLY]) -> Result<usize, Refusal>;
 }
@@ -80,6 +87,8 @@ fn answer<P: Solver>(panel: &mut P, command: Command, output: &mut Output) -> Re
         Command::Add(id, level, field_bytes) => panel.add(id, level, field_bytes)?,
         Command::Remove(id) => panel.remove(id)?,
         Command::Touch(field) => panel.touch(field)?,
+        Command::Store(field, value) => panel.store(field, value)?,
+        Command::Formula(id, formula) => panel.give_formula(id, formula)?,
         Command::Plan => {
             let mut reply = [0; LONGEST_REPLY];
             let len = panel.plan(&mut reply)?;

@@ -5,8 +5,10 @@
 //! commands run on a panel, so that removes name links in use and adds name
 //! numbers not in use. In the opening part an add that the panel refuses is
 //! left out and another one is drawn. In the part behind it refused commands
-//! stay in the text.
+//! stay in the text, but of the refused values most are drawn again. In a mix with
+//! formulas every link that can have one gets one behind the opening part.
 
+use crate::formula::Formula;
 use crate::text::TEXT_LIMIT;
 use crate::tuned::Panel;
 use harness::generate::Rng;
@@ -19,25 +21,35 @@ pub struct Shares {
     pub remove: usize,
     pub add: usize,
     pub plan: usize,
+    pub formula: usize,
+    pub value: usize,
 }
 
+/// Shares without formulas and values.
 const fn shares(touch: usize, remove: usize, add: usize, plan: usize) -> Shares {
     Shares {
         touch,
         remove,
         add,
         plan,
+        formula: 0,
+        value: 0,
     }
 }
 
 /// The mixes, by their numbers. A mix without shares is of short texts that end
 /// after the opening part, since then all link numbers are in use.
-pub const MIXES: [Option<Shares>; 5] = [
+pub const MIXES: [Option<Shares>; 6] = [
     Some(shares(40, 25, 25, 10)),
     Some(shares(45, 28, 27, 0)),
     None,
     Some(shares(20, 15, 15, 50)),
     Some(shares(90, 4, 4, 2)),
+    Some(Shares {
+        formula: 10,
+        value: 50,
+        ..shares(15, 10, 10, 5)
+    }),
 ];
 
 /// The mix of the texts for growth.
@@ -89,11 +101,14 @@ pub struct Kinds {
     pub remove: usize,
     pub touch: usize,
     pub plan: usize,
+    pub formula: usize,
+    pub value: usize,
 }
 
 impl Kinds {
     pub fn all(&self) -> usize {
-        self.open + self.add + self.remove + self.touch + self.plan
+        let links = self.add + self.remove + self.formula;
+        self.open + links + self.touch + self.value + self.plan
     }
 }
 
@@ -107,6 +122,8 @@ pub fn kinds(texts: &[Vec<u8>]) -> Kinds {
             b'2' => kinds.add += 1,
             b'3' => kinds.remove += 1,
             b'4' => kinds.touch += 1,
+            b'7' => kinds.value += 1,
+            b'8' => kinds.formula += 1,
             _ => kinds.plan += 1,
         }
     }
@@ -130,6 +147,9 @@ fn until(commands: usize, first_seed: u64, text: impl Fn(u64) -> Vec<u8>) -> Vec
 /// The characters of the longest line, an add over eight fields with its LF.
 const LONGEST_LINE: usize = 2 * 11 + 1;
 
+/// How many values are drawn at most until the panel accepts one.
+const DRAWS: usize = 10;
+
 /// A text that is being made, and the panel as its commands leave it.
 struct Writer {
     rng: Rng,
@@ -140,6 +160,8 @@ struct Writer {
     in_use: RangeInclusive<usize>,
     used: Vec<u8>,
     unused: Vec<u8>,
+    /// By link number: the fields that it covers, while it is in use.
+    covered: [u64; 128],
 }
 
 impl Writer {
@@ -154,6 +176,7 @@ impl Writer {
             in_use,
             used: Vec::new(),
             unused: (0..128).collect(),
+            covered: [0; 128],
         };
         writer.line(&[1, fields as u8]);
         writer.panel.open(fields as u8).expect("1 to 64 fields");
@@ -168,16 +191,22 @@ impl Writer {
 
     /// Commands of a mix until the limit leaves no room for another one.
     fn fill(&mut self, shares: Shares) {
+        if shares.formula > 0 {
+            for id in 0..128 {
+                self.formula(id);
+            }
+        }
+        let exchanged = shares.touch + shares.remove;
+        let added = exchanged + shares.add;
+        let planned = added + shares.plan;
         while self.text.len() + LONGEST_LINE <= TEXT_LIMIT {
-            let drawn = self.rng.below(100);
-            if drawn < shares.touch {
-                self.touch();
-            } else if drawn < shares.touch + shares.remove {
-                self.exchange(true);
-            } else if drawn < shares.touch + shares.remove + shares.add {
-                self.exchange(false);
-            } else {
-                self.line(&[5]);
+            match self.rng.below(100) {
+                drawn if drawn < shares.touch => self.touch(),
+                drawn if drawn < exchanged => self.exchange(true),
+                drawn if drawn < added => self.exchange(false),
+                drawn if drawn < planned => self.line(&[5]),
+                drawn if drawn < planned + shares.formula => self.any_formula(),
+                _ => self.value(),
             }
         }
     }
@@ -209,6 +238,7 @@ impl Writer {
         if self.panel.remove(id).is_ok() {
             self.used.swap_remove(place);
             self.unused.push(id);
+            self.covered[id as usize] = 0;
         }
     }
 
@@ -224,8 +254,65 @@ impl Writer {
         if accepted {
             self.unused.swap_remove(place);
             self.used.push(id);
+            let fields = field_bytes.iter().map(|byte| 1 << (byte & 63));
+            self.covered[id as usize] = fields.sum();
         }
         accepted
+    }
+
+    /// A formula for some link that can have one.
+    fn any_formula(&mut self) {
+        loop {
+            let place = self.rng.below(self.used.len());
+            if self.formula(self.used[place]) {
+                return;
+            }
+        }
+    }
+
+    /// A formula for a link that covers two fields or more; the answer is whether
+    /// it does. Over two fields three of four are ratios.
+    fn formula(&mut self, id: u8) -> bool {
+        let covered = self.covered[id as usize];
+        let count = covered.count_ones() as usize;
+        if count < 2 {
+            return false;
+        }
+        let formula = match count == 2 && self.rng.percent(75) {
+            true => {
+                let parts = &[1, 1, 1, 2, 3, 4, 60];
+                Formula::Ratio(*self.rng.pick(parts), *self.rng.pick(parts))
+            }
+            false => {
+                let place = self.rng.below(count);
+                let mut fields = (0..64).filter(|field| covered >> field & 1 == 1);
+                Formula::Sum(fields.nth(place).expect("as many as are covered"))
+            }
+        };
+        match formula {
+            Formula::Sum(field) => self.line(&[8, id, 2, field]),
+            Formula::Ratio(p, q) => self.line(&[8, id, 1, 0, p as u8, 0, q as u8]),
+            Formula::None => unreachable!("drawn above"),
+        }
+        self.panel.give_formula(id, formula).expect("one that fits");
+        true
+    }
+
+    /// A value for some field: mostly one that the panel accepts. One in fifty is
+    /// large.
+    fn value(&mut self) {
+        for draw in 1.. {
+            let field = self.rng.below(self.fields) as u8;
+            let value = match self.rng.percent(2) {
+                true => self.rng.number() as i32,
+                false => self.rng.below(20_001) as i32 - 10_000,
+            };
+            let accepted = self.panel.store(field, value).is_ok();
+            if accepted || self.rng.percent(15) || draw == DRAWS {
+                let value = value.to_be_bytes();
+                return self.line(&[&[7, field], &value[..]].concat());
+            }
+        }
     }
 
     /// One link in twenty is required, the others are spread over the levels.

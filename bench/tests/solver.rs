@@ -134,6 +134,15 @@ fn offsets_of_bad_lines() {
     }
 }
 
+/// Values and formulas, by the outputs worked out by hand.
+#[test]
+fn values_and_formulas() {
+    let mut runner = Runner::new();
+    for text in worked::values::all() {
+        assert!(runner.output(&text.text) == text.output, "{}", text.name);
+    }
+}
+
 /// A wrong character at each place of lines of every length up to 40, and of some
 /// longer ones, behind another line, with LF and without.
 #[test]

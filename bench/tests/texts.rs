@@ -2,7 +2,7 @@
 
 use panel_bench::sides::side_tuned;
 use panel_bench::text::{LONGEST_OUTPUT, TEXT_LIMIT};
-use panel_bench::texts::{self, Shares, GROWTH_COMMANDS, MIXES, MIX_COMMANDS};
+use panel_bench::texts::{self, GROWTH_COMMANDS, MIXES, MIX_COMMANDS};
 
 /// The commands of a text and their replies.
 fn replies(text: &[u8]) -> Vec<(String, String)> {
@@ -75,18 +75,19 @@ fn texts_open_64_fields_and_add_128_links() {
 #[test]
 fn shares_are_near_those_drawn() {
     for (mix, shares) in MIXES.iter().enumerate() {
-        let Some(Shares {
-            touch,
-            remove,
-            add,
-            plan,
-        }) = *shares
-        else {
+        let Some(drawn) = *shares else {
             continue;
         };
         let kinds = texts::kinds(&texts::of_mix(mix));
-        let counts = [kinds.touch, kinds.remove, kinds.add, kinds.plan];
-        for (count, percent) in counts.into_iter().zip([touch, remove, add, plan]) {
+        let pairs = [
+            (kinds.touch, drawn.touch),
+            (kinds.remove, drawn.remove),
+            (kinds.add, drawn.add),
+            (kinds.plan, drawn.plan),
+            (kinds.formula, drawn.formula),
+            (kinds.value, drawn.value),
+        ];
+        for (count, percent) in pairs {
             let found = 100.0 * count as f64 / kinds.all() as f64;
             assert!((found - percent as f64).abs() < 2.5, "mix {mix}: {kinds:?}");
         }
@@ -116,6 +117,57 @@ fn mixes_meet_all_cases() {
             assert_eq!(count > 0, possible, "mix {mix}: {kind} {reply} {count}");
         }
     }
+}
+
+/// In the mix with formulas and values every link that can have a formula gets
+/// one behind the opening part, all formulas are accepted, and so are nine values
+/// of ten; the others meet each refusal of a value.
+#[test]
+fn values_are_mostly_accepted_over_formulas() {
+    let texts = texts::of_mix(5);
+    for text in &texts {
+        let replies = replies(text);
+        let several = |(add, _): &&(String, String)| add.len() > 8;
+        let links = replies[1..129].iter().filter(several).count();
+        let formulas = &replies[129..129 + links];
+        assert!(links > 60 && formulas.iter().all(|(line, _)| line.starts_with("08")));
+    }
+    let replies: Vec<_> = texts.iter().flat_map(|text| replies(text)).collect();
+    let of_kind = |kind| {
+        replies
+            .iter()
+            .filter(move |(line, _)| line.starts_with(kind))
+    };
+    assert!(of_kind("08").all(|(_, reply)| reply == "0000"));
+    let count = |reply| of_kind("07").filter(|(_, r)| r.starts_with(reply)).count();
+    let (accepted, refused) = (count("00"), count("FF"));
+    assert!(accepted > 9 * refused, "{accepted} {refused}");
+    for reply in ["0000", "0002", "0003", "FF0B", "FF0D", "FF0E"] {
+        assert!(count(reply) > 50, "{reply}: {}", count(reply));
+    }
+    assert_eq!(count("FF0B") + count("FF0D") + count("FF0E"), refused);
+}
+
+/// The texts without formulas are those that the first figures in docs/ are of.
+#[test]
+fn first_mixes_are_unchanged() {
+    // FNV-1a of all texts of a mix in a row.
+    let digest = |texts: Vec<Vec<u8>>| {
+        let mix_in = |hash: u64, byte: u8| (hash ^ u64::from(byte)).wrapping_mul(0x100_0000_01B3);
+        texts
+            .concat()
+            .into_iter()
+            .fold(0xCBF2_9CE4_8422_2325, mix_in)
+    };
+    let digests = [0, 1, 2, 3, 4].map(|mix| digest(texts::of_mix(mix)));
+    let first = [
+        0x75EC_C01E_EDAF_B423,
+        0x86A4_93D0_CB7D_1702,
+        0x596E_A6E9_B5C2_4EC3,
+        0x9726_D4AC_BC04_697B,
+        0xEC07_799F_DCE2_86FD,
+    ];
+    assert_eq!(digests, first);
 }
 
 #[test]

@@ -4,6 +4,7 @@ mod damage;
 mod frames;
 mod long;
 mod rng;
+mod values;
 
 pub use frames::{frames, Mix, MIXES};
 pub use long::long_text;

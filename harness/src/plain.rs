@@ -1,10 +1,12 @@
 //! A plain solver, written sentence by sentence from document 01 and from the
 //! change requests of document 02 that have landed: 1, the offset in the reply
-//! to a bad line.
+//! to a bad line, and 2, values and formulas.
 //!
 //! It is meant to be read next to the documents, not to be fast. Comments in
 //! quotation marks are sentences of the documents.
 
+mod commands;
+mod formula;
 mod frame;
 mod panel;
 mod refusal;
@@ -12,8 +14,9 @@ mod steps;
 mod strength;
 mod text;
 
+pub use formula::Formula;
 pub use frame::{hex, read_frame, read_hex, Command};
 pub use panel::{Item, Link, Panel, Standing};
 pub use refusal::Refusal;
 pub use steps::{new_link, PlanEntry, Reply};
-pub use text::{lines, run_text, run_text_with, Run, Tally, COUNT_CAP, TEXT_LIMIT};
+pub use text::{lines, run_text, run_text_with, values_after, Run, Tally, COUNT_CAP, TEXT_LIMIT};

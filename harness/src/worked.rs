@@ -1,10 +1,16 @@
 //! Texts with their whole outputs, worked out by hand from documents 01 and 02.
 //! The plain solver and the run program are both held to them.
 
+use crate::plain::hex;
+
 pub mod edges;
 pub mod items;
 pub mod offsets;
 pub mod panels;
+pub mod values;
+
+/// Lines with their replies.
+pub type Lines = Vec<(String, String)>;
 
 /// A text and the whole output that the documents give it.
 pub struct Worked {
@@ -14,6 +20,12 @@ pub struct Worked {
 }
 
 impl Worked {
+    /// Lines with their replies, and the tally that belongs to them.
+    pub fn of_lines(name: &str, lines: &[(String, String)]) -> Worked {
+        let replies: Vec<&str> = lines.iter().map(|(_, reply)| reply.as_str()).collect();
+        Worked::new(name, lines, &tally_line(&replies))
+    }
+
     /// Lines with their replies, and the tally after the last one.
     pub fn new<S: AsRef<str>>(name: &str, lines: &[(S, S)], tally: &str) -> Worked {
         let (mut text, mut output) = (String::new(), String::new());
@@ -31,6 +43,24 @@ impl Worked {
             output: output.into_bytes(),
         }
     }
+}
+
+/// A line of an add, its field bytes with bit 7 for outputs.
+fn add(id: u8, level: u8, field_bytes: impl IntoIterator<Item = u8>) -> String {
+    let mut frame = vec![2, id, level];
+    frame.extend(field_bytes);
+    hex(&frame)
+}
+
+/// Lines that own their characters.
+fn owned(lines: &[(&str, &str)]) -> Lines {
+    let owned = |(line, reply): &(&str, &str)| (line.to_string(), reply.to_string());
+    lines.iter().map(owned).collect()
+}
+
+/// Adds lines to others.
+fn push(lines: &mut Lines, more: &[(&str, &str)]) {
+    lines.extend(owned(more));
 }
 
 /// The tally line that belongs to the replies to all lines of a text.

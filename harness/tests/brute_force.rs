@@ -5,10 +5,11 @@
 mod support;
 
 use harness::generate::{self, Mix, Rng, MIXES};
-use harness::plain::{Run, Standing};
+use harness::plain::{Formula, Run, Standing, Tally};
 use support::book::{link, Book, Member, Name};
 use support::choices::{all_can_hold, best_counts, best_counts_by_paths, counts, end_of_levels};
 use support::held::{bytes, closed_walk, held, of_field, reads, waiting, Held};
+use support::values::{is_right, rule_of, run_plan, Rule};
 
 /// One line with what stood before and after it.
 struct Step {
@@ -62,6 +63,14 @@ impl Step {
     }
 }
 
+/// A run without its tally.
+fn state(run: &Run) -> Run {
+    Run {
+        tally: Tally::default(),
+        ..run.clone()
+    }
+}
+
 /// "A line refused with 1 or 2 gives no command."
 fn holds_a_command(reply: &str) -> bool {
     !reply.starts_with("FF01") && reply != "FF02"
@@ -84,7 +93,7 @@ const SMALL: Mix = Mix {
 };
 
 /// The mixes of the small panels.
-const SMALL_MIXES: [Mix; 4] = [
+const SMALL_MIXES: [Mix; 5] = [
     SMALL,
     Mix {
         fields: (3, 4),
@@ -95,7 +104,7 @@ const SMALL_MIXES: [Mix; 4] = [
     Mix {
         fields: (1, 3),
         levels: &[0, 0, 3, 3],
-        weights: [50, 40, 5, 5],
+        weights: [50, 40, 5, 5, 10, 5],
         ..SMALL
     },
     Mix {
@@ -103,7 +112,15 @@ const SMALL_MIXES: [Mix; 4] = [
         levels: &[0, 2],
         covered: (2, 4),
         output_percent: 80,
-        weights: [30, 25, 40, 5],
+        weights: [30, 25, 40, 5, 20, 10],
+        ..SMALL
+    },
+    Mix {
+        fields: (3, 4),
+        ids: 3,
+        levels: &[0, 2],
+        covered: (2, 3),
+        weights: [12, 8, 3, 2, 50, 25],
         ..SMALL
     },
 ];
@@ -122,11 +139,11 @@ fn for_each_line(mix: &Mix, seed: u64, see: &mut impl FnMut(&Step)) {
     }
 }
 
-/// Shows every line of 600 texts for small panels, about 27,000 lines, and
+/// Shows every line of 900 texts for small panels, about 40,000 lines, and
 /// gives the number of lines that were accepted.
 fn for_each_small_line(mut see: impl FnMut(&Step)) -> usize {
     let mut accepted = 0;
-    for seed in 0..600 {
+    for seed in 0..900 {
         let mix = &SMALL_MIXES[seed as usize % SMALL_MIXES.len()];
         for_each_line(mix, seed, &mut |step| {
             see(step);
@@ -324,18 +341,139 @@ fn moved_counts_changed_setters() {
 }
 
 /// A refusal "changes only the tally", and a plan changes nothing else either.
+/// TextTooLong is no refusal of a line.
 #[test]
 fn refused_lines_and_plans_leave_the_panel() {
-    let mut refusals = [0; 12];
+    let mut refusals = [0; 16];
     for_each_small_line(|step| {
         if step.refused() {
             refusals[bytes(&step.reply)[1] as usize] += 1;
         }
         if step.refused() || step.line == b"05" {
-            assert_eq!(step.before.panel, step.after.panel, "{}", step.reply);
+            assert_eq!(state(&step.before), state(&step.after), "{}", step.reply);
         }
     });
-    assert!(refusals[1..].iter().all(|&count| count > 0), "{refusals:?}");
+    let met = |number: usize| refusals[number] > 0;
+    assert!((1..=15).filter(|&n| n != 12).all(met), "{refusals:?}");
+}
+
+/// The frame of an accepted line of kind 07.
+fn accepted_value(step: &Step) -> Option<Vec<u8>> {
+    let accepted = step.line.starts_with(b"07") && !step.refused();
+    accepted.then(|| frame(&step.line))
+}
+
+/// Checks a line of kind 07 and counts which it was: Loop, FieldDriven, OutOfRange
+/// or accepted.
+fn check_value(step: &Step, met: &mut [usize; 4]) {
+    let frame = frame(&step.line);
+    let mut touched = step.before.clone();
+    let touch = touched.line(format!("04{:02X}", frame[1]).as_bytes());
+    if touch.starts_with("FF") {
+        met[0] += (touch == "FF0B") as usize;
+        return assert_eq!(step.reply, touch);
+    }
+    let plan = held(&touched);
+    if of_field(&plan, frame[1]).setter != Name::Stay(frame[1]) {
+        met[1] += 1;
+        return assert_eq!(step.reply, "FF0E");
+    }
+    let mut book = step.book_before.clone();
+    book.feed(&[4, frame[1]], false);
+    let mut values = step.before.values.clone();
+    values[frame[1] as usize] = i32::from_be_bytes([frame[2], frame[3], frame[4], frame[5]]);
+    let results = run_plan(&book, &plan, &values).into_iter();
+    let results: Result<Vec<i32>, _> = results.map(i32::try_from).collect();
+    match results {
+        Err(_) => {
+            met[2] += 1;
+            assert_eq!(step.reply, "FF0D");
+        }
+        Ok(values) => {
+            met[3] += 1;
+            assert_eq!(step.reply, touch);
+            assert_eq!(step.after.panel, touched.panel);
+            assert_eq!(step.after.values, values);
+        }
+    }
+}
+
+/// Kind 07 is a touch, with its refusals, its moved count and its panel after;
+/// then FieldDriven exactly where the plan gives f a link; then OutOfRange exactly
+/// where a result of the whole plan is outside the limits, and else these values.
+#[test]
+fn value_is_a_touch_and_a_run_of_the_plan() {
+    let mut met = [0; 4];
+    for_each_small_line(|step| {
+        if step.line.starts_with(b"07") && holds_a_command(&step.reply) {
+            check_value(step, &mut met);
+        }
+    });
+    let least = [150, 1_000, 120, 4_000];
+    assert!(
+        met.iter().zip(least).all(|(&met, least)| met > least),
+        "{met:?}"
+    );
+}
+
+/// "After an accepted kind 07 each held formula is right, only for the field it
+/// sets." f has its value, and a field whose setter has no formula keeps its own.
+#[test]
+fn held_formulas_are_right_after_a_value() {
+    let mut right = 0;
+    for_each_small_line(|step| {
+        let Some(frame) = accepted_value(step) else {
+            return;
+        };
+        let values = &step.after.values;
+        for entry in &step.held {
+            let (field, place) = (entry.field, entry.field as usize);
+            match rule_of(&step.book, entry) {
+                Some(rule) => {
+                    right += 1;
+                    assert!(is_right(&step.book, entry, rule, values), "{entry:?}");
+                }
+                None if field == frame[1] => {
+                    assert_eq!(values[place].to_be_bytes(), frame[2..]);
+                }
+                None => assert_eq!(values[place], step.before.values[place]),
+            }
+        }
+    });
+    assert!(right > 1_500, "{right}");
+}
+
+/// Kind 08 computes nothing, and of the other kinds none changes a value; at
+/// opening all are zero.
+#[test]
+fn only_kind_07_changes_values() {
+    for_each_small_line(|step| {
+        let (before, after) = (&step.before.values, &step.after.values);
+        match before.is_empty() {
+            true => assert_eq!(*after, vec![0; step.book.fields().into()]),
+            false if accepted_value(step).is_some() => {}
+            false => assert_eq!(after, before),
+        }
+    });
+}
+
+/// The formulas are those given last to the links in force, and go with them.
+#[test]
+fn formulas_agree_with_the_book() {
+    let mut formulas = 0;
+    for_each_small_line(|step| {
+        for id in 0..=127 {
+            let formula = step.after.formulas.get(&id);
+            let given = formula.map(|formula| match *formula {
+                Formula::Ratio(p, q) => Rule::Ratio(p.into(), q.into()),
+                Formula::Sum(field) => Rule::Sum(field),
+            });
+            assert_eq!(given, step.book.rule(id), "link {id}");
+            assert!(given.is_none() || step.book.has_link(id), "link {id}");
+            formulas += given.is_some() as usize;
+        }
+    });
+    assert!(formulas > 9_000, "{formulas}");
 }
 
 /// The count by augmenting paths is right where all choices can be tried.
@@ -394,4 +532,48 @@ fn every_short_list_on_two_fields() {
     let opening = Step::new(b"0102", &Run::default(), &Book::default());
     let lists = check_lists(&opening.after, &opening.book, 4);
     assert_eq!(lists, 16_usize.pow(4));
+}
+
+/// Commands on link 1 over two fields: it comes in each direction or in both and
+/// goes, gets a ratio or a sum, and the fields get values.
+const WITH_VALUES: [&str; 10] = [
+    "0201008081",
+    "0201000081",
+    "0201008001",
+    "0301",
+    "0401",
+    "08010100020003",
+    "08010200",
+    "070000000005",
+    "0701FFFFFFFB",
+    "07016AAAAAAB",
+];
+
+/// Checks every value in every list of so many of these commands, and counts the
+/// lists.
+fn check_lists_with_values(run: &Run, book: &Book, length: u8, met: &mut [usize; 4]) -> usize {
+    if length == 0 {
+        return 1;
+    }
+    let mut lists = 0;
+    for line in WITH_VALUES {
+        let step = Step::new(line.as_bytes(), run, book);
+        match line.starts_with("07") {
+            true => check_value(&step, met),
+            false => assert_eq!(step.after.values, run.values),
+        }
+        lists += check_lists_with_values(&step.after, &step.book, length - 1, met);
+    }
+    lists
+}
+
+#[test]
+fn every_short_list_of_values() {
+    let mut met = [0; 4];
+    let opening = Step::new(b"0102", &Run::default(), &Book::default());
+    let lists = check_lists_with_values(&opening.after, &opening.book, 5, &mut met);
+    assert_eq!(lists, WITH_VALUES.len().pow(5));
+    // One link over two fields makes no loop.
+    assert!(met[0] == 0 && met[1] > 5_000, "{met:?}");
+    assert!(met[2] > 500 && met[3] > 20_000, "{met:?}");
 }

@@ -168,8 +168,8 @@ fn lower_numbers_come_first() {
 // The reading "later kinds".
 #[test]
 fn other_kinds_are_bad_frames() {
-    for kind in (0..=255).filter(|kind| !(1..=5).contains(kind)) {
-        for rest in [&[][..], &[0], &[0, 0], &[0, 0, 0x80]] {
+    for kind in (0..=255).filter(|kind| ![1, 2, 3, 4, 5, 7, 8].contains(kind)) {
+        for rest in [&[][..], &[0], &[0, 0], &[0, 0, 0x80], &[0; 5], &[0; 6]] {
             let line = hex(&[&[kind], rest].concat());
             assert_eq!(last_reply(&[&line]), "FF02", "{line}");
             assert_eq!(last_reply(&["0102", &line]), "FF02", "{line}");
@@ -179,8 +179,16 @@ fn other_kinds_are_bad_frames() {
 
 #[test]
 fn lengths_of_frames() {
-    let right: [&[usize]; 5] = [&[2], &[4, 5, 6, 7, 8, 9, 10, 11], &[2], &[2], &[1]];
-    for (kind, right) in (1..=5).zip(right) {
+    // Kind 08 has a length for each formula kind, see `worked::values`.
+    let right: [(u8, &[usize]); 6] = [
+        (1, &[2]),
+        (2, &[4, 5, 6, 7, 8, 9, 10, 11]),
+        (3, &[2]),
+        (4, &[2]),
+        (5, &[1]),
+        (7, &[6]),
+    ];
+    for (kind, right) in right {
         for length in 1..=20 {
             let mut frame = vec![0; length];
             frame[0] = kind;

@@ -3,8 +3,8 @@
 
 use harness::generate::text;
 use harness::plain::{
-    lines, new_link, read_frame, read_hex, run_text, Command, Item, Panel, Run, Standing,
-    TEXT_LIMIT,
+    lines, new_link, read_frame, read_hex, run_text, Command, Formula, Item, Panel, Refusal, Run,
+    Standing, TEXT_LIMIT,
 };
 use harness::worked::tally_line;
 use std::collections::BTreeMap;
@@ -27,7 +27,7 @@ fn note_text(cases: &mut Cases, text: &[u8]) {
     let mut run = Run::default();
     for line in lines(text) {
         note_line_form(cases, line);
-        let before = run.panel.clone();
+        let before = run.clone();
         let reply = run.line(line);
         if reply.starts_with("FF") {
             note(cases, &reply[..4]);
@@ -38,7 +38,8 @@ fn note_text(cases: &mut Cases, text: &[u8]) {
         }
         let command = read_hex(line).and_then(|frame| read_frame(&frame));
         if let Ok(command) = command {
-            note_command(cases, &before, &command, &run.panel, &reply);
+            note_command(cases, &before.panel, &command, &run.panel, &reply);
+            note_values(cases, &before, &command, &run, &reply);
         }
     }
     note_end(cases, &run.panel);
@@ -135,12 +136,16 @@ fn note_command(cases: &mut Cases, before: &Panel, command: &Command, after: &Pa
             let first = middle.first_blocked();
             ("remove", middle, first)
         }
-        Command::Touch(field) => {
+        Command::Touch(field) | Command::Store(field, _) => {
             let middle = before.touched(field);
             let blocked = middle.is_blocked(Item::Stay(field));
-            ("touch", middle, blocked.then_some(Item::Stay(field)))
+            let kind = match command {
+                Command::Touch(_) => "touch",
+                _ => "value",
+            };
+            (kind, middle, blocked.then_some(Item::Stay(field)))
         }
-        Command::Open(_) | Command::Plan => return,
+        Command::Open(_) | Command::Plan | Command::Formula(..) => return,
     };
     match item {
         _ if reply == "FF0B" => note(cases, format!("{kind}: loop")),
@@ -169,7 +174,9 @@ fn note_blocked(cases: &mut Cases, middle: &Panel) {
 fn note_unturned(cases: &mut Cases, kind: &str, before: &Panel, command: &Command) {
     let waited = match *command {
         Command::Remove(id) => before.standing(Item::Link(id)) == Standing::Waiting,
-        Command::Touch(field) => before.standing(Item::Stay(field)) == Standing::Waiting,
+        Command::Touch(field) | Command::Store(field, _) => {
+            before.standing(Item::Stay(field)) == Standing::Waiting
+        }
         _ => true,
     };
     let standing = if waited { "waiting" } else { "holding" };
@@ -205,6 +212,120 @@ fn note_turned(cases: &mut Cases, kind: &str, middle: &Panel, item: Item, after:
     }
 }
 
+/// The cases of values and formulas.
+fn note_values(cases: &mut Cases, before: &Run, command: &Command, after: &Run, reply: &str) {
+    match *command {
+        Command::Remove(id) if before.formulas.contains_key(&id) => {
+            note(
+                cases,
+                format!("remove: link with a formula, {}", &reply[..2]),
+            );
+        }
+        Command::Formula(id, formula) if reply == "FF0F" => {
+            let covered = before.panel.links()[&id].covered.len();
+            note(cases, bad_formula(formula, covered));
+        }
+        Command::Formula(id, _) if reply == "0000" => {
+            let old = match before.formulas.contains_key(&id) {
+                true => "replaced",
+                false => "new",
+            };
+            let waits = before.panel.standing(Item::Link(id)) == Standing::Waiting;
+            let standing = if waits { "waiting" } else { "holding" };
+            note(cases, format!("formula: {old}, {standing}"));
+        }
+        Command::Store(..) if reply == "FF0E" && is_stuck(before) => {
+            note(cases, "value: driven and out of range");
+        }
+        Command::Store(field, _) if reply.starts_with("00") => {
+            for &set in &after.panel.listing() {
+                note_result(cases, before, after, field, set);
+            }
+        }
+        _ => {}
+    }
+}
+
+/// What is wrong with a formula for a link over so many fields.
+fn bad_formula(formula: Formula, covered: usize) -> String {
+    match formula {
+        Formula::Ratio(0, _) | Formula::Ratio(_, 0) => "FF0F: zero".to_string(),
+        Formula::Ratio(..) => format!("FF0F: ratio of {}", covered.min(3)),
+        Formula::Sum(_) if covered == 1 => "FF0F: sum, one field".to_string(),
+        Formula::Sum(_) => "FF0F: sum, not covered".to_string(),
+    }
+}
+
+/// Whether the run of the plan has a result outside the limits, even where the
+/// value that some field has is stored again.
+fn is_stuck(run: &Run) -> bool {
+    let mut fields = 0..run.panel.size();
+    let kept = fields.find(|&field| run.panel.setter(field) == Item::Stay(field));
+    kept.is_some_and(|field| {
+        let value = run.values[field as usize];
+        let again = Command::Store(field, value);
+        run.clone().apply(&again) == Err(Refusal::OutOfRange)
+    })
+}
+
+/// The cases of one field of a plan that was run after a value was stored.
+fn note_result(cases: &mut Cases, before: &Run, after: &Run, stored: u8, set: u8) {
+    let Item::Link(id) = after.panel.setter(set) else {
+        return;
+    };
+    let Some(formula) = after.formulas.get(&id) else {
+        return note(cases, "value: link without formula");
+    };
+    let covered = &after.panel.links()[&id].covered;
+    let value = |field: u8| i64::from(after.values[field as usize]);
+    match *formula {
+        Formula::Ratio(p, q) => {
+            let (up, read) = (covered[1] == set, covered[0] + covered[1] - set);
+            let (times, by) = if up { (p, q) } else { (q, p) };
+            let product = value(read) * i64::from(times);
+            let half = 2 * (product % i64::from(by)).abs() == i64::from(by);
+            let sign = if product < 0 { "minus" } else { "plus" };
+            note(cases, if up { "ratio: higher" } else { "ratio: lower" });
+            if half {
+                note(cases, format!("ratio: half, {sign}"));
+            }
+        }
+        Formula::Sum(field) => {
+            note(
+                cases,
+                if field == set {
+                    "sum: of all"
+                } else {
+                    "sum: less the rest"
+                },
+            );
+            let read = covered.iter().filter(|&&f| f != set && f != field);
+            let partial = read.scan(0, |sum, &f| {
+                *sum += value(f);
+                Some(*sum)
+            });
+            if partial.into_iter().any(|sum| i32::try_from(sum).is_err()) {
+                note(cases, "sum: partial sum beyond the limits");
+            }
+        }
+    }
+    let changed = before.values[set as usize] != after.values[set as usize];
+    if changed && !is_upstream(&after.panel, stored, set) {
+        note(cases, "value: result that it does not feed");
+    }
+    if [i32::MIN, i32::MAX].contains(&after.values[set as usize]) {
+        note(cases, "value: result at the limit");
+    }
+}
+
+/// Whether a field is worked out from another one, directly or through others.
+fn is_upstream(panel: &Panel, from: u8, field: u8) -> bool {
+    let reads = panel.reads(panel.setter(field), field);
+    reads
+        .into_iter()
+        .any(|read| read == from || is_upstream(panel, from, read))
+}
+
 /// Every case that must be met.
 const CASES: &[&str] = &[
     "FF01",
@@ -219,6 +340,9 @@ const CASES: &[&str] = &[
     "FF0A",
     "FF0B",
     "FF0C",
+    "FF0D",
+    "FF0E",
+    "FF0F",
     "FF01: first character",
     "FF01: in the middle",
     "FF01: last character",
@@ -276,6 +400,34 @@ const CASES: &[&str] = &[
     "touch: walk of 2",
     "touch: walk of 3",
     "touch: walk of 4",
+    "value: not turned, holding",
+    "value: turned for a stay",
+    "value: loop",
+    "value: walk of 2",
+    "value: walk of 3",
+    "value: walk of 4",
+    "value: driven and out of range",
+    "value: link without formula",
+    "value: result that it does not feed",
+    "value: result at the limit",
+    "ratio: higher",
+    "ratio: lower",
+    "ratio: half, plus",
+    "ratio: half, minus",
+    "sum: of all",
+    "sum: less the rest",
+    "sum: partial sum beyond the limits",
+    "formula: new, holding",
+    "formula: new, waiting",
+    "formula: replaced, holding",
+    "formula: replaced, waiting",
+    "remove: link with a formula, 00",
+    "remove: link with a formula, FF",
+    "FF0F: zero",
+    "FF0F: ratio of 1",
+    "FF0F: ratio of 3",
+    "FF0F: sum, one field",
+    "FF0F: sum, not covered",
 ];
 
 #[test]

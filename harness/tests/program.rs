@@ -7,6 +7,7 @@ use harness::plain::{hex, run_text};
 use harness::program::{self, through_shell};
 use harness::worked::items::ONE_RUN_IN_FULL;
 use harness::worked::panels::{longest_output, plan_of_stays};
+use harness::worked::values::ratios::sample;
 use harness::worked::{self, tally_line, Worked};
 
 /// Compares whole outputs; only the first difference is shown.
@@ -48,12 +49,15 @@ fn items_of_document_01() {
     check(&worked::items::all());
 }
 
-/// The README's command, with the file as standard input.
+/// The README's command, with the file as standard input, and the same with
+/// another sample.
 #[test]
-fn sample_file() {
-    let path = concat!(env!("CARGO_MANIFEST_DIR"), "/../samples/run.txt");
-    let item = one_run();
-    check_output(path, &program::run_on_file(path), &item.output);
+fn sample_files() {
+    let samples = concat!(env!("CARGO_MANIFEST_DIR"), "/../samples/");
+    for (file, text) in [("run.txt", one_run()), ("airflow.txt", sample())] {
+        let path = samples.to_string() + file;
+        check_output(&path, &program::run_on_file(&path), &text.output);
+    }
 }
 
 #[test]
@@ -64,6 +68,12 @@ fn ends_of_lines_and_limit() {
 #[test]
 fn offsets_of_bad_lines() {
     check(&worked::offsets::all());
+}
+
+/// Document 02, request 2, with looks at the values.
+#[test]
+fn values_and_formulas() {
+    check(&worked::values::all());
 }
 
 #[test]
@@ -223,7 +233,7 @@ fn damaged_run() {
 
 /// A text of middle size, with damaged lines.
 fn middle_text() -> Vec<u8> {
-    let text = generate::text(714);
+    let text = generate::text(869);
     assert!((9_000..20_000).contains(&text.len()), "{}", text.len());
     text
 }

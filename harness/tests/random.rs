@@ -1,23 +1,25 @@
 //! The run program and the plain solver on random and damaged texts: the same
-//! output for every one of more than 1,000,000 lines.
+//! output for every one of more than 1,600,000 lines.
 //!
 //! The texts go up to the limit, since each costs the start of a process. About
 //! half of them are damaged.
 
 use harness::compare::compared;
-use harness::generate::{long_text, text, Mix, MIXES};
-use harness::plain::{lines, TEXT_LIMIT};
+use harness::generate::{frames, long_text, text, Mix, Rng, MIXES};
+use harness::plain::{hex, lines, values_after, TEXT_LIMIT};
 use harness::program;
+use harness::worked::values::{look, store};
+use harness::worked::Lines;
 use std::collections::BTreeMap;
 
 /// Number of fields and number of links; a third of the texts for each. That
-/// makes about 457,000 lines in texts for 1 to 8 fields, 449,000 for 9 to 31, and
-/// 430,000 for 32 to 64.
+/// makes about 556,000 lines in texts for 1 to 8 fields, 550,000 for 9 to 31, and
+/// 536,000 for 32 to 64.
 const SIZES: [((usize, usize), usize); 3] = [((1, 8), 16), ((9, 31), 60), ((32, 64), 128)];
 
 /// As many adds as removes, so that the number of links keeps changing.
 const EVEN: Mix = Mix {
-    weights: [40, 40, 16, 4],
+    weights: [40, 40, 16, 4, 6, 4],
     damaged_percent: 4,
     ..MIXES[0]
 };
@@ -48,7 +50,7 @@ const SHAPES: [Mix; 8] = [
         levels: &[0, 0, 2, 7],
         covered: (2, 3),
         output_percent: 90,
-        weights: [30, 30, 38, 2],
+        weights: [30, 30, 38, 2, 6, 4],
         ..EVEN
     },
     // All levels, up to eight fields a link.
@@ -62,7 +64,7 @@ const SHAPES: [Mix; 8] = [
         levels: &[0, 1, 4, 4, 9, 15],
         covered: (1, 3),
         output_percent: 80,
-        weights: [60, 24, 12, 4],
+        weights: [60, 24, 12, 4, 6, 4],
         ..EVEN
     },
     // Mostly damaged lines.
@@ -72,18 +74,51 @@ const SHAPES: [Mix; 8] = [
     },
 ];
 
+/// The same for values and formulas, with a quarter of the link numbers, so that
+/// many fields are set by their stays.
+const VALUE_SHAPES: [Mix; 3] = [
+    // Rows of ratios in both directions.
+    Mix {
+        levels: &[0, 0, 2, 7],
+        covered: (2, 2),
+        output_percent: 85,
+        weights: [14, 9, 3, 2, 50, 22],
+        ..EVEN
+    },
+    // Sums and ratios, many of them in one direction.
+    Mix {
+        covered: (2, 4),
+        output_percent: 35,
+        weights: [14, 9, 3, 2, 50, 22],
+        ..EVEN
+    },
+    // Formulas over up to eight fields, links that come and go.
+    Mix {
+        levels: &[0, 1, 4, 9],
+        covered: (1, 8),
+        output_percent: 70,
+        weights: [22, 20, 4, 2, 32, 20],
+        ..EVEN
+    },
+];
+
 /// The number of texts in each half: 4 of each shape in each size.
-const HALF: u64 = 4 * (SHAPES.len() * SIZES.len()) as u64;
+const HALF: u64 = 4 * (ALL_SHAPES * SIZES.len()) as u64;
+const ALL_SHAPES: usize = SHAPES.len() + VALUE_SHAPES.len();
 
 /// The place in `SIZES` of a seed's text, and what the text is drawn from.
 fn size_and_mix(seed: u64) -> (usize, Mix) {
     let size = seed as usize % SIZES.len();
-    let shape = seed as usize / SIZES.len() % SHAPES.len();
+    let place = seed as usize / SIZES.len() % ALL_SHAPES;
     let (fields, ids) = SIZES[size];
+    let (ids, shape) = match SHAPES.get(place) {
+        Some(shape) => (ids, *shape),
+        None => (ids / 4, VALUE_SHAPES[place - SHAPES.len()]),
+    };
     let mix = Mix {
         fields,
         ids,
-        ..SHAPES[shape]
+        ..shape
     };
     (size, mix)
 }
@@ -108,7 +143,7 @@ impl Counts {
 }
 
 /// The kind of a reply: the refusal, or the command with its moved count. BadHex
-/// is told apart by its offset, Loop by the command.
+/// is told apart by its offset, Loop and BadFormula by the command.
 fn kind(line: &[u8], reply: &[u8]) -> String {
     let command = match &line.get(..2) {
         Some(b"01") => "open",
@@ -116,12 +151,15 @@ fn kind(line: &[u8], reply: &[u8]) -> String {
         Some(b"03") => "remove",
         Some(b"04") => "touch",
         Some(b"05") => "plan",
+        Some(b"07") => "value",
+        Some(b"08") if line.get(4..6) == Some(b"01") => "ratio",
+        Some(b"08") => "sum",
         _ => "other",
     };
     let reply = String::from_utf8_lossy(reply);
     match &*reply {
         bad_hex if bad_hex.starts_with("FF01") => bad_hex_kind(line, &bad_hex[4..]),
-        "FF0B" => format!("FF0B {command}"),
+        "FF0B" | "FF0F" => format!("{reply} {command}"),
         refusal if refusal.starts_with("FF") => refusal.to_string(),
         "0000" => format!("{command}, moved 0"),
         "0001" => format!("{command}, moved 1"),
@@ -144,8 +182,8 @@ fn bad_hex_kind(line: &[u8], offset: &str) -> String {
 }
 
 /// How often each kind of reply is met at least, in each half. A touch that
-/// turns a walk moves two fields or more.
-const LEAST: [(&str, usize); 27] = [
+/// turns a walk moves two fields or more, as a value's does.
+const LEAST: [(&str, usize); 36] = [
     ("FF01 empty line", 600),
     ("FF01 character up to 255", 5_000),
     ("FF01 character over 255", 250),
@@ -163,6 +201,11 @@ const LEAST: [(&str, usize); 27] = [
     ("FF0B add", 25_000),
     ("FF0B remove", 7_500),
     ("FF0B touch", 2_500),
+    ("FF0B value", 1_800),
+    ("FF0D", 12_000),
+    ("FF0E", 30_000),
+    ("FF0F ratio", 2_000),
+    ("FF0F sum", 7_000),
     ("open, moved 0", 90),
     ("add, moved 0", 50_000),
     ("add, moved 1", 50_000),
@@ -173,6 +216,10 @@ const LEAST: [(&str, usize); 27] = [
     ("touch, moved 0", 70_000),
     ("touch, moved more", 9_000),
     ("plan", 16_000),
+    ("value, moved 0", 25_000),
+    ("value, moved more", 8_000),
+    ("ratio, moved 0", 8_000),
+    ("sum, moved 0", 14_000),
 ];
 
 /// The output that the program and the plain solver both give a text.
@@ -190,8 +237,8 @@ fn compare_texts(seeds: std::ops::Range<u64>) {
     }
     // Shown with `cargo test -- --nocapture`.
     println!("{counts:#?}");
-    assert!(counts.by_size.iter().sum::<usize>() >= 500_000);
-    assert!(counts.by_size.iter().all(|&lines| lines >= 160_000));
+    assert!(counts.by_size.iter().sum::<usize>() >= 800_000);
+    assert!(counts.by_size.iter().all(|&lines| lines >= 260_000));
     for (reply, least) in LEAST {
         let met = counts.by_reply.get(reply).copied().unwrap_or(0);
         assert!(met >= least, "{reply}: {met} of {least}");
@@ -221,4 +268,51 @@ fn short_texts() {
         assert_eq!(output == b"FF0C\n", text.len() > TEXT_LIMIT);
     }
     assert!(too_long >= 5, "{too_long}");
+}
+
+/// Random frames on a panel with two fields more than they know of, one of which
+/// then gets a value, so that each held formula is right; and looks at the values
+/// that the plain solver has then. With the text come its looks, as lines and
+/// replies.
+fn looked_at(seed: u64) -> (Vec<u8>, Lines) {
+    let mix = Mix {
+        fields: (2, 20),
+        ids: 12,
+        frames: (10, 150),
+        ..VALUE_SHAPES[seed as usize % VALUE_SHAPES.len()]
+    };
+    let mut frames = frames(&mut Rng::new(seed), &mix);
+    frames[0][1] += 2;
+    let fields = frames[0][1];
+    let mut lines: Vec<String> = frames.iter().map(|frame| hex(frame)).collect();
+    lines.push(store(fields - 2, 0));
+    let values = values_after(lines.join("\n").as_bytes());
+    let looks = (0..fields - 2).flat_map(|field| look(fields, field, values[field as usize]));
+    let looks: Lines = looks.collect();
+    lines.extend(looks.iter().map(|(line, _)| line.clone()));
+    (lines.join("\n").into_bytes(), looks)
+}
+
+/// The program's values after random texts are the plain solver's. Most of them
+/// are seen; where some result stays outside the limits no kind 07 is accepted.
+#[test]
+fn values_after_random_texts() {
+    let (mut seen, mut not_zero) = (0, 0);
+    for seed in 0..600 {
+        let (text, looks) = looked_at(seed);
+        let output = output(seed, &text);
+        let replies = lines(&output);
+        // The tally is the last line.
+        let replies = &replies[replies.len() - 1 - looks.len()..];
+        for (look, replies) in looks.chunks(5).zip(replies.chunks(5)) {
+            let as_expected =
+                |((_, reply), given): (&(String, String), &&[u8])| reply.as_bytes() == *given;
+            if look.iter().zip(replies).all(as_expected) {
+                seen += 1;
+                not_zero += (look[3].1 != "0000") as usize;
+            }
+        }
+    }
+    println!("{seen} values seen, {not_zero} not zero");
+    assert!(seen >= 5_500 && not_zero >= 4_500, "{seen} {not_zero}");
 }

@@ -1,6 +1,7 @@
 //! The state of a panel.
 
 use crate::fields::{only, without};
+use crate::formula::Formula;
 use crate::text::Refusal;
 
 /// In the place of a link number: the field is set by its stay.
@@ -40,7 +41,7 @@ pub(super) const A_STAY: Setter = Setter {
     covered: 0,
 };
 
-/// A panel, 3.7 KB. Past `size` the arrays by field are as in an unopened panel.
+/// A panel, 4.8 KB. Past `size` the arrays by field are as in an unopened panel.
 pub struct Panel {
     /// The number of fields, 0 while unopened.
     pub(super) size: usize,
@@ -56,6 +57,10 @@ pub struct Panel {
     pub(super) setter: [u8; 64],
     /// By field: the place of its stay.
     pub(super) place: [u8; 64],
+    /// By number.
+    pub(super) formulas: [Formula; 128],
+    /// By field.
+    pub(super) values: [i32; 64],
 }
 
 impl Panel {
@@ -68,6 +73,8 @@ impl Panel {
             reads: [0; 64],
             setter: [STAY; 64],
             place: std::array::from_fn(|field| field as u8),
+            formulas: [Formula::None; 128],
+            values: [0; 64],
         }
     }
 
@@ -88,6 +95,17 @@ impl Panel {
     #[inline]
     pub(super) fn link_mut(&mut self, id: u8) -> &mut Link {
         &mut self.links[id as usize & 127]
+    }
+
+    /// The formula of a link number below 128.
+    #[inline]
+    pub(super) fn formula(&self, id: u8) -> Formula {
+        self.formulas[id as usize & 127]
+    }
+
+    #[inline]
+    pub(super) fn formula_mut(&mut self, id: u8) -> &mut Formula {
+        &mut self.formulas[id as usize & 127]
     }
 
     /// Enters whether a link in use waits.

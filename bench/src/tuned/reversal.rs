@@ -47,21 +47,19 @@ impl Panel {
         if setter.id != STAY {
             self.set_waiting(setter.id, false);
         }
-        Ok(self.enter_standings(&path))
+        let fields = path.iter().fold(0, |set, field| set | only(field));
+        self.enter_setters(fields);
+        Ok(fields)
     }
 
-    /// Enters in the links of a turned walk which field each sets now; the
-    /// answer is the set of the fields.
-    fn enter_standings(&mut self, path: &Path) -> u64 {
-        let mut fields = 0;
-        for field in path.iter() {
+    /// Enters in the links that set these fields which one each sets.
+    pub(super) fn enter_setters(&mut self, fields: u64) {
+        for field in each(fields) {
             let id = self.setter[field];
             if id != STAY {
                 self.link_mut(id).holds = Some(field as u8);
             }
-            fields |= only(field);
         }
-        fields
     }
 
     /// "The walk stops at the first setter whose level equals the strength of

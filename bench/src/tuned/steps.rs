@@ -3,6 +3,7 @@
 use super::panel::{Link, Panel, Setter, A_STAY, FIRST_STAY_LEVEL, NO_LINK};
 use super::strength::Strengths;
 use crate::fields::{has, only};
+use crate::formula::Formula;
 use crate::frame::{read_link, read_size};
 use crate::text::Refusal;
 
@@ -64,14 +65,18 @@ impl Panel {
         let link = std::mem::replace(self.link_mut(id), NO_LINK);
         let Some(field) = link.holds else {
             self.set_waiting(id, false);
+            *self.formula_mut(id) = Formula::None;
             return Ok(0);
         };
         let field = field as usize & 63;
         let old = self.give(field, A_STAY);
         let moved = self.settle(field);
-        if moved.is_err() {
-            *self.link_mut(id) = link;
-            self.give(field, old);
+        match moved {
+            Ok(_) => *self.formula_mut(id) = Formula::None,
+            Err(_) => {
+                *self.link_mut(id) = link;
+                self.give(field, old);
+            }
         }
         moved
     }
@@ -88,9 +93,15 @@ impl Panel {
         Ok(count(moved | only(freed)))
     }
 
-    /// "f's stay moves to place 0 ... If that stay waits and is now blocked, turn
-    /// as in Add. A loop refuses the touch, order included."
     pub fn touch(&mut self, field: u8) -> Result<u8, Refusal> {
+        self.touch_fields(field).map(count)
+    }
+
+    /// "f's stay moves to place 0 ... If that stay waits and is now blocked, turn
+    /// as in Add. A loop refuses the touch, order included." The answer is the set
+    /// of the fields moved.
+    #[inline]
+    pub(super) fn touch_fields(&mut self, field: u8) -> Result<u64, Refusal> {
         self.must_be_open()?;
         let field = field as usize;
         if field >= self.size {
@@ -109,7 +120,7 @@ impl Panel {
         if moved.is_err() {
             self.place = places;
         }
-        moved.map(count)
+        moved
     }
 
     /// "f's stay moves to place 0; those that stood before it move down one."
@@ -124,6 +135,6 @@ impl Panel {
 }
 
 /// The size of a set of fields.
-fn count(fields: u64) -> u8 {
+pub(super) fn count(fields: u64) -> u8 {
     fields.count_ones() as u8
 }

@@ -1,6 +1,8 @@
 //! Random well-formed frames for a panel, in different mixes.
 
 use super::rng::Rng;
+use super::values;
+use std::collections::BTreeMap;
 
 /// What the frames of a text are drawn from. Pairs are the least and the
 /// greatest value.
@@ -18,8 +20,8 @@ pub struct Mix {
     pub output_percent: usize,
     /// Number of frames after the opening.
     pub frames: (usize, usize),
-    /// Weights of add, remove, touch and plan.
-    pub weights: [usize; 4],
+    /// Weights of add, remove, touch, plan, value (kind 07) and formula (kind 08).
+    pub weights: [usize; 6],
     /// Chance of a line to be damaged, in those texts that have damaged lines.
     pub damaged_percent: usize,
 }
@@ -34,7 +36,7 @@ const MIDDLE: Mix = Mix {
     covered: (1, 4),
     output_percent: 60,
     frames: (10, 80),
-    weights: [50, 25, 20, 5],
+    weights: [50, 25, 20, 5, 15, 10],
     damaged_percent: 10,
 };
 
@@ -67,7 +69,7 @@ pub const MIXES: &[Mix] = &[
         ids: 20,
         levels: &[1, 2, 2, 3, 3, 4],
         covered: (1, 3),
-        weights: [50, 40, 5, 5],
+        weights: [50, 40, 5, 5, 10, 5],
         ..MIDDLE
     },
     // Fewer links than fields, often touched: blocked stays.
@@ -77,7 +79,7 @@ pub const MIXES: &[Mix] = &[
         levels: &[0, 0, 3],
         covered: (2, 5),
         output_percent: 80,
-        weights: [35, 25, 35, 5],
+        weights: [35, 25, 35, 5, 20, 10],
         ..MIDDLE
     },
     // Long walks over many fields.
@@ -97,7 +99,7 @@ pub const MIXES: &[Mix] = &[
         levels: ALL_LEVELS,
         covered: (1, 8),
         frames: (100, 300),
-        weights: [80, 5, 10, 5],
+        weights: [80, 5, 10, 5, 10, 10],
         ..MIDDLE
     },
     // All link numbers in use at last.
@@ -108,8 +110,26 @@ pub const MIXES: &[Mix] = &[
         covered: (1, 2),
         output_percent: 95,
         frames: (250, 400),
-        weights: [95, 0, 3, 2],
+        weights: [95, 0, 3, 2, 3, 2],
         damaged_percent: 1,
+    },
+    // Rows of ratios in both directions.
+    Mix {
+        fields: (3, 10),
+        levels: &[0, 0, 2, 7],
+        covered: (2, 2),
+        output_percent: 85,
+        weights: [12, 8, 3, 2, 50, 25],
+        ..MIDDLE
+    },
+    // Sums, many of them in one direction.
+    Mix {
+        fields: (4, 12),
+        levels: &[0, 2, 7],
+        covered: (2, 5),
+        output_percent: 40,
+        weights: [12, 8, 3, 2, 50, 25],
+        ..MIDDLE
     },
     // Any number of fields, any level.
     Mix {
@@ -139,7 +159,7 @@ pub const MIXES: &[Mix] = &[
         fields: (2, 10),
         ids: 30,
         frames: (300, 1500),
-        weights: [40, 35, 20, 5],
+        weights: [40, 35, 20, 5, 20, 10],
         damaged_percent: 2,
         ..MIDDLE
     },
@@ -172,7 +192,7 @@ fn frames_while(
     fields: usize,
     mut more: impl FnMut(&[Vec<u8>]) -> bool,
 ) -> Vec<Vec<u8>> {
-    let mut used = Vec::new();
+    let mut used = BTreeMap::new();
     let mut frames = vec![vec![1, fields as u8]];
     while more(&frames) {
         frames.push(frame(rng, mix, fields, &mut used));
@@ -180,22 +200,34 @@ fn frames_while(
     frames
 }
 
-/// One frame; `used` are the link numbers taken to be in use.
-fn frame(rng: &mut Rng, mix: &Mix, fields: usize, used: &mut Vec<u8>) -> Vec<u8> {
+/// The link numbers taken to be in use, each with the fields that it covers.
+type Used = BTreeMap<u8, Vec<u8>>;
+
+/// One frame.
+fn frame(rng: &mut Rng, mix: &Mix, fields: usize, used: &mut Used) -> Vec<u8> {
     match kind(rng, mix) {
         _ if rng.percent(1) => vec![1, rng.between(1, 64) as u8],
         0 => {
             let id = unused_id(rng, mix, used);
-            used.push(id);
-            add(rng, mix, fields, id)
+            let frame = add(rng, mix, fields, id);
+            // An add of a number in use is refused.
+            let covered = || frame[3..].iter().map(|byte| byte % 128).collect();
+            used.entry(id).or_insert_with(covered);
+            frame
         }
         1 => {
             let id = used_id(rng, mix, used);
-            used.retain(|&other| other != id);
+            used.remove(&id);
             vec![3, id]
         }
         2 => vec![4, rng.below(fields) as u8],
-        _ => vec![5],
+        3 => vec![5],
+        4 => values::store(rng, fields),
+        _ => {
+            let id = used_id(rng, mix, used);
+            let covered = used.get(&id).map_or(&[][..], Vec::as_slice);
+            values::formula(rng, id, covered, fields)
+        }
     }
 }
 
@@ -212,9 +244,9 @@ fn kind(rng: &mut Rng, mix: &Mix) -> usize {
 }
 
 /// A link number, mostly one not in use.
-fn unused_id(rng: &mut Rng, mix: &Mix, used: &[u8]) -> u8 {
+fn unused_id(rng: &mut Rng, mix: &Mix, used: &Used) -> u8 {
     let ids = 0..mix.ids as u8;
-    let unused: Vec<u8> = ids.filter(|id| !used.contains(id)).collect();
+    let unused: Vec<u8> = ids.filter(|id| !used.contains_key(id)).collect();
     match unused.is_empty() || rng.percent(5) {
         true => rng.below(mix.ids) as u8,
         false => *rng.pick(&unused),
@@ -222,10 +254,13 @@ fn unused_id(rng: &mut Rng, mix: &Mix, used: &[u8]) -> u8 {
 }
 
 /// A link number, mostly one in use.
-fn used_id(rng: &mut Rng, mix: &Mix, used: &[u8]) -> u8 {
+fn used_id(rng: &mut Rng, mix: &Mix, used: &Used) -> u8 {
     match used.is_empty() || rng.percent(5) {
         true => rng.below(mix.ids) as u8,
-        false => *rng.pick(used),
+        false => *used
+            .keys()
+            .nth(rng.below(used.len()))
+            .expect("a link in use"),
     }
 }
 

@@ -1,5 +1,6 @@
 //! "Lines of hexadecimal, one frame a line": from a line to a command.
 
+use super::formula::Formula;
 use super::refusal::Refusal;
 use super::steps::has_bit_6;
 
@@ -16,6 +17,10 @@ pub enum Command {
     Touch(u8),
     /// 05
     Plan,
+    /// 07 f and a value
+    Store(u8, i32),
+    /// 08 id and a formula
+    Formula(u8, Formula),
 }
 
 /// "Digits 0-9 and A-F, two a byte." BadHex: "empty line, odd count, another
@@ -52,7 +57,9 @@ fn bad_hex(offset: usize) -> Refusal {
 }
 
 /// The kinds of frames. BadFrame: "unknown kind, wrong length for the kind,
-/// bit 6 set in a field byte".
+/// bit 6 set in a field byte"; of kind 08 "another length or formula kind".
+/// Numbers of several bytes are "most significant first", the value of kind 07
+/// is in "two's complement".
 pub fn read_frame(frame: &[u8]) -> Result<Command, Refusal> {
     match *frame {
         [1, n] => Ok(Command::Open(n)),
@@ -60,6 +67,15 @@ pub fn read_frame(frame: &[u8]) -> Result<Command, Refusal> {
         [3, id] => Ok(Command::Remove(id)),
         [4, field] => Ok(Command::Touch(field)),
         [5] => Ok(Command::Plan),
+        [7, field, a, b, c, d] => {
+            let value = i32::from_be_bytes([a, b, c, d]);
+            Ok(Command::Store(field, value))
+        }
+        [8, id, 1, a, b, c, d] => {
+            let (p, q) = (u16::from_be_bytes([a, b]), u16::from_be_bytes([c, d]));
+            Ok(Command::Formula(id, Formula::Ratio(p, q)))
+        }
+        [8, id, 2, field] => Ok(Command::Formula(id, Formula::Sum(field))),
         _ => Err(Refusal::BadFrame),
     }
 }

@@ -1,7 +1,8 @@
 //! "Who causes which refusal".
 
 /// The refusals in the order of their numbers; 1 to 11 are "also the order of
-/// checks for a line".
+/// checks for a line", "after Loop come" 13 to 15, of which 14 is "checked before
+/// 13".
 #[derive(Clone, Copy, Debug, PartialEq, Eq)]
 pub enum Refusal {
     /// With the offset in the line that its reply tells.
@@ -17,6 +18,9 @@ pub enum Refusal {
     Conflict,
     Loop,
     TextTooLong,
+    OutOfRange,
+    FieldDriven,
+    BadFormula,
 }
 
 impl Refusal {
@@ -35,6 +39,9 @@ impl Refusal {
             Refusal::Conflict => 10,
             Refusal::Loop => 11,
             Refusal::TextTooLong => 12,
+            Refusal::OutOfRange => 13,
+            Refusal::FieldDriven => 14,
+            Refusal::BadFormula => 15,
         }
     }
 }

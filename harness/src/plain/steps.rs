@@ -1,6 +1,5 @@
 //! "The four steps", the opening, and the checks in front of them.
 
-use super::frame::Command;
 use super::panel::{Item, Link, Panel, Standing};
 use super::refusal::Refusal;
 
@@ -20,19 +19,6 @@ pub enum Reply {
 }
 
 impl Panel {
-    /// Carries out one command.
-    pub fn apply(&mut self, command: &Command) -> Result<Reply, Refusal> {
-        match command {
-            Command::Open(n) => self.open(*n).map(Reply::Moved),
-            Command::Add(id, level, field_bytes) => {
-                self.add(*id, *level, field_bytes).map(Reply::Moved)
-            }
-            Command::Remove(id) => self.remove(*id).map(Reply::Moved),
-            Command::Touch(field) => self.touch(*field).map(Reply::Moved),
-            Command::Plan => self.plan().map(Reply::Plan),
-        }
-    }
-
     /// "At opening field 0 has place 0, and so on." "Opening replies 0."
     pub fn open(&mut self, n: u8) -> Result<u8, Refusal> {
         if self.is_open() {
@@ -62,12 +48,8 @@ impl Panel {
     /// Remove, with its checks.
     pub fn remove(&mut self, id: u8) -> Result<u8, Refusal> {
         self.must_be_open()?;
-        if id > 127 {
-            return Err(Refusal::BadLink);
-        }
-        if !self.links.contains_key(&id) {
-            return Err(Refusal::NoSuchLink);
-        }
+        Panel::must_be_number(id)?;
+        self.must_have_link(id)?;
         let after = self.after_remove(id)?;
         Ok(self.replace_with(after))
     }
@@ -93,7 +75,7 @@ impl Panel {
     }
 
     /// "NotOpen (any other kind before)".
-    fn must_be_open(&self) -> Result<(), Refusal> {
+    pub(super) fn must_be_open(&self) -> Result<(), Refusal> {
         match self.is_open() {
             true => Ok(()),
             false => Err(Refusal::NotOpen),
@@ -101,10 +83,26 @@ impl Panel {
     }
 
     /// "NoSuchField (a field of n or more)".
-    fn must_have_field(&self, field: u8) -> Result<(), Refusal> {
+    pub(super) fn must_have_field(&self, field: u8) -> Result<(), Refusal> {
         match field < self.size() {
             true => Ok(()),
             false => Err(Refusal::NoSuchField),
+        }
+    }
+
+    /// "BadLink (id over 127 in any kind that names a link)".
+    pub(super) fn must_be_number(id: u8) -> Result<(), Refusal> {
+        match id <= 127 {
+            true => Ok(()),
+            false => Err(Refusal::BadLink),
+        }
+    }
+
+    /// "NoSuchLink (removed number not in use)", or one that gets a formula.
+    pub(super) fn must_have_link(&self, id: u8) -> Result<(), Refusal> {
+        match self.links.contains_key(&id) {
+            true => Ok(()),
+            false => Err(Refusal::NoSuchLink),
         }
     }
 

@@ -1,9 +1,11 @@
 //! Runs over lines and whole texts, with the tally.
 
+use super::formula::Formula;
 use super::frame::{hex, read_frame, read_hex};
 use super::panel::{Item, Panel};
 use super::refusal::Refusal;
 use super::steps::{PlanEntry, Reply};
+use std::collections::BTreeMap;
 
 /// "TextTooLong, over 65,535 bytes."
 pub const TEXT_LIMIT: usize = 65_535;
@@ -57,27 +59,32 @@ fn counted(count: u32) -> u32 {
     }
 }
 
-/// A run, line by line: the panel and the tally as the lines so far left them.
+/// A run, line by line: the panel, its values and formulas, and the tally as the
+/// lines so far left them.
 #[derive(Clone, Debug, Default, PartialEq, Eq)]
 pub struct Run {
     pub panel: Panel,
+    /// By field; none while unopened.
+    pub values: Vec<i32>,
+    /// By link number.
+    pub formulas: BTreeMap<u8, Formula>,
     pub tally: Tally,
 }
 
 impl Run {
     /// Treats one line (without its LF) and gives its reply line (without LF).
     pub fn line(&mut self, line: &[u8]) -> String {
-        let result = treat(&mut self.panel, line);
+        let result = self.treat(line);
         self.tally.count_line(result.as_ref().err().copied());
         reply_line(&result)
     }
-}
 
-/// One line against the panel.
-fn treat(panel: &mut Panel, line: &[u8]) -> Result<Reply, Refusal> {
-    let frame = read_hex(line)?;
-    let command = read_frame(&frame)?;
-    panel.apply(&command)
+    /// One line, but for the tally.
+    fn treat(&mut self, line: &[u8]) -> Result<Reply, Refusal> {
+        let frame = read_hex(line)?;
+        let command = read_frame(&frame)?;
+        self.apply(&command)
+    }
 }
 
 /// "Replies: 00 m; for a plan 00 n, then n times field, setter, strength; for
@@ -117,6 +124,14 @@ pub fn lines(text: &[u8]) -> Vec<&[u8]> {
 /// The whole output for a whole text, on an unopened panel with a zero tally.
 pub fn run_text(text: &[u8]) -> Vec<u8> {
     run_text_with(&mut Run::default(), text)
+}
+
+/// The values of the fields after a whole text, on an unopened panel; none where
+/// it is still unopened, and of a text that is too long.
+pub fn values_after(text: &[u8]) -> Vec<i32> {
+    let mut run = Run::default();
+    run_text_with(&mut run, text);
+    run.values
 }
 
 /// The whole output for a whole text, on a lent panel and tally. "No line is

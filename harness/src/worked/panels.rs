@@ -1,10 +1,7 @@
 //! Full panels: 64 fields, up to 128 links, up to eight outputs a link.
 
-use super::Worked;
+use super::{add, push, Lines, Worked};
 use crate::plain::hex;
-
-/// Lines with their replies.
-pub type Lines = Vec<(String, String)>;
 
 /// Every text of this file.
 pub fn all() -> Vec<Worked> {
@@ -17,13 +14,6 @@ pub fn all() -> Vec<Worked> {
         threes_touched(),
         threes_turned(),
     ]
-}
-
-/// A line of an add, its field bytes with bit 7 for outputs.
-fn add(id: u8, level: u8, field_bytes: impl IntoIterator<Item = u8>) -> String {
-    let mut frame = vec![2, id, level];
-    frame.extend(field_bytes);
-    hex(&frame)
 }
 
 /// Field bytes of outputs.
@@ -40,12 +30,6 @@ fn plan(entries: impl IntoIterator<Item = [u8; 3]>) -> String {
 /// The plan right after the opening.
 pub fn plan_of_stays(fields: u8) -> String {
     plan((0..fields).map(|field| [field, 0x80, 16 + field]))
-}
-
-/// Adds lines to others.
-fn push(lines: &mut Lines, more: &[(&str, &str)]) {
-    let owned = |(line, reply): &(&str, &str)| (line.to_string(), reply.to_string());
-    lines.extend(more.iter().map(owned));
 }
 
 /// The opening of 64 fields.

@@ -2,6 +2,9 @@
 //! each, whether it was refused; nothing in it comes from the panel's own
 //! record."
 
+use super::values::{rule, Rule};
+use std::collections::BTreeMap;
+
 /// A link by its number, or the stay of a field.
 #[derive(Clone, Copy, Debug, PartialEq, Eq)]
 pub enum Name {
@@ -23,23 +26,29 @@ pub struct Member {
 pub struct Book {
     links: Vec<Member>,
     stays: Vec<u8>,
+    rules: BTreeMap<u8, Rule>,
 }
 
 impl Book {
     /// "A refused command and a plan change nothing in it. Opening enters the
     /// stays of fields 0 to n - 1, in that order. Add enters the link. Remove
     /// strikes out the link of that number. Touch f moves f's stay to the
-    /// front; the other stays keep their order."
+    /// front; the other stays keep their order." Kind 07 touches too. Beside it
+    /// stand the formulas, which a removal drops.
     pub fn feed(&mut self, frame: &[u8], refused: bool) {
         match *frame {
             _ if refused => {}
             [1, n] => self.stays = (0..n).collect(),
             [2, ..] => self.links.push(link(frame)),
-            [3, id] => self.links.retain(|link| link.name != Name::Link(id)),
-            [4, f] => {
+            [3, id] => {
+                self.links.retain(|link| link.name != Name::Link(id));
+                self.rules.remove(&id);
+            }
+            [4, f] | [7, f, ..] => {
                 self.stays.retain(|&field| field != f);
                 self.stays.insert(0, f);
             }
+            [8, id, ..] => drop(self.rules.insert(id, rule(frame))),
             _ => {}
         }
     }
@@ -69,6 +78,11 @@ impl Book {
         let member = place.map(|place| self.stay(place));
         let found = member.or(link.cloned());
         found.unwrap_or_else(|| panic!("{name:?} is not in force"))
+    }
+
+    /// The formula of a link, if it has one.
+    pub fn rule(&self, id: u8) -> Option<Rule> {
+        self.rules.get(&id).copied()
     }
 
     /// The links in force.

@@ -3,3 +3,4 @@
 pub mod book;
 pub mod choices;
 pub mod held;
+pub mod values;
