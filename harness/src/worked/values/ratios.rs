@@ -45,8 +45,8 @@ pub fn sample() -> Worked {
 
 /// The same with the volume of a breath of four seconds (field 2), 4 to 1 from
 /// airflow per second. A volume of 2,400 turns both links: 600 a second, 36,000 a
-/// minute. 500 a second turns only the second link back, since the stay of 0,
-/// which is not the weakest any more, waits: 2,000 and 30,000.
+/// minute. 500 a second turns link 1 back to field 2 and leaves link 0 at field 0:
+/// 2,000 and 30,000.
 fn breath() -> Valued {
     Valued::new("breath volume")
         .part(
