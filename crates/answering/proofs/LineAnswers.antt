@@ -2,7 +2,7 @@
 -- command; so the step of a line, once it is taken, does what the line asks (`did`). Assumes nothing.
 use mathlib.Core.Path.{_≡_, refl, sym, ap, ap₂, subst, _∙_}
 use mathlib.Core.Bool.{Bool, true, false, cond}
-use mathlib.Core.List.{List, append-nil}
+use mathlib.Core.List.{List, _∷_, append-nil}
 use mathlib.Core.Logic.{inl, inr}
 use Prim.Native.Nat.{ℕ, _%_, _<_}
 use native.Mathlib.Nat.{mod-eq-of-lt}
@@ -11,6 +11,7 @@ use lib.ListN.{length}
 use Rattle.fieldset.proofs.Numbers.{clash}
 use lib.IntN.{ℤ}
 use Rattle.panel.specs.declared.Panel.{Panel}
+use Rattle.panel.specs.declared.Reply.{Reply}
 use Rattle.panel.specs.declared.Step.{Step}
 use Rattle.panel.specs.Answers.{isRefusal, replyBytes, rowsLength}
 use Rattle.panel.specs.Outcomes.{Decides}
@@ -24,18 +25,17 @@ use Rattle.formulas.specs.declared.Formula.the-variants.{None}
 use Rattle.formulas.specs.declared.Formulas.{Formulas}
 use Rattle.sheet.specs.declared.Sheet.{Sheet}
 use Rattle.sheet.specs.Sheets.{sheetOf, formulaAt, withFormula}
-use Rattle.sheet.specs.Commands.{solving, entering, relating, performed}
+use Rattle.sheet.specs.Commands.{solving, entering, relating}
 use Rattle.sheet.specs.Legal.{LegalSheet}
 use Rattle.sheet.proofs.Legal.{legal-sheet, entered-formulas}
 use Rattle.entering.specs.Entered.{Entered}
 use Rattle.frames.specs.declared.Command.{Command}
 use Rattle.frames.specs.declared.Command.the-variants.{Open, Add, Remove, Touch, Plan, Enter, Relate, Refused}
-use Rattle.frames.specs.Frames.{frameOf, commandBytes, commandOf, answerTo, answered, commandAnswer, lineAnswer}
-use Rattle.frames.proofs.Answers.{word-at, formula-at}
+use Rattle.frames.specs.Frames.{frameOf, wordOf, formulaIn, commandBytes, commandOf, answered, commandAnswer, lineAnswer}
 use Rattle.replies.specs.Replies.{wholeReply}
 use Rattle.replies.proofs.Replies.{reply-short}
-use Rattle.deciding.specs.Lines.{formulaAfter, LineStep}
-use Rattle.deciding.proofs.Arms.{formula-kept, solved-step}
+use Rattle.deciding.specs.Lines.{formulaAfter, setsFormula, LineStep}
+use Rattle.deciding.proofs.Arms.{formula-kept, given-kept, solved-step}
 use Rattle.answering.proofs.Going.{Did}
 
 -- what its command is answered is what a line is answered
@@ -48,8 +48,8 @@ line-answer q line k fields read = go k ∙ ap (λ (x : List ℕ). answered q x 
   go (Remove id) = refl
   go (Touch f) = refl
   go Plan = refl
-  go (Enter f n) = ap (λ (x : ℕ). answerTo (performed q (entering f (valueOf x)))) (sym (word-at n))
-  go (Relate id formula) = ap (λ (x : Formula). answerTo (performed q (relating id x))) (sym (formula-at formula))
+  go (Enter f b) = refl
+  go (Relate id form) = refl
   go (Refused r) = refl
 
 pub answer-legal : (q : Sheet) (k : Command) (fields : List ℕ) → LegalSheet q → LegalSheet (commandAnswer q k fields .state)
@@ -58,8 +58,8 @@ answer-legal q (Add id level) fields h = legal-sheet q h (solving (adding id lev
 answer-legal q (Remove id) fields h = legal-sheet q h (solving (removing id))
 answer-legal q (Touch f) fields h = legal-sheet q h (solving (touching f))
 answer-legal q Plan fields h = legal-sheet q h (solving planning)
-answer-legal q (Enter f n) fields h = legal-sheet q h (entering f (valueOf n))
-answer-legal q (Relate id formula) fields h = legal-sheet q h (relating id formula)
+answer-legal q (Enter f b) fields h = legal-sheet q h (entering f (valueOf (wordOf (b ∷ fields))))
+answer-legal q (Relate id form) fields h = legal-sheet q h (relating id (formulaIn (form ∷ fields)))
 answer-legal q (Refused r) fields h = h
 
 -- ---- the steps that are decided beside the others
@@ -78,13 +78,13 @@ removed-step s id fields path rows full step d =
     solved-step s (id % 128) fields path rows full (Remove id) (removing id) step refl refl
     (λ e. ap (λ (k : ℕ). withFormula (s .formulas) k None) (mod-eq-of-lt (removed-number (s .panel) id e))) d
 
-pub entered-step : (s : Sheet) (f n : ℕ) (v : ℤ) → v ≡ valueOf n → (fields path rows : List ℕ) → length rows ≡ rowsLength
-    → (after : List ℤ) (step : Step) → Entered s f v path after step → LineStep s 0 (Enter f n) fields path rows after step
-entered-step s f n v e fields path rows full after step d =
-    let d′ : Entered s f (valueOf n) path after step = subst (λ (x : ℤ). Entered s f x path after step) e d in
+pub entered-step : (s : Sheet) (f b : ℕ) (fields path rows : List ℕ) (v : ℤ) → v ≡ valueOf (wordOf (b ∷ fields)) → length rows ≡ rowsLength
+    → (after : List ℤ) (step : Step) → Entered s f v path after step → LineStep s 0 (Enter f b) fields path rows after step
+entered-step s f b fields path rows v e full after step d =
+    let d′ : Entered s f (valueOf (wordOf (b ∷ fields))) path after step = subst (λ (x : ℤ). Entered s f x path after step) e d in
     record {
       takes = d′ .takes;
-      formulas = either (isRefusal (replyBytes (step .reply))) ∙ sym (entered-formulas s f (valueOf n));
+      formulas = either (isRefusal (replyBytes (step .reply))) ∙ sym (entered-formulas s f (valueOf (wordOf (b ∷ fields))));
       values = d′ .values;
       reply = append-nil (replyBytes (step .reply)) ∙ d′ .reply;
       rest = omega arith;
@@ -95,12 +95,24 @@ entered-step s f n v e fields path rows full after step d =
     either true = formula-kept (s .formulas) 0
     either false = formula-kept (s .formulas) 0
 
+-- ---- formulas
+
+-- where the command changes none, the formulas are as they were
+pub formulas-same : (s : Sheet) (k : ℕ) (c : Command) (fields : List ℕ) (r : Reply) → setsFormula c ≡ false
+    → s .formulas ≡ withFormula (s .formulas) k (formulaAfter c fields r (formulaAt (s .formulas) k))
+formulas-same s k c fields r e =
+    sym (ap (withFormula (s .formulas) k) (either (isRefusal (replyBytes r)) (given-kept c fields (formulaAt (s .formulas) k) e)) ∙ formula-kept (s .formulas) k)
+  where
+    either : {old given : Formula} (b : Bool) → old ≡ given → cond b old given ≡ old
+    either true e = refl
+    either false e = sym e
+
 -- ---- what a line does
 
 -- the formulas with the one that the command leaves, and the panel that has taken the step, are the answer's
 pub did : (q : Sheet) (line : List ℕ) (c : Command) (fields : List ℕ) → commandBytes c fields ≡ frameOf line → (k : ℕ) (path rows : List ℕ) (values : List ℤ) (s : Step)
     → LineStep q k c fields path rows values s → (p : Panel) → p ≡ commandAnswer q c fields .state .panel
-    → (formulas : Formulas) → formulas ≡ withFormula (q .formulas) k (formulaAfter c (s .reply) (formulaAt (q .formulas) k)) → LegalSheet q
+    → (formulas : Formulas) → formulas ≡ withFormula (q .formulas) k (formulaAfter c fields (s .reply) (formulaAt (q .formulas) k)) → LegalSheet q
     → Did lineAnswer LegalSheet q line (sheetOf p formulas values) (wholeReply c (s .reply) rows)
 did q line c fields read k path rows values s d p e formulas given h =
     let same : sheetOf p formulas values ≡ commandAnswer q c fields .state =

@@ -1,9 +1,11 @@
 // The answers to the lines of a text, one after the other.
 use deciding::decide_line;
 use deciding::rule_after;
+use deciding::sets_formula;
 use entering::enter;
 use fieldset::wide;
 use frames::Command;
+use frames::value_of;
 use panel::ROWS;
 use removing::remove;
 use replies::LONGEST;
@@ -15,7 +17,6 @@ use tables::stay_levels;
 use taking::reverse;
 use tally::Tally;
 use tally::tallied_line;
-use values::of_bits;
 ghost use Prim.Native.Nat.{_^_, _≤_, _<_};
 ghost use lib.ListN.{length, drop};
 ghost use Rattle.sheet.specs.Legal.{LegalSheet};
@@ -63,15 +64,20 @@ pub fn answer_lines(
         let command = line.command;
         let k = wide(frames::number_of(command));
         let old = q.links[k];
-        // a removal scans all links, and a value that is entered needs all formulas: they stand here, since in decide_line they would have the panel
-        // copied for every line
+        // a removal scans all links, and a value that is entered needs all formulas: they stand here, since in decide_line they would have the panel or
+        // the formulas copied for every line
         let step = match command {
             Command::Remove(id) => remove(q, old, &levels, &others, &reads, id, &mut path),
-            Command::Enter(f, n) => {
-                let v = of_bits(n);
-                enter(q, old, &levels, &others, &reads, formulas, f, v, &mut path, &mut values)
+            _ => {
+                let decided = decide_line(q, old, &levels, &others, &reads, line, &mut path, &mut rows);
+                match command {
+                    Command::Enter(f, b) => {
+                        let v = value_of(line, b);
+                        enter(q, old, &levels, &others, &reads, formulas, decided, &path, f, v, &mut values)
+                    }
+                    _ => decided,
+                }
             }
-            _ => decide_line(q, old, &levels, &others, &reads, line, &mut path, &mut rows),
         };
         // the panel takes the step
         let place = step.place;
@@ -85,8 +91,10 @@ pub fn answer_lines(
             q = reverse(q, step, &path, &mut levels, &mut others, &mut reads);
         }
         let reply = step.reply;
-        let rule = rule_after(command, reply, formulas.of[k]);
-        formulas.of[k] = rule;
+        if sets_formula(command) {
+            let rule = rule_after(line, reply, formulas.of[k]);
+            formulas.of[k] = rule;
+        }
         n = put_reply(out, n, command, reply, &rows[..ROWS]);
         u = tallied_line(u, refusal_of(reply));
         at = lines::behind(text, end);

@@ -1,15 +1,17 @@
 -- The step of a line, by its command. Assumes nothing.
 use mathlib.Core.Path.{_≡_, refl, sym, ap, ap₂, _∙_, subst}
 use mathlib.Core.Bool.{Bool, true, false, cond}
-use mathlib.Core.Logic.{_⊎_, inl, inr, ⊎-elim}
-use mathlib.Core.List.{List, _++_, append-nil}
+use mathlib.Core.Logic.{_⊎_, inl, inr}
+use mathlib.Core.List.{List, [], _∷_, _++_, append-nil}
 use Prim.Native.Nat.{ℕ, _+_, _-_, _%_, _≤_}
 use native.Mathlib.Nat.{mod-eq-of-lt}
 use native.Mathlib.Omega.{arith}
 use lib.ListN.{length, take, drop, length-drop, take-append-drop}
-use borrow.Author.Tests.{ltb-false}
+use borrow.Author.Tests.{ltb-false, eq-eqb}
+use lib.Dec.{eqb}
 use lib.Seq.{set-getD, sets-eq, length-sets, take-at, take-all}
 use denote.Enum.Declared.{tagOf}
+use Rattle.fieldset.proofs.Numbers.{clash}
 use Rattle.panel.specs.declared.Link.{Link}
 use Rattle.panel.specs.declared.Panel.{Panel}
 use Rattle.panel.specs.declared.Refusal.{Refusal}
@@ -19,7 +21,7 @@ use Rattle.panel.specs.declared.Step.{Step}
 use Rattle.panel.specs.Items.{linkAt}
 use Rattle.panel.specs.Answers.{replyBytes, planRest, rowsLength, isRefusal}
 use Rattle.panel.specs.Commands as panel
-use Rattle.panel.specs.Commands.{adding, planning, checkReply}
+use Rattle.panel.specs.Commands.{adding, touching, planning, checkReply}
 use Rattle.panel.specs.Outcomes.{unchanged, Takes, Decides, Plans}
 use Rattle.panel.proofs.Outcomes.{takes-size}
 use Rattle.planning.proofs.Replies.{plan-keeps}
@@ -28,7 +30,7 @@ use Rattle.formulas.specs.declared.Formula.the-variants.{None}
 use Rattle.formulas.specs.declared.Formulas.{Formulas}
 use Rattle.formulas.specs.declared.Rule.{Rule}
 use Rattle.sheet.specs.declared.Sheet.{Sheet}
-use Rattle.sheet.specs.Sheets.{formulaAt, withFormula}
+use Rattle.sheet.specs.Sheets.{sheetOf, formulaAt, withFormula}
 use Rattle.sheet.specs.Commands.{solving, formulasAfter, formulaChecks, performed}
 use Rattle.sheet.proofs.Legal.{reply-passes}
 use Rattle.frames.specs.declared.Command.{Command}
@@ -36,11 +38,11 @@ use Rattle.frames.specs.declared.Command.the-variants.{Open, Add, Remove, Touch
 use Rattle.frames.specs.declared.Line.{Line}
 use Rattle.frames.proofs.Command.{the-type}
 use Rattle.frames.specs.Texts.{Answered}
-use Rattle.frames.specs.Frames.{answerTo, commandAnswer}
-use Rattle.frames.specs.Reading.{LineRead}
-use Rattle.frames.proofs.Reading.{read-full, read-short, add-reaches}
+use Rattle.frames.specs.Frames.{formulaIn, commandBytes, numberOf, answerTo, commandAnswer}
+use Rattle.frames.specs.Reading.{tailOf, LineRead}
+use Rattle.frames.proofs.Reading.{long-add, read-full, read-short, tail-reaches}
 use Rattle.replies.specs.Replies.{restOf}
-use Rattle.deciding.specs.Lines.{Framed, formulaGiven, formulaAfter, LineStep, PanelStep, DecidedLine}
+use Rattle.deciding.specs.Lines.{Framed, formulaGiven, formulaAfter, setsFormula, touchedField, LineStep, PanelStep, TouchStep, DecidedLine}
 
 -- ---- formulas
 
@@ -49,26 +51,66 @@ pub formula-kept : (formulas : Formulas) (k : ℕ) → withFormula formulas k (f
 formula-kept formulas k = ap (λ (of : List Rule). record { of = of }) (set-getD (formulas .of) k (record { formula = None }))
 
 -- the formula after a reply, by its case
-pub after-refused : (c : Command) (r : Reply) (x : Refusal) (old : Formula) → r ≡ Refusing x → old ≡ formulaAfter c r old
-after-refused c r x old e = sym (ap (λ (r : Reply). formulaAfter c r old) e)
+pub after-refused : (c : Command) (tail : List ℕ) (r : Reply) (x : Refusal) (old : Formula) → r ≡ Refusing x → old ≡ formulaAfter c tail r old
+after-refused c tail r x old e = sym (ap (λ (r : Reply). formulaAfter c tail r old) e)
 
-pub after-accepted : (c : Command) (r : Reply) (m : ℕ) (old : Formula) → r ≡ Accepted m → formulaGiven c old ≡ formulaAfter c r old
-after-accepted c r m old e = sym (ap (λ (r : Reply). formulaAfter c r old) e)
+pub after-accepted : (c : Command) (tail : List ℕ) (r : Reply) (m : ℕ) (old : Formula) → r ≡ Accepted m → formulaGiven c tail old ≡ formulaAfter c tail r old
+after-accepted c tail r m old e = sym (ap (λ (r : Reply). formulaAfter c tail r old) e)
 
--- only a removal and a formula that is given change one, by the command's tag
-pub given-kept : (c : Command) (old : Formula)
-    → (tagOf the-type c ≡ 0) ⊎ ((tagOf the-type c ≡ 1) ⊎ ((tagOf the-type c ≡ 3) ⊎ ((tagOf the-type c ≡ 4) ⊎ ((tagOf the-type c ≡ 5) ⊎ (tagOf the-type c ≡ 7)))))
-    → old ≡ formulaGiven c old
-given-kept (Open n) old h = refl
-given-kept (Add id level) old h = refl
-given-kept (Remove id) old h =
-    absurd (⊎-elim (λ e. omega arith) (⊎-elim (λ e. omega arith) (⊎-elim (λ e. omega arith) (⊎-elim (λ e. omega arith) (⊎-elim (λ e. omega arith) (λ e. omega arith))))) h)
-given-kept (Touch f) old h = refl
-given-kept Plan old h = refl
-given-kept (Enter f n) old h = refl
-given-kept (Relate id formula) old h =
-    absurd (⊎-elim (λ e. omega arith) (⊎-elim (λ e. omega arith) (⊎-elim (λ e. omega arith) (⊎-elim (λ e. omega arith) (⊎-elim (λ e. omega arith) (λ e. omega arith))))) h)
-given-kept (Refused x) old h = refl
+-- ---- tags, as the last arm of a match tells them
+
+abbrev pub OneOf : List ℕ → ℕ → Type 0
+OneOf [] tag = ⊥
+OneOf (a ∷ []) tag = tag ≡ a
+OneOf (a ∷ b ∷ cs) tag = (tag ≡ a) ⊎ OneOf (b ∷ cs) tag
+
+abbrev isAmong : ℕ → List ℕ → Bool
+isAmong tag [] = false
+isAmong tag (a ∷ cs) = cond (eqb tag a) true (isAmong tag cs)
+
+-- a tag that is none of a list
+not-among : (tag : ℕ) (tags : List ℕ) → isAmong tag tags ≡ false → OneOf tags tag → ⊥
+not-among tag [] e h = h
+not-among tag (a ∷ []) e h = clash (rw (eq-eqb tag a h) refl) e
+not-among tag (a ∷ b ∷ cs) e (inl h) = clash (rw (eq-eqb tag a h) refl) e
+not-among tag (a ∷ b ∷ cs) e (inr h) = go (eqb tag a) e (not-among tag (b ∷ cs))
+  where
+    go : (x : Bool) → cond x true (isAmong tag (b ∷ cs)) ≡ false → (isAmong tag (b ∷ cs) ≡ false → OneOf (b ∷ cs) tag → ⊥) → ⊥
+    go true e ih = clash refl e
+    go false e ih = ih e h
+
+-- ---- what the commands do, by their tags
+
+-- only a removal and a formula that is given change one
+pub given-kept : (c : Command) (tail : List ℕ) (old : Formula) → setsFormula c ≡ false → old ≡ formulaGiven c tail old
+given-kept (Open n) tail old h = refl
+given-kept (Add id level) tail old h = refl
+given-kept (Remove id) tail old h = absurd (clash refl h)
+given-kept (Touch f) tail old h = refl
+given-kept Plan tail old h = refl
+given-kept (Enter f b) tail old h = refl
+given-kept (Relate id form) tail old h = absurd (clash refl h)
+given-kept (Refused x) tail old h = refl
+
+pub sets-none : (c : Command) → OneOf (0 ∷ 1 ∷ 3 ∷ 4 ∷ 5 ∷ 7 ∷ []) (tagOf the-type c) → false ≡ setsFormula c
+sets-none (Open n) h = refl
+sets-none (Add id level) h = refl
+sets-none (Remove id) h = absurd (not-among 2 (0 ∷ 1 ∷ 3 ∷ 4 ∷ 5 ∷ 7 ∷ []) refl h)
+sets-none (Touch f) h = refl
+sets-none Plan h = refl
+sets-none (Enter f b) h = refl
+sets-none (Relate id form) h = absurd (not-among 6 (0 ∷ 1 ∷ 3 ∷ 4 ∷ 5 ∷ 7 ∷ []) refl h)
+sets-none (Refused x) h = refl
+
+pub touches-none : (c : Command) → OneOf (0 ∷ 1 ∷ 2 ∷ 4 ∷ 6 ∷ 7 ∷ []) (tagOf the-type c) → 0 ≡ touchedField c
+touches-none (Open n) h = refl
+touches-none (Add id level) h = refl
+touches-none (Remove id) h = refl
+touches-none (Touch f) h = absurd (not-among 3 (0 ∷ 1 ∷ 2 ∷ 4 ∷ 6 ∷ 7 ∷ []) refl h)
+touches-none Plan h = refl
+touches-none (Enter f b) h = absurd (not-among 5 (0 ∷ 1 ∷ 2 ∷ 4 ∷ 6 ∷ 7 ∷ []) refl h)
+touches-none (Relate id form) h = refl
+touches-none (Refused x) h = refl
 
 -- the formulas after a command: a refusal leaves them
 pub formula-after : (formulas : Formulas) (k : ℕ) (given : Formula) (after : Formulas) (b : Bool) → (b ≡ false → withFormula formulas k given ≡ after)
@@ -78,17 +120,17 @@ formula-after formulas k given after false h = h refl
 
 -- ---- steps
 
-module _ (s : Sheet) (k : ℕ) (fields path rows : List ℕ) where
+module _ (s : Sheet) (k : ℕ) (tail path rows : List ℕ) where
   -- a command of document 01, whose reply has no rows
   pub solved-step : length rows ≡ rowsLength → (command : Command) (c : panel.Command) (step : Step)
-      → commandAnswer s command fields ≡ answerTo (performed s (solving c)) → restOf command (step .reply) ≡ 0
-      → (isRefusal (panel.performed (s .panel) c .reply) ≡ false → withFormula (s .formulas) k (formulaGiven command (formulaAt (s .formulas) k)) ≡ formulasAfter (s .formulas) c)
-      → Decides (s .panel) k c path step → LineStep s k command fields path rows (s .values) step
+      → commandAnswer s command tail ≡ answerTo (performed s (solving c)) → restOf command (step .reply) ≡ 0
+      → (isRefusal (panel.performed (s .panel) c .reply) ≡ false → withFormula (s .formulas) k (formulaGiven command tail (formulaAt (s .formulas) k)) ≡ formulasAfter (s .formulas) c)
+      → Decides (s .panel) k c path step → LineStep s k command tail path rows (s .values) step
   solved-step full command c step e z given d = record {
     takes = subst (λ (a : Answered Sheet). Takes (s .panel) k path step (a .state .panel)) (sym e) (d .takes);
     formulas =
-        ap (λ (b : List ℕ). withFormula (s .formulas) k (cond (isRefusal b) (formulaAt (s .formulas) k) (formulaGiven command (formulaAt (s .formulas) k)))) (d .reply)
-        ∙ formula-after (s .formulas) k (formulaGiven command (formulaAt (s .formulas) k)) (formulasAfter (s .formulas) c) (isRefusal (panel.performed (s .panel) c .reply)) given
+        ap (λ (b : List ℕ). withFormula (s .formulas) k (cond (isRefusal b) (formulaAt (s .formulas) k) (formulaGiven command tail (formulaAt (s .formulas) k)))) (d .reply)
+        ∙ formula-after (s .formulas) k (formulaGiven command tail (formulaAt (s .formulas) k)) (formulasAfter (s .formulas) c) (isRefusal (panel.performed (s .panel) c .reply)) given
         ∙ ap (λ (a : Answered Sheet). a .state .formulas) (sym e);
     values = ap (λ (a : Answered Sheet). a .state .values) (sym e);
     reply = rw z (append-nil (replyBytes (step .reply))) ∙ d .reply ∙ ap (λ (a : Answered Sheet). a .reply) (sym e);
@@ -98,7 +140,7 @@ module _ (s : Sheet) (k : ℕ) (fields path rows : List ℕ) where
 
   module _ (long : length path ≡ 64) (named : Link) (same : named ≡ linkAt (s .panel .links) k) where
     pub refused-step : length rows ≡ rowsLength → (x : Refusal)
-        → LineStep s k (Refused x) fields path rows (s .values) (unchanged (s .panel .size) (s .panel .place) named (Refusing x))
+        → LineStep s k (Refused x) tail path rows (s .values) (unchanged (s .panel .size) (s .panel .place) named (Refusing x))
     refused-step full x = record {
       takes = takes-size (s .panel) k named (Refusing x) same path long (s .panel .size) (s .panel) refl;
       formulas = formula-kept (s .formulas) k;
@@ -109,9 +151,10 @@ module _ (s : Sheet) (k : ℕ) (fields path rows : List ℕ) where
     }
 
     -- a formula, which is put under the remainder of its number
-    pub relate-step : length rows ≡ rowsLength → (id : ℕ) (formula : Formula) (r : Reply) → replyBytes r ≡ checkReply (formulaChecks (s .panel) id formula)
-        → k ≡ id % 128 → LineStep s k (Relate id formula) fields path rows (s .values) (unchanged (s .panel .size) (s .panel .place) named r)
-    relate-step full id formula r told number =
+    pub relate-step : length rows ≡ rowsLength → (id form : ℕ) (r : Reply) → replyBytes r ≡ checkReply (formulaChecks (s .panel) id (formulaIn (form ∷ tail)))
+        → k ≡ id % 128 → LineStep s k (Relate id form) tail path rows (s .values) (unchanged (s .panel .size) (s .panel .place) named r)
+    relate-step full id form r told number =
+        let formula : Formula = formulaIn (form ∷ tail) in
         let reply : List ℕ = checkReply (formulaChecks (s .panel) id formula) in
         record {
           takes = takes-size (s .panel) k named r same path long (s .panel .size) (s .panel) refl;
@@ -127,7 +170,7 @@ module _ (s : Sheet) (k : ℕ) (fields path rows : List ℕ) where
         }
 
     pub plan-step : (r : Reply) (before : List ℕ) → length before ≡ rowsLength → Plans (s .panel) r before rows
-        → LineStep s k Plan fields path rows (s .values) (unchanged (s .panel .size) (s .panel .place) named r)
+        → LineStep s k Plan tail path rows (s .values) (unchanged (s .panel .size) (s .panel .place) named r)
     plan-step r before size g =
         let whole : List ℕ = panel.performed (s .panel) planning .reply in
         let fits : 0 + length (drop 2 whole) ≤ length before = omega (arith, g .length-rows, g .few) in
@@ -156,25 +199,39 @@ pub add-tail : (p : Panel) (k id level : ℕ) (b path : List ℕ) (s : Step) →
 add-tail p k id level b path s d = rw (take-all (length b - 3) (drop 3 b) (omega (arith, length-drop 3 b))) at d
 
 pub framed : (s : List ℕ) (r : Line) → LineRead s r → Framed r
-framed s r h = record { short = read-short s r h; full = read-full s r h; reaches = λ id level e. add-reaches s r id level h e }
+framed s r h = record {
+  short = read-short s r h;
+  full = read-full s r h;
+  reaches = λ id level e.
+      tail-reaches s r 0x02 id level (omega arith) h (ap (λ (c : Command). commandBytes c (tailOf r)) e) (long-add level);
+}
 
--- the step of a line that is no removal and enters no value, by its command's tag
-abbrev Others : ℕ → Type 0
-Others tag = (tag ≡ 0) ⊎ ((tag ≡ 1) ⊎ ((tag ≡ 3) ⊎ ((tag ≡ 4) ⊎ ((tag ≡ 6) ⊎ (tag ≡ 7)))))
+-- a touch, or a value that is entered
+pub touched-step : (p : Panel) (k : ℕ) (named : Link) (tail path rows : List ℕ) (s : Step) (c : Command) → OneOf (3 ∷ 5 ∷ []) (tagOf the-type c)
+    → length rows ≡ rowsLength → Decides p k (touching (touchedField c)) path s → DecidedLine p k named tail path rows s c
+touched-step p k named tail path rows s (Open n) h full d = absurd (not-among 0 (3 ∷ 5 ∷ []) refl h)
+touched-step p k named tail path rows s (Add id level) h full d = absurd (not-among 1 (3 ∷ 5 ∷ []) refl h)
+touched-step p k named tail path rows s (Remove id) h full d = absurd (not-among 2 (3 ∷ 5 ∷ []) refl h)
+touched-step p k named tail path rows s (Touch f) h full d =
+    λ formulas values. solved-step (sheetOf p formulas values) k tail path rows full (Touch f) (touching f) s refl refl (λ a. formula-kept formulas k) d
+touched-step p k named tail path rows s Plan h full d = absurd (not-among 4 (3 ∷ 5 ∷ []) refl h)
+touched-step p k named tail path rows s (Enter f b) h full d = record { decides = d; rows-full = full }
+touched-step p k named tail path rows s (Relate id form) h full d = absurd (not-among 6 (3 ∷ 5 ∷ []) refl h)
+touched-step p k named tail path rows s (Refused x) h full d = absurd (not-among 7 (3 ∷ 5 ∷ []) refl h)
 
-not-others : (tag : ℕ) → (tag ≡ 2) ⊎ (tag ≡ 5) → Others tag → ⊥
-not-others tag (inl t) h =
-    ⊎-elim (λ e. omega arith) (⊎-elim (λ e. omega arith) (⊎-elim (λ e. omega arith) (⊎-elim (λ e. omega arith) (⊎-elim (λ e. omega arith) (λ e. omega arith))))) h
-not-others tag (inr t) h =
-    ⊎-elim (λ e. omega arith) (⊎-elim (λ e. omega arith) (⊎-elim (λ e. omega arith) (⊎-elim (λ e. omega arith) (⊎-elim (λ e. omega arith) (λ e. omega arith))))) h
+pub entered-touch : (p : Panel) (named : Link) (tail path rows : List ℕ) (s : Step) (c : Command) (f b : ℕ) → c ≡ Enter f b
+    → DecidedLine p (numberOf c) named tail path rows s c → TouchStep p 0 f path rows s
+entered-touch p named tail path rows s c f b e d = subst (λ (x : Command). DecidedLine p (numberOf x) named tail path rows s x) e d
 
-pub decided-step : (p : Panel) (k : ℕ) (named : Link) (fields path rows : List ℕ) (s : Step) (c : Command) → Others (tagOf the-type c)
-    → DecidedLine p k named fields path rows s c → PanelStep p k c fields path rows s
-decided-step p k named fields path rows s (Open n) h d = d
-decided-step p k named fields path rows s (Add id level) h d = d
-decided-step p k named fields path rows s (Remove id) h d = absurd (not-others 2 (inl refl) h)
-decided-step p k named fields path rows s (Touch f) h d = d
-decided-step p k named fields path rows s Plan h d = d
-decided-step p k named fields path rows s (Enter f n) h d = absurd (not-others 5 (inr refl) h)
-decided-step p k named fields path rows s (Relate id formula) h d = d
-decided-step p k named fields path rows s (Refused x) h d = d
+-- the step of a line that is no removal and enters no value
+pub decided-step : (p : Panel) (k : ℕ) (named : Link) (tail path rows : List ℕ) (s : Step) (c : Command)
+    → OneOf (0 ∷ 1 ∷ 3 ∷ 4 ∷ 5 ∷ 6 ∷ 7 ∷ []) (tagOf the-type c) → OneOf (0 ∷ 1 ∷ 2 ∷ 3 ∷ 4 ∷ 6 ∷ 7 ∷ []) (tagOf the-type c)
+    → DecidedLine p k named tail path rows s c → PanelStep p k c tail path rows s
+decided-step p k named tail path rows s (Open n) h g d = d
+decided-step p k named tail path rows s (Add id level) h g d = d
+decided-step p k named tail path rows s (Remove id) h g d = absurd (not-among 2 (0 ∷ 1 ∷ 3 ∷ 4 ∷ 5 ∷ 6 ∷ 7 ∷ []) refl h)
+decided-step p k named tail path rows s (Touch f) h g d = d
+decided-step p k named tail path rows s Plan h g d = d
+decided-step p k named tail path rows s (Enter f b) h g d = absurd (not-among 5 (0 ∷ 1 ∷ 2 ∷ 3 ∷ 4 ∷ 6 ∷ 7 ∷ []) refl g)
+decided-step p k named tail path rows s (Relate id form) h g d = d
+decided-step p k named tail path rows s (Refused x) h g d = d

@@ -3,6 +3,7 @@ use formulas::Formula;
 use formulas::Rule;
 use frames::Command;
 use frames::Line;
+use frames::formula_of;
 use panel::Link;
 use panel::Panel;
 use panel::ROWS;
@@ -18,7 +19,8 @@ ghost use Rattle.panel.specs.Outcomes.{unchanged};
 ghost use Rattle.panel.specs.Legal.{Legal};
 ghost use Rattle.tables.specs.Tables.{Tabled};
 ghost use Rattle.frames.specs.Frames.{numberOf};
-ghost use Rattle.deciding.specs.Lines.{formulaAfter, fieldBytesOf, Framed, DecidedLine};
+ghost use Rattle.frames.specs.Reading.{tailOf};
+ghost use Rattle.deciding.specs.Lines.{Framed, setsFormula, formulaAfter, touchedField, DecidedLine};
 
 // The step of a line that leaves the panel as it is.
 fn keep(p: Panel, named: Link, reply: Reply) -> Step
@@ -28,23 +30,50 @@ fn keep(p: Panel, named: Link, reply: Reply) -> Step
     unchanged(p.size, &place, named, reply)
 }
 
-// What a command and its reply leave of the formula of the link that the command names.
-pub fn rule_after(command: Command, reply: Reply, old: Rule) -> Rule
-    ensures { λ r. ⌜ r .formula ≡ formulaAfter command reply (old .formula) ⌝ }
+// Whether a command may change the formula of the link that it names.
+pub fn sets_formula(command: Command) -> bool
+    ensures { λ r. ⌜ r ≡ setsFormula command ⌝ }
 {
+    match command {
+        Command::Remove(_) => true,
+        Command::Relate(_, _) => true,
+        _ => false,
+    }
+}
+
+// What a line and its reply leave of the formula of the link that its command names.
+pub fn rule_after(line: Line, reply: Reply, old: Rule) -> Rule
+    requires { ⌜ Framed line ⌝ }
+    ensures { λ r. ⌜ r .formula ≡ formulaAfter (line .command) (tailOf line) reply (old .formula) ⌝ }
+{
+    let command = line.command;
     match reply {
         Reply::Refused(_) => old,
         Reply::Accepted(_) => match command {
             Command::Remove(_) => Rule {
                 formula: Formula::None,
             },
-            Command::Relate(_, formula) => Rule { formula: formula },
+            Command::Relate(_, form) => {
+                let formula = formula_of(line, form);
+                Rule { formula: formula }
+            }
             _ => old,
         },
     }
 }
 
-// The step of a line by its command, but for a removal and a value that is entered; `named` is the link of the number that the command names.
+// The field that a command touches.
+fn touched(command: Command) -> u8
+    ensures { λ r. ⌜ r ≡ touchedField command ⌝ }
+{
+    match command {
+        Command::Touch(f) => f,
+        Command::Enter(f, _) => f,
+        _ => 0,
+    }
+}
+
+// The step of a line by its command, but for a removal; for a value that is entered, the step of its touch. `named` is the link of the number that the command names.
 pub fn decide_line(
     p: Panel,
     named: Link,
@@ -57,7 +86,7 @@ pub fn decide_line(
 ) -> Step
     requires { ⌜ Legal p × Tabled p (now levels) (now others) (now reads) × (named ≡ linkAt (p .links) (numberOf (line .command))) ⌝ }
     requires { ⌜ Framed line × (length (now path) ≡ 64) × (length (now rows) ≡ rowsLength) ⌝ }
-    ensures { λ r. ⌜ DecidedLine p (numberOf (line .command)) named (fieldBytesOf line) (now (path .exit)) (now (rows .exit)) r (line .command) ⌝ }
+    ensures { λ r. ⌜ DecidedLine p (numberOf (line .command)) named (tailOf line) (now (path .exit)) (now (rows .exit)) r (line .command) ⌝ }
 {
     let command = line.command;
     match command {
@@ -79,16 +108,16 @@ pub fn decide_line(
             )
         }
         Command::Remove(_) => keep(p, named, Reply::Accepted(0)),
-        Command::Touch(f) => touching::touch(p, named, levels, others, reads, f, path),
         Command::Plan => {
             let reply = planning::plan(p, levels, others, reads, rows);
             keep(p, named, reply)
         }
-        Command::Enter(_, _) => keep(p, named, Reply::Accepted(0)),
-        Command::Relate(id, formula) => {
-            let reply = relate(p, named, id, formula);
+        Command::Relate(id, form) => {
+            let reply = relate(p, named, id, formula_of(line, form));
             keep(p, named, reply)
         }
         Command::Refused(r) => keep(p, named, Reply::Refused(r)),
+        // a touch, or a value that is entered: in one place, so that it stands in line there
+        _ => touching::touch(p, named, levels, others, reads, touched(command), path),
     }
 }

@@ -7,6 +7,7 @@ use mathlib.Core.Bool.{Bool, true, false, cond}
 use mathlib.Core.List.{List}
 use mathlib.Core.Logic.{_⊎_, inl, inr}
 use native.Mathlib.Omega.{arith}
+use lib.Dec.{ltb}
 use lib.IntN.{ℤ}
 use lib.ListN.{length, set}
 use Rattle.fieldset.specs.Tables.{at}
@@ -77,14 +78,17 @@ module _ {p : Panel} (h : Legal p) {levels others reads : List ℕ} (t : Tabled 
 
 -- ---- the touch, tried on copies
 
--- the panel after the touch, its reads, and tables of levels and other outputs, which are needed no more
-pub record Tried (after q : Panel) (reads : List ℕ) : Type 0 where
+-- the setters and the table of reads of the panel after the touch; its other tables are needed no more
+pub record Tried (after : Panel) (setter reads : List ℕ) : Type 0 where
+  pub panel : Panel
   pub levels : List ℕ
   pub others : List ℕ
-  pub taken : Taken after q levels others reads
+  pub taken : Taken after panel levels others reads
+  pub sets : setter ≡ panel .setter
 
-pub tried-by : {after q q′ : Panel} {levels others reads reads′ : List ℕ} → q ≡ q′ → reads ≡ reads′ → Taken after q′ levels others reads′ → Tried after q reads
-tried-by {levels = levels} {others = others} e d t = rw (e, d) (record { levels = levels; others = others; taken = t })
+pub tried-by : {after q : Panel} {levels others setter reads reads′ : List ℕ} → setter ≡ q .setter → reads ≡ reads′ → Taken after q levels others reads′
+    → Tried after setter reads
+tried-by {q = q} {levels} {others} e d t = rw d (record { panel = q; levels = levels; others = others; taken = t; sets = e })
 
 -- ---- the command
 
@@ -130,39 +134,43 @@ module _ (s : Sheet) (h : LegalSheet s) (f : ℕ) (v : ℤ) where
           go (inl (e, q)) = absurd (clash e accepts)
           go (inr (e, k)) = k
 
-      module _ {q : Panel} {reads : List ℕ} (tried : Tried (gave .panel) q reads) (named : Link) (same : named ≡ linkAt (s .panel .links) 0) where
+      module _ {setter reads : List ℕ} (tried : Tried (gave .panel) setter reads) (named : Link) (same : named ≡ linkAt (s .panel .links) 0) where
+        abbrev q : Panel
+        q = tried .panel
+
         abbrev t : Taken (gave .panel) q (tried .levels) (tried .others) reads
         t = tried .taken
 
         long : length path ≡ 64
         long = d .takes .path-of .full
 
-        driven-is : isDriven (gave .panel) f ≡ isDriven q f
-        driven-is = ap (λ (p : Panel). isDriven p f) (sym (t .panel))
+        driven-is : isDriven (gave .panel) f ≡ ltb (at setter f) 128
+        driven-is = ap (λ (p : Panel). isDriven p f) (sym (t .panel)) ∙ ap (λ (l : List ℕ). ltb (at l f) 128) (sym (tried .sets))
 
-        pub size-is : q .size ≡ s .panel .size
+        size-is : q .size ≡ s .panel .size
         size-is = ap (λ (p : Panel). p .size) (t .panel) ∙ kept .size
 
-        pub enter-driven : isDriven q f ≡ true → Entered s f v path (s .values) (unchanged (s .panel .size) (s .panel .place) named (Refused FieldDriven))
+        pub enter-driven : ltb (at setter f) 128 ≡ true → Entered s f v path (s .values) (unchanged (s .panel .size) (s .panel .place) named (Refused FieldDriven))
         unfolding entered
         enter-driven e = left path long named same FieldDriven (rw (accepts, driven-is ∙ e) refl)
 
         -- every formula can be computed with
-        pub enter-ready : Ready (formulaOf (s .formulas .of) (q .setter)) reads (s .panel .size)
+        pub enter-ready : Ready (formulaOf (s .formulas .of) setter) reads (s .panel .size)
         enter-ready =
-            subst (Ready (formulaOf (s .formulas .of) (q .setter)) reads) size-is
+            rw (tried .sets)
+            (subst (Ready (formulaOf (s .formulas .of) (q .setter)) reads) size-is
             (ready (t .legal) (t .tabled) (s .formulas)
             (λ g l. held-usable (formulaOf (s .formulas .of) (q .setter) g)
-            (setter-held q (s .formulas) (t .legal) (subst (λ (p : Panel). (k : ℕ) → Fits (formulaAt (s .formulas) k) (linkAt (p .links) k)) (sym (t .panel)) (kept .fits)) g l)))
+            (setter-held q (s .formulas) (t .legal) (subst (λ (p : Panel). (k : ℕ) → Fits (formulaAt (s .formulas) k) (linkAt (p .links) k)) (sym (t .panel)) (kept .fits)) g l))))
 
-        module _ (free : isDriven q f ≡ false) {fits : Bool} {after : List ℤ}
-            (st : Stored (run (formulaOf (s .formulas .of) (q .setter)) (at reads) (order (at reads) (s .panel .size)) (set (s .values) f v)) (s .values) fits after) where
+        module _ (free : ltb (at setter f) 128 ≡ false) {fits : Bool} {after : List ℤ}
+            (st : Stored (run (formulaOf (s .formulas .of) setter) (at reads) (order (at reads) (s .panel .size)) (set (s .values) f v)) (s .values) fits after) where
           abbrev result : Run
           result = evaluated (gave .panel) (s .formulas) (set (s .values) f v)
 
-          ran : run (formulaOf (s .formulas .of) (q .setter)) (at reads) (order (at reads) (s .panel .size)) (set (s .values) f v) ≡ result
+          ran : run (formulaOf (s .formulas .of) setter) (at reads) (order (at reads) (s .panel .size)) (set (s .values) f v) ≡ result
           ran =
-              ap (λ (n : ℕ). run (formulaOf (s .formulas .of) (q .setter)) (at reads) (order (at reads) n) (set (s .values) f v)) (sym size-is)
+              ap₂ (λ (l : List ℕ) (n : ℕ). run (formulaOf (s .formulas .of) l) (at reads) (order (at reads) n) (set (s .values) f v)) (tried .sets) (sym size-is)
               ∙ table-run (t .legal) (t .tabled) (s .formulas) (set (s .values) f v)
               ∙ ap (λ (p : Panel). evaluated p (s .formulas) (set (s .values) f v)) (t .panel)
 

@@ -1,4 +1,4 @@
-// Entering a value in a field.
+// Entering a value in a field that a touch was decided on.
 use evaluation::store;
 use fieldset::wide;
 use formulas::Formulas;
@@ -11,17 +11,17 @@ use panel::Step;
 use panel::unchanged;
 use tables::stay_levels;
 use taking::reverse;
-use touching::touch;
 ghost use mathlib.Core.Path.{_≡_};
-ghost use lib.ListN.{length};
 ghost use Rattle.panel.specs.Items.{linkAt};
+ghost use Rattle.panel.specs.Commands.{touching};
+ghost use Rattle.panel.specs.Outcomes.{Decides};
 ghost use Rattle.tables.specs.Tables.{Tabled};
 ghost use Rattle.sheet.specs.Legal.{LegalSheet};
 ghost use Rattle.sheet.specs.Sheets.{sheetOf};
 ghost use Rattle.entering.specs.Entered.{Entered};
 
-// Decides on entering a value in a field: the field is touched, the value is stored and the whole plan is run, on copies of the panel and its tables.
-// The values are changed where nothing refuses.
+// Decides on entering a value in a field, from the step of its touch: where the touch is accepted, the value is stored and the whole plan of the
+// panel after the touch is run. The step is the touch's where nothing refuses, and then only the values change.
 // The contract rules out, for instance, a field that a link still sets told as outside the limits and a touch that a refusal leaves (must-fail:
 // setter_told_as_limits, refusal_keeps_the_touch).
 pub fn enter(
@@ -31,38 +31,39 @@ pub fn enter(
     others: &[u64; 64],
     reads: &[u64; 64],
     formulas: Formulas,
+    step: Step,
+    path: &[u8; 64],
     f: u8,
     value: i32,
-    path: &mut [u8; 64],
     values: &mut [i32; 64],
 ) -> Step
     requires { ⌜ LegalSheet (sheetOf p formulas (now values)) × Tabled p (now levels) (now others) (now reads) ⌝ }
-    requires { ⌜ (named ≡ linkAt (p .links) 0) × (length (now path) ≡ 64) ⌝ }
-    ensures { λ r. ⌜ Entered (sheetOf p formulas (now (values .entry))) f value (now (path .exit)) (now (values .exit)) r ⌝ }
+    requires { ⌜ (named ≡ linkAt (p .links) 0) × Decides p 0 (touching f) (now path) step ⌝ }
+    ensures { λ r. ⌜ Entered (sheetOf p formulas (now (values .entry))) f value (now (path .entry)) (now (values .exit)) r ⌝ }
 {
-    let step = touch(p, named, levels, others, reads, f, path);
     let reply = step.reply;
     if let Reply::Refused(_) = reply {
         return step;
     }
     let n = p.size;
     let order = p.place;
-    let place = step.place;
-    let link = step.link;
-    let was = p.setter;
-    let mut q = p;
-    let mut fresh = *levels;
-    let mut outs = *others;
+    let mut setter = p.setter;
     let mut reading = *reads;
-    q.size = step.size;
-    q.place = place;
-    q.links[0] = link;
-    stay_levels(&mut fresh, &was, &place);
     if step.changed != 0 {
+        // the step is taken on copies
+        let place = step.place;
+        let link = step.link;
+        let mut q = p;
+        let mut fresh = *levels;
+        let mut outs = *others;
+        q.size = step.size;
+        q.place = place;
+        q.links[0] = link;
+        stay_levels(&mut fresh, &setter, &place);
         q = reverse(q, step, path, &mut fresh, &mut outs, &mut reading);
+        setter = q.setter;
     }
     let v = wide(f);
-    let setter = q.setter;
     if setter[v] < STAY {
         return unchanged(n, &order, named, Reply::Refused(Refusal::FieldDriven));
     }

@@ -8,26 +8,25 @@ use native.Mathlib.Numerals.{add-one}
 use native.Mathlib.Decide.{decLt}
 use native.Mathlib.Omega.{arith}
 use lib.Dec.{ltb, leb, eqb}
-use lib.ListN.{length, getD, take, drop, replicate, length-take, length-drop, drop-of-length-le}
-use lib.Seq.{drop-cons, getD-take, length-take-le, take-all, take-at, sets, sets-eq, length-sets}
+use lib.ListN.{length, getD, take, drop, replicate, length-take, length-drop, drop-of-length-le, List·getD-eq-default}
+use lib.Seq.{drop-cons, getD-take, getD-drop, length-take-le, take-all, take-at, sets, sets-eq, length-sets}
 use borrow.Author.Tests.{ltb-true, ltb-false, leb-true, leb-false, lt-leb, eqb-true, eq-eqb, ne-eqb}
 use Rattle.fieldset.specs.Tables.{at}
 use Rattle.fieldset.proofs.Tests.{and-left}
 use Rattle.panel.specs.declared.Refusal.the-variants.{BadHex, BadFrame}
-use Rattle.panel.specs.Answers.{twoBytes, refusalBytes}
+use Rattle.panel.specs.Answers.{refusalBytes}
 use Rattle.panel.specs.Commands.{hasBit6, anyOf}
-use Rattle.formulas.specs.declared.Formula.{Formula}
-use Rattle.formulas.specs.declared.Formula.the-variants.{Ratio, Sum}
+use Rattle.formulas.specs.declared.Formula.the-variants.{None, Ratio, Sum}
 use Rattle.hex.specs.Hex.{isHex, offsetOf, bytesOf, frameRoom}
 use Rattle.hex.specs.Answers.{decodedValues, decoded, frameAfter}
 use Rattle.hex.specs.declared.Decoded.{Decoded}
 use Rattle.hex.specs.declared.Decoded.the-variants.{BadHex as NoHex, Frame}
 use Rattle.hex.proofs.Stores.{sets-fit}
 use Rattle.frames.specs.declared.Command.{Command}
-use Rattle.frames.specs.declared.Command.the-variants.{Add, Refused}
+use Rattle.frames.specs.declared.Command.the-variants.{Refused}
 use Rattle.frames.specs.declared.Line.{Line}
-use Rattle.frames.specs.Frames.{fitsFormula, fitsKind, isFrame, checkedFrame, badHex, frameOf, fourBytes, formulaBytes, formulaPart, commandBytes}
-use Rattle.frames.specs.Reading.{keptBytes, LineRead}
+use Rattle.frames.specs.Frames.{fitsFormula, fitsKind, isFrame, checkedFrame, badHex, frameOf, pairOf, wordOf, formulaIn, commandBytes}
+use Rattle.frames.specs.Reading.{tailOf, keptBytes, LineRead}
 
 -- ---- bit 6 of the field bytes, from a position of a frame on
 
@@ -95,6 +94,23 @@ fits-short k form n e = go (ltb n frameRoom) refl where
   go : (b : Bool) → ltb n frameRoom ≡ b → n < frameRoom
   go true t = ltb-true n frameRoom t
   go false t = absurd (true≢false (sym e ∙ fits-many k form n (ltb-false n frameRoom t)))
+
+-- an add, a value and a formula have more than three bytes
+pub long-add : (form n : ℕ) → fitsKind 0x02 form n ≡ true → 4 ≤ n
+unfolding fitsKind
+long-add form n e = leb-true 4 n (and-left (leb 4 n) (leb n 11) e)
+
+pub long-value : (form n : ℕ) → fitsKind 0x07 form n ≡ true → 4 ≤ n
+unfolding fitsKind
+long-value form n e = omega (arith, eqb-true n 6 e)
+
+pub long-formula : (form n : ℕ) → fitsKind 0x08 form n ≡ true → 4 ≤ n
+unfolding fitsKind fitsFormula
+long-formula form n e = go (eqb form 0x01) (eqb form 0x02) e where
+  go : (b c : Bool) → cond b (eqb n 7) (cond c (eqb n 4) false) ≡ true → 4 ≤ n
+  go true c e = omega (arith, eqb-true n 7 e)
+  go false true e = omega (arith, eqb-true n 4 e)
+  go false false e = absurd (true≢false (sym e))
 
 -- a full buffer's first bytes fit their kind as their number does the buffer's first byte
 fits-taken : (f : List ℕ) (n : ℕ) → length f ≡ frameRoom
@@ -168,70 +184,39 @@ module _ (f : List ℕ) (n : ℕ) (size : length f ≡ frameRoom) where
         ap₂ (λ (i : ℕ) (x : ℕ). take i (x ∷ at f 1 ∷ at f 2 ∷ drop 3 f)) (sym e) (sym kind) ∙ ap (take n) (parts f (omega arith)) ∙ kind-read low
 
     -- a kind with two values and further bytes
-    pub range-read : (least most : ℕ) → fitsKind k (at f 2) n ≡ leb least n && leb n most → 3 ≤ least → eqb k 0x02 && anyOf hasBit6 (drop 3 (take n f)) ≡ false
+    pub long-read : 4 ≤ n → eqb k 0x02 && anyOf hasBit6 (drop 3 (take n f)) ≡ false
         → k ∷ at f 1 ∷ at f 2 ∷ drop 3 (take n f) ≡ checkedFrame (take n f)
-    range-read least most some three low =
-        let h : least ≤ n = leb-true least n (and-left _ _ (sym some ∙ fits-at k (at f 0) (at f 2) n kind ∙ fits)) in
+    long-read h low =
         let b : List ℕ = take n f in
         ap₂ (λ (x : ℕ) (y : ℕ). x ∷ y ∷ at f 2 ∷ drop 3 b) (sym kind-taken) (sym (getD-take n f 1 0 (omega arith)))
         ∙ ap (λ (z : ℕ). at b 0 ∷ at b 1 ∷ z ∷ drop 3 b) (sym (getD-take n f 2 0 (omega arith)))
         ∙ parts b (omega (arith, length-take n f)) ∙ kind-read low
 
-  -- ---- kinds 07 and 08
+-- ---- what stands behind the third byte
 
-  fourth-on : drop 3 f ≡ at f 3 ∷ at f 4 ∷ at f 5 ∷ at f 6 ∷ drop 7 f
-  fourth-on =
-      drop-cons f 3 0 (omega arith) ∙ ap (λ (r : List ℕ). at f 3 ∷ r) (drop-cons f 4 0 (omega arith))
-      ∙ ap (λ (r : List ℕ). at f 3 ∷ at f 4 ∷ r) (drop-cons f 5 0 (omega arith))
-      ∙ ap (λ (r : List ℕ). at f 3 ∷ at f 4 ∷ at f 5 ∷ r) (drop-cons f 6 0 (omega arith))
+module _ (f : List ℕ) (n i : ℕ) (size : length f ≡ frameRoom) (short : n ≤ frameRoom) where
+  pub tail-there : 3 + i < n → getD f (3 + i) 0 ≡ at (drop 3 (take n f)) i
+  tail-there l = sym (getD-drop 3 (take n f) i 0 ∙ getD-take n f (3 + i) 0 l)
 
-  pub enter-read : at f 0 ≡ 0x07 → fitsKind (at f 0) (at f 2) n ≡ true → (w : ℕ) → fourBytes w ≡ at f 2 ∷ at f 3 ∷ at f 4 ∷ at f 5 ∷ []
-      → 0x07 ∷ at f 1 ∷ fourBytes w ≡ checkedFrame (take n f)
-  unfolding fitsKind
-  enter-read kind fits w e =
-      ap (λ (b : List ℕ). 0x07 ∷ at f 1 ∷ b) e ∙ ap (λ (r : List ℕ). take 6 (0x07 ∷ at f 1 ∷ at f 2 ∷ r)) (sym fourth-on) ∙ exact-read 0x07 kind fits 6 refl refl
+  pub tail-none : n ≤ 3 + i → 0 ≡ at (drop 3 (take n f)) i
+  tail-none l = sym (List·getD-eq-default (drop 3 (take n f)) 0 {n = i} (omega (arith, length-drop 3 (take n f), length-take n f)))
 
-  pub relate-read : at f 0 ≡ 0x08 → fitsKind (at f 0) (at f 2) n ≡ true → (x : Formula) → formulaBytes x ≡ formulaPart f
-      → 0x08 ∷ at f 1 ∷ formulaBytes x ≡ checkedFrame (take n f)
-  unfolding fitsKind fitsFormula
-  relate-read kind fits x e = ap (λ (b : List ℕ). 0x08 ∷ at f 1 ∷ b) e ∙ go (eqb (at f 2) 0x01) refl (eqb (at f 2) 0x02) refl
-    where
-      -- with the bytes up to the seventh or the fourth
-      ends : (form m : ℕ) → at f 2 ≡ form → fitsKind 0x08 (at f 2) n ≡ eqb n m → take m (0x08 ∷ at f 1 ∷ form ∷ at f 3 ∷ at f 4 ∷ at f 5 ∷ at f 6 ∷ drop 7 f) ≡ checkedFrame (take n f)
-      ends form m is one =
-          ap₂ (λ (y : ℕ) (r : List ℕ). take m (0x08 ∷ at f 1 ∷ y ∷ r)) (sym is) (sym fourth-on) ∙ exact-read 0x08 kind fits m one refl
+-- numbers and formulas whose later bytes stand there
+module _ (t : List ℕ) {x y z : ℕ} (ex : x ≡ at t 0) (ey : y ≡ at t 1) (ez : z ≡ at t 2) where
+  pub word-tail : (first : ℕ) → wordOf (first ∷ x ∷ y ∷ z ∷ []) ≡ wordOf (first ∷ t)
+  word-tail first = rw (ex, ey, ez) refl
 
-      go : (b : Bool) → eqb (at f 2) 0x01 ≡ b → (c : Bool) → eqb (at f 2) 0x02 ≡ c
-          → 0x08 ∷ at f 1 ∷ cond b (0x01 ∷ at f 3 ∷ at f 4 ∷ at f 5 ∷ at f 6 ∷ []) (0x02 ∷ at f 3 ∷ []) ≡ checkedFrame (take n f)
-      go true t c u = ends 0x01 7 (eqb-true (at f 2) 1 t) (rw t refl)
-      go false t true u = ends 0x02 4 (eqb-true (at f 2) 2 u) (rw (t, u) refl)
-      go false t false u =
-          absurd (true≢false (sym fits ∙ sym (fits-at 0x08 (at f 0) (at f 2) n kind) ∙ rw (t, u) refl))
+  pub ratio-tail : {u : ℕ} → u ≡ at t 3 → (form p q : ℕ) → form ≡ 0x01 → p ≡ pairOf (x ∷ y ∷ []) → q ≡ pairOf (z ∷ u ∷ []) → Ratio p q ≡ formulaIn (form ∷ t)
+  ratio-tail {u} eu form p q e ep eq =
+      let first : p ≡ pairOf t = ep ∙ ap₂ (λ (a : ℕ) (b : ℕ). a * 256 + b) ex ey in
+      let second : q ≡ pairOf (drop 2 t) = eq ∙ ap₂ (λ (a : ℕ) (b : ℕ). a * 256 + b) (ez ∙ sym (getD-drop 2 t 0 0)) (eu ∙ sym (getD-drop 2 t 1 0)) in
+      ap₂ Ratio first second ∙ sym (rw e refl)
 
--- the bytes of a number
-pub pair-bytes : (a b : ℕ) → b < 256 → twoBytes (a * 256 + b) ≡ a ∷ b ∷ []
-pair-bytes a b h =
-    let x : (a * 256 + b) / 256 ≡ a = omega arith in
-    let y : (a * 256 + b) % 256 ≡ b = omega arith in
-    rw (x, y) refl
+pub sum-tail : (t : List ℕ) {x : ℕ} → x ≡ at t 0 → (form : ℕ) → form ≡ 0x02 → Sum x ≡ formulaIn (form ∷ t)
+sum-tail t ex form e = ap Sum ex ∙ sym (rw e refl)
 
-pub word-bytes : (a b c d : ℕ) → b < 256 → c < 256 → d < 256 → fourBytes (a * 16777216 + b * 65536 + c * 256 + d) ≡ a ∷ b ∷ c ∷ d ∷ []
-word-bytes a b c d h i j =
-    let n : ℕ = a * 16777216 + b * 65536 + c * 256 + d in
-    let w : n / 16777216 ≡ a = omega arith in
-    let x : n / 65536 % 256 ≡ b = omega arith in
-    let y : n / 256 % 256 ≡ c = omega arith in
-    let z : n % 256 ≡ d = omega arith in
-    rw (w, x, y, z) refl
-
--- the bytes of a ratio and of a sum
-pub ratio-part : (f : List ℕ) (p q : ℕ) → at f 2 ≡ 0x01 → twoBytes p ≡ at f 3 ∷ at f 4 ∷ [] → twoBytes q ≡ at f 5 ∷ at f 6 ∷ []
-    → formulaBytes (Ratio p q) ≡ formulaPart f
-ratio-part f p q e x y =
-    rw (eq-eqb (at f 2) 1 e) (ap₂ (λ (a : List ℕ) (b : List ℕ). 0x01 ∷ at a 0 ∷ at a 1 ∷ at b 0 ∷ at b 1 ∷ []) x y)
-
-pub sum-part : (f : List ℕ) → (at f 2 ≡ 0x01 → ⊥) → formulaBytes (Sum (at f 3)) ≡ formulaPart f
-sum-part f e = rw (ne-eqb (at f 2) 1 e) refl
+pub no-tail : (t : List ℕ) (form : ℕ) → (Unit {0} × (form ≡ 0x01 → ⊥)) × (form ≡ 0x02 → ⊥) → None ≡ formulaIn (form ∷ t)
+no-tail t form o = sym (rw (ne-eqb form 1 (o .0 .1), ne-eqb form 2 (o .1)) refl)
 
 -- ---- a line
 
@@ -321,13 +306,13 @@ frame-fits s = go (isHex s) where
   go true = checked-fits (bytesOf s)
   go false = λ h. absurd (h refl)
 
--- an add's frame reaches its field bytes
-pub add-reaches : (s : List ℕ) (r : Line) (id level : ℕ) → LineRead s r → r .command ≡ Add id level → 3 ≤ r .len
-unfolding fitsKind
-add-reaches s r id level l e =
-    let fields : List ℕ = drop 3 (take (r .len) (r .frame)) in
-    let is : 0x02 ∷ id ∷ level ∷ fields ≡ frameOf s = ap (λ (c : Command). commandBytes c fields) (sym e) ∙ l .bytes in
-    let fits : fitsKind 0x02 level (length (0x02 ∷ id ∷ level ∷ fields)) ≡ true =
-    ap (λ (f : List ℕ). fitsKind (at f 0) (at f 2) (length f)) is ∙ frame-fits s (λ k. let z : _≡_ {A = ℕ} 2 255 = ap (λ (f : List ℕ). at f 0) is ∙ k in omega arith)
-    in
-    omega (arith, leb-true 4 (length (0x02 ∷ id ∷ level ∷ fields)) (and-left _ _ fits), length-drop 3 (take (r .len) (r .frame)), length-take (r .len) (r .frame))
+-- a line whose command has two values of its frame has more than three bytes
+module _ (s : List ℕ) (r : Line) (k a b : ℕ) (known : k < 0xFF) (l : LineRead s r) (is : commandBytes (r .command) (tailOf r) ≡ k ∷ a ∷ b ∷ tailOf r) where
+  tail-fits : fitsKind k b (length (k ∷ a ∷ b ∷ tailOf r)) ≡ true
+  tail-fits =
+      let e : k ∷ a ∷ b ∷ tailOf r ≡ frameOf s = sym is ∙ l .bytes in
+      ap (λ (f : List ℕ). fitsKind (at f 0) (at f 2) (length f)) e ∙ frame-fits s (λ z. let q : k ≡ 255 = ap (λ (f : List ℕ). at f 0) e ∙ z in omega arith)
+
+  pub tail-reaches : ((n : ℕ) → fitsKind k b n ≡ true → 4 ≤ n) → 3 ≤ r .len
+  tail-reaches long =
+      omega (arith, long (length (k ∷ a ∷ b ∷ tailOf r)) tail-fits, length-drop 3 (take (r .len) (r .frame)), length-take (r .len) (r .frame))

@@ -1,5 +1,5 @@
 -- A line's frame, its command, and what it is answered. Quotations are of document 01, or of document 02 where that is said.
-use Prim.Native.Nat.{ℕ, _+_, _*_, _/_, _%_, min}
+use Prim.Native.Nat.{ℕ, _+_, _*_, _%_, min}
 use mathlib.Core.Bool.{Bool, false, not, _&&_, cond}
 use mathlib.Core.List.{List, [], _∷_}
 use mathlib.Core.Option.{Option, none, some}
@@ -8,7 +8,7 @@ use lib.ListN.{length, drop}
 use Rattle.panel.specs.declared.Refusal.{Refusal}
 use Rattle.panel.specs.declared.Refusal.the-variants.{BadHex, BadFrame}
 use Rattle.fieldset.specs.Tables.{at}
-use Rattle.panel.specs.Answers.{twoBytes, refusalBytes}
+use Rattle.panel.specs.Answers.{refusalBytes}
 use Rattle.panel.specs.Commands.{hasBit6, anyOf, opening, adding, removing, touching, planning}
 use Rattle.values.specs.Words.{valueOf}
 use Rattle.formulas.specs.declared.Formula.{Formula}
@@ -59,9 +59,6 @@ frameOf line = cond (isHex line) (checkedFrame (bytesOf line)) (0xFF ∷ refusal
 
 -- ---- numbers of several bytes, "most significant first .. as in every number of several bytes" (document 02, request 1)
 
-abbrev pub fourBytes : ℕ → List ℕ
-fourBytes n = n / 16777216 ∷ n / 65536 % 256 ∷ n / 256 % 256 ∷ n % 256 ∷ []
-
 -- the numbers of the first two, and of the first four bytes of a list
 abbrev pub pairOf : List ℕ → ℕ
 pairOf b = at b 0 * 256 + at b 1
@@ -90,26 +87,16 @@ commandOf bytes =
     (cond (eqb (at bytes 0) 0x08) (some (relating (at bytes 1) (formulaIn (drop 2 bytes))))
     none))))))
 
--- a formula's kind and values; no formula has no frame
-abbrev pub formulaBytes : Formula → List ℕ
-formulaBytes None = 0x00 ∷ []
-formulaBytes (Ratio p q) = 0x01 ∷ p / 256 ∷ p % 256 ∷ q / 256 ∷ q % 256 ∷ []
-formulaBytes (Sum f) = 0x02 ∷ f ∷ []
-
--- those of a frame of kind 08
-abbrev pub formulaPart : List ℕ → List ℕ
-formulaPart frame = cond (eqb (at frame 2) 0x01) (0x01 ∷ at frame 3 ∷ at frame 4 ∷ at frame 5 ∷ at frame 6 ∷ []) (0x02 ∷ at frame 3 ∷ [])
-
--- a line's command as the code has it, by its number and values, the field bytes of an add behind them
+-- a line's command as the code has it, by its number and values, with what the frame has behind its third byte
 abbrev pub commandBytes : Command → List ℕ → List ℕ
-commandBytes (Open n) fields = 0x01 ∷ n ∷ []
-commandBytes (Add id level) fields = 0x02 ∷ id ∷ level ∷ fields
-commandBytes (Remove id) fields = 0x03 ∷ id ∷ []
-commandBytes (Touch f) fields = 0x04 ∷ f ∷ []
-commandBytes Plan fields = 0x05 ∷ []
-commandBytes (Enter f n) fields = 0x07 ∷ f ∷ fourBytes n
-commandBytes (Relate id formula) fields = 0x08 ∷ id ∷ formulaBytes formula
-commandBytes (Refused r) fields = 0xFF ∷ refusalBytes r
+commandBytes (Open n) rest = 0x01 ∷ n ∷ []
+commandBytes (Add id level) rest = 0x02 ∷ id ∷ level ∷ rest
+commandBytes (Remove id) rest = 0x03 ∷ id ∷ []
+commandBytes (Touch f) rest = 0x04 ∷ f ∷ []
+commandBytes Plan rest = 0x05 ∷ []
+commandBytes (Enter f b) rest = 0x07 ∷ f ∷ b ∷ rest
+commandBytes (Relate id form) rest = 0x08 ∷ id ∷ form ∷ rest
+commandBytes (Refused r) rest = 0xFF ∷ refusalBytes r
 
 -- the number of the link that a command names; 0 where it names none
 abbrev pub numberOf : Command → ℕ
@@ -118,8 +105,8 @@ numberOf (Add id level) = id % 128
 numberOf (Remove id) = id % 128
 numberOf (Touch f) = 0
 numberOf Plan = 0
-numberOf (Enter f n) = 0
-numberOf (Relate id formula) = id % 128
+numberOf (Enter f b) = 0
+numberOf (Relate id form) = id % 128
 numberOf (Refused r) = 0
 
 -- ---- answers
@@ -128,16 +115,16 @@ numberOf (Refused r) = 0
 abbrev pub answerTo : Answer → Answered Sheet
 answerTo a = record { state = a .sheet; reply = a .reply }
 
--- what a command is answered, with the field bytes beside it
+-- what a command is answered, with what stands beside it
 abbrev pub commandAnswer : Sheet → Command → List ℕ → Answered Sheet
-commandAnswer s (Open n) fields = answerTo (performed s (solving (opening n)))
-commandAnswer s (Add id level) fields = answerTo (performed s (solving (adding id level fields)))
-commandAnswer s (Remove id) fields = answerTo (performed s (solving (removing id)))
-commandAnswer s (Touch f) fields = answerTo (performed s (solving (touching f)))
-commandAnswer s Plan fields = answerTo (performed s (solving planning))
-commandAnswer s (Enter f n) fields = answerTo (performed s (entering f (valueOf n)))
-commandAnswer s (Relate id formula) fields = answerTo (performed s (relating id formula))
-commandAnswer s (Refused r) fields = record { state = s; reply = 0xFF ∷ refusalBytes r }
+commandAnswer s (Open n) rest = answerTo (performed s (solving (opening n)))
+commandAnswer s (Add id level) rest = answerTo (performed s (solving (adding id level rest)))
+commandAnswer s (Remove id) rest = answerTo (performed s (solving (removing id)))
+commandAnswer s (Touch f) rest = answerTo (performed s (solving (touching f)))
+commandAnswer s Plan rest = answerTo (performed s (solving planning))
+commandAnswer s (Enter f b) rest = answerTo (performed s (entering f (valueOf (wordOf (b ∷ rest)))))
+commandAnswer s (Relate id form) rest = answerTo (performed s (relating id (formulaIn (form ∷ rest))))
+commandAnswer s (Refused r) rest = record { state = s; reply = 0xFF ∷ refusalBytes r }
 
 -- what a command is answered; no command "leaves the panel as it stood", and its reply is the refusal
 abbrev pub answered : Sheet → List ℕ → Option sheet.Command → Answered Sheet

@@ -13,8 +13,12 @@ use Rattle.frames.specs.Frames.{frameOf, commandBytes}
 unfoldable pub keptBytes : List ℕ → ℕ
 keptBytes line = cond (isHex line) (min (length (bytesOf line)) frameRoom) 0
 
--- a line that is read: the command and the field bytes beside it are the line's frame; its first bytes stand in a buffer of zeros
+-- what a line's frame has behind its third byte
+abbrev pub tailOf : Line → List ℕ
+tailOf line = drop 3 (take (line .len) (line .frame))
+
+-- a line that is read: the command and what stands beside it are the line's frame; its first bytes stand in a buffer of zeros
 pub record LineRead (line : List ℕ) (r : Line) : Type 0 where
-  pub bytes : commandBytes (r .command) (drop 3 (take (r .len) (r .frame))) ≡ frameOf line
+  pub bytes : commandBytes (r .command) (tailOf r) ≡ frameOf line
   pub frame : r .frame ≡ frameAfter line (replicate frameRoom 0)
   pub len : r .len ≡ keptBytes line

@@ -1,26 +1,29 @@
 // Lines of hexadecimal, one frame a line.
 use formulas::Formula;
 use panel::Refusal;
+use values::of_bits;
 ghost use mathlib.Core.Path.{_≡_};
 ghost use Prim.Native.Nat.{_≤_, _<_, min};
 ghost use lib.ListN.{length, take, drop};
 ghost use Rattle.panel.specs.Commands.{hasBit6, anyOf};
 ghost use Rattle.hex.specs.Hex.{frameRoom};
 ghost use mathlib.Core.List.{[], _∷_};
-ghost use Rattle.panel.specs.Answers.{twoBytes};
-ghost use Rattle.frames.specs.Frames.{fitsFormula, fitsKind, fourBytes, checkedFrame, formulaBytes, formulaPart, commandBytes, numberOf};
-ghost use Rattle.frames.specs.Reading.{LineRead};
+ghost use Rattle.fieldset.specs.Tables.{at};
+ghost use Rattle.values.specs.Words.{valueOf};
+ghost use Rattle.frames.specs.Frames.{fitsFormula, fitsKind, checkedFrame, pairOf, wordOf, formulaIn, commandBytes, numberOf};
+ghost use Rattle.frames.specs.Reading.{tailOf, LineRead};
 
-// What a line asks. The field bytes of an add stand beside it, in the frame.
+// What a line asks. What a frame has behind its third byte stands beside it, in the frame: the field bytes of an add, the rest of a value or of a formula.
 pub enum Command {
     Open(u8),
     Add(u8, u8),
     Remove(u8),
     Touch(u8),
     Plan,
-    // a field, and the value as a number of 32 bits in two's complement
-    Enter(u8, u32),
-    Relate(u8, Formula),
+    // a field, and the first byte of the value
+    Enter(u8, u8),
+    // a link's number, and the kind of the formula
+    Relate(u8, u8),
     Refused(Refusal),
 }
 
@@ -73,32 +76,6 @@ fn has_bit6(frame: &[u8; hex::FRAME_ROOM], n: usize) -> bool
     false
 }
 
-// The number of two bytes, most significant first.
-fn pair(a: u8, b: u8) -> u16
-    ensures { λ r. ⌜ twoBytes r ≡ a ∷ b ∷ [] ⌝ }
-{
-    (a as u16) * 256 + (b as u16)
-}
-
-// The number of four bytes, most significant first.
-fn word(a: u8, b: u8, c: u8, d: u8) -> u32
-    ensures { λ r. ⌜ fourBytes r ≡ a ∷ b ∷ c ∷ d ∷ [] ⌝ }
-{
-    (a as u32) * 16777216 + (b as u32) * 65536 + (c as u32) * 256 + (d as u32)
-}
-
-// The formula of a frame of kind 08.
-fn formula_of(frame: &[u8; hex::FRAME_ROOM]) -> Formula
-    requires { ⌜ length (now frame) ≡ frameRoom ⌝ }
-    ensures { λ r. ⌜ formulaBytes r ≡ formulaPart (now (frame .entry)) ⌝ }
-{
-    if frame[2] == 0x01 {
-        Formula::Ratio(pair(frame[3], frame[4]), pair(frame[5], frame[6]))
-    } else {
-        Formula::Sum(frame[3])
-    }
-}
-
 // The command of the first n bytes of a buffer. A frame is shorter than the buffer: where n is its whole length, they are no frame.
 pub fn read_frame(frame: &[u8; hex::FRAME_ROOM], n: usize) -> Command
     requires { ⌜ length (now frame) ≡ frameRoom ⌝ }
@@ -119,8 +96,8 @@ pub fn read_frame(frame: &[u8; hex::FRAME_ROOM], n: usize) -> Command
         0x03 => Command::Remove(frame[1]),
         0x04 => Command::Touch(frame[1]),
         0x05 => Command::Plan,
-        0x07 => Command::Enter(frame[1], word(frame[2], frame[3], frame[4], frame[5])),
-        0x08 => Command::Relate(frame[1], formula_of(frame)),
+        0x07 => Command::Enter(frame[1], frame[2]),
+        0x08 => Command::Relate(frame[1], frame[2]),
         _ => Command::Refused(Refusal::BadFrame),
     }
 }
@@ -167,6 +144,64 @@ pub fn read_line(line: &[u8]) -> Line
                 len: len,
             }
         }
+    }
+}
+
+// A byte of what stands behind the third byte of a frame; 0 where it has none there.
+fn tail_byte(frame: &[u8; hex::FRAME_ROOM], len: usize, i: usize) -> u8
+    requires { ⌜ (length (now frame) ≡ frameRoom) × (len ≤ frameRoom) × (i < 9) ⌝ }
+    ensures { λ r. ⌜ r ≡ at (drop 3 (take len (now (frame .entry)))) i ⌝ }
+{
+    let j = 3 + i;
+    if j < len { frame[j] } else { 0 }
+}
+
+// The number of two bytes, most significant first.
+fn pair(a: u8, b: u8) -> u16
+    ensures { λ r. ⌜ r ≡ pairOf (a ∷ b ∷ []) ⌝ }
+{
+    (a as u16) * 256 + (b as u16)
+}
+
+// The number of four bytes, most significant first.
+fn word(a: u8, b: u8, c: u8, d: u8) -> u32
+    ensures { λ r. ⌜ r ≡ wordOf (a ∷ b ∷ c ∷ d ∷ []) ⌝ }
+{
+    (a as u32) * 16777216 + (b as u32) * 65536 + (c as u32) * 256 + (d as u32)
+}
+
+// The value that a line enters, whose first byte its command has.
+pub fn value_of(line: Line, first: u8) -> i32
+    requires { ⌜ (length (line .frame) ≡ frameRoom) × (line .len ≤ frameRoom) ⌝ }
+    ensures { λ r. ⌜ r ≡ valueOf (wordOf (first ∷ tailOf line)) ⌝ }
+{
+    let frame = line.frame;
+    let len = line.len;
+    let n = word(
+        first,
+        tail_byte(&frame, len, 0),
+        tail_byte(&frame, len, 1),
+        tail_byte(&frame, len, 2),
+    );
+    of_bits(n)
+}
+
+// The formula that a line gives, whose kind its command has.
+pub fn formula_of(line: Line, form: u8) -> Formula
+    requires { ⌜ (length (line .frame) ≡ frameRoom) × (line .len ≤ frameRoom) ⌝ }
+    ensures { λ r. ⌜ r ≡ formulaIn (form ∷ tailOf line) ⌝ }
+{
+    let frame = line.frame;
+    let len = line.len;
+    let a = tail_byte(&frame, len, 0);
+    match form {
+        0x01 => {
+            let p = pair(a, tail_byte(&frame, len, 1));
+            let q = pair(tail_byte(&frame, len, 2), tail_byte(&frame, len, 3));
+            Formula::Ratio(p, q)
+        }
+        0x02 => Formula::Sum(a),
+        _ => Formula::None,
     }
 }
 

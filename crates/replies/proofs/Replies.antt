@@ -90,8 +90,8 @@ no-rest Plan r h =
     absurd
     (⊎-elim (λ e. omega arith)
     (⊎-elim (λ e. omega arith) (⊎-elim (λ e. omega arith) (⊎-elim (λ e. omega arith) (⊎-elim (λ e. omega arith) (⊎-elim (λ e. omega arith) (λ e. omega arith)))))) h)
-no-rest (Enter f n) r h = refl
-no-rest (Relate id formula) r h = refl
+no-rest (Enter f b) r h = refl
+no-rest (Relate id form) r h = refl
 no-rest (Refused x) r h = refl
 
 -- a refusal has none
@@ -101,8 +101,8 @@ refused-rest (Add id level) x = refl
 refused-rest (Remove id) x = refl
 refused-rest (Touch f) x = refl
 refused-rest Plan x = refl
-refused-rest (Enter f n) x = refl
-refused-rest (Relate id formula) x = refl
+refused-rest (Enter f b) x = refl
+refused-rest (Relate id form) x = refl
 refused-rest (Refused y) x = refl
 
 -- the whole reply, by its cases

@@ -27,8 +27,8 @@ restOf (Add id level) reply = 0
 restOf (Remove id) reply = 0
 restOf (Touch f) reply = 0
 restOf Plan reply = planRest reply
-restOf (Enter f n) reply = 0
-restOf (Relate id formula) reply = 0
+restOf (Enter f b) reply = 0
+restOf (Relate id form) reply = 0
 restOf (Refused r) reply = 0
 
 -- the reply to a command, for a plan with the first rows of the buffer

@@ -10,12 +10,11 @@ use mathlib.Core.List.{List}
 use Prim.Native.Nat.{ℕ, _+_, _-_, _≤_, _<_}
 use native.Mathlib.Omega.{arith}
 use mir.Facts.{toZ-ofZ}
-use lib.ListN.{length, take, drop, set}
+use lib.ListN.{length, take, drop}
 use lib.Seq.{sets, length-sets}
 use Rattle.panel.specs.declared.Panel.{Panel}
 use Rattle.panel.specs.Items.{linkAt}
 use Rattle.panel.specs.Legal.{Legal}
-use Rattle.formulas.specs.declared.Formulas.{Formulas}
 use Rattle.sheet.specs.declared.Sheet.{Sheet}
 use Rattle.sheet.specs.Sheets.{sheetOf, formulaAt, withFormula}
 use Rattle.sheet.specs.Legal.{LegalSheet}
@@ -29,9 +28,10 @@ use Rattle.lines.proofs.Lines.{end-within, behind-on}
 use Rattle.panel.specs.Answers.{rowsLength}
 use Rattle.replies.specs.Replies.{restOf, wholeReply}
 use Rattle.replies.proofs.Replies.{rows-tell-none, reply-short}
-use Rattle.deciding.specs.Lines.{formulaAfter, fieldBytesOf, LineStep}
-use Rattle.deciding.proofs.Arms.{decided-step, framed}
-use Rattle.answering.proofs.LineAnswers.{answer-legal, removed-step, entered-step, did}
+use Rattle.frames.specs.Reading.{tailOf}
+use Rattle.deciding.specs.Lines.{Framed, formulaAfter, setsFormula, LineStep, TouchStep}
+use Rattle.deciding.proofs.Arms.{framed, entered-touch, decided-step}
+use Rattle.answering.proofs.LineAnswers.{answer-legal, removed-step, entered-step, formulas-same, did}
 use Rattle.answering.proofs.Going.{Did, Going, start, line-done, finish-end, finish-full}
 use Rattle.answering.proofs.answer_lines.Statement.{statement}
 use Rattle.answering.proofs.answer_lines.Tie as tie
@@ -105,15 +105,25 @@ mul-old c = omega (arith, number-small c)
 element-copy-out-old : tie.Need-element-copy-out-old Inv-loop μ-loop
 element-copy-out-old c = omega (arith, number-small c)
 
--- in the arms of the match, the command is a removal, a value that is entered, or another
+-- in the arms of the match, the command is a removal, or another; among these, a value that is entered
 abbrev removes : tie.After-levels2 Inv-loop μ-loop → tie.After-command Inv-loop μ-loop
 removes c = c .before .before
 
-abbrev enters : tie.After-of-bits Inv-loop μ-loop → tie.After-command2 Inv-loop μ-loop
+abbrev decides : tie.After-levels3 Inv-loop μ-loop → tie.After-old Inv-loop μ-loop
+decides c = c .before .before
+
+abbrev decided : tie.After-decide-line Inv-loop μ-loop → tie.After-old Inv-loop μ-loop
+decided c = decides (c .before .before .before .before .before)
+
+abbrev enters : tie.After-value-of Inv-loop μ-loop → tie.After-command2 Inv-loop μ-loop
 enters c = c .before .before
 
-abbrev decides : tie.After-levels4 Inv-loop μ-loop → tie.After-old Inv-loop μ-loop
-decides c = c .before .before
+-- the touch of a value that is entered
+touches : (c : tie.After-command2 Inv-loop μ-loop) → let d = c .before .before in let r = d .decide-line in
+    TouchStep (looped (decided d) .loop .q) 0 (c .command2 .given .0 .0) (r .last .1 .1 .1 .1 .1 .1 .0) (r .last .1 .1 .1 .1 .1 .1 .1 .0) (r .result)
+touches c =
+    let d = c .before .before in
+    entered-touch _ _ (tailOf (read (decided d) .read-line .result)) _ _ _ (command-of (decided d)) _ _ (c .command2 .given .1) (d .decide-line .ensures)
 
 remove-requires : tie.Need-remove-requires Inv-loop μ-loop
 remove-requires c κs =
@@ -122,18 +132,24 @@ remove-requires c κs =
     let l = looped n .loop .inv in
     (is-legal n .panel, l .2, named-at n ∙ ap (λ (x : Command). linkAt (looped n .loop .q .links) (numberOf x)) (k .command .given .1), l .1)
 
+framed-at : (c : tie.After-old Inv-loop μ-loop) → Framed (read c .read-line .result)
+framed-at c = framed _ _ (read c .read-line .ensures)
+
+value-of-requires : tie.Need-value-of-requires Inv-loop μ-loop
+value-of-requires c κs = let f = framed-at (decided (c .before .before .before)) in (f .full, f .short)
+
 enter-requires : tie.Need-enter-requires Inv-loop μ-loop
 enter-requires c κs =
     let k = enters (c .before .before .before .before .before) in
-    let n = k .before .before in
+    let n = decided (k .before .before) in
     let l = looped n .loop .inv in
-    ((is-legal n, l .2), (named-at n ∙ ap (λ (x : Command). linkAt (looped n .loop .q .links) (numberOf x)) (k .command2 .given .1), l .1))
+    ((is-legal n, l .2), (named-at n ∙ ap (λ (x : Command). linkAt (looped n .loop .q .links) (numberOf x)) (k .command2 .given .1), touches k .decides))
 
 decide-line-requires : tie.Need-decide-line-requires Inv-loop μ-loop
 decide-line-requires c κs =
     let n = decides (c .before .before .before .before) in
     let l = looped n .loop .inv in
-    ((is-legal n .panel, l .2, named-at n), (framed _ _ (read n .read-line .ensures), l .1, l .0))
+    ((is-legal n .panel, l .2, named-at n), (framed-at n, l .1, l .0))
 
 -- ---- the step of the line, and the panel that has taken it
 
@@ -148,40 +164,42 @@ parts c = c .before .before .before .before
 abbrev changes : tie.After-path4 Inv-loop μ-loop → tie.After-stay-levels Inv-loop μ-loop
 changes c = c .before .before .before
 
-abbrev fields-at : tie.After-old Inv-loop μ-loop → List ℕ
-fields-at c = fieldBytesOf (read c .read-line .result)
+abbrev tail-at : tie.After-old Inv-loop μ-loop → List ℕ
+tail-at c = tailOf (read c .read-line .result)
 
 same-command : (c : tie.At-match-came Inv-loop μ-loop) → c .match .command ≡ command-of (c .before)
-same-command c = ⊎-elim (λ w. w .11 ∙ sym (w .1 .given .1)) (⊎-elim (λ w. w .13 ∙ sym (w .1 .given .1)) (λ w. w .10)) (c .match .came)
+same-command c = ⊎-elim (λ w. w .11 ∙ sym (w .1 .given .1)) (⊎-elim (λ w. w .20 ∙ sym (w .8 .given .1)) (λ w. w .11)) (c .match .came)
 
 stepped : (c : tie.At-match-came Inv-loop μ-loop)
-    → let n = c .before in let m = c .match in LineStep (sheet-of n) (n .before .wide .result) (command-of n) (fields-at n) (m .path) (m .rows) (m .values) (m .step)
+    → let n = c .before in let m = c .match in LineStep (sheet-of n) (n .before .wide .result) (command-of n) (tail-at n) (m .path) (m .rows) (m .values) (m .step)
 stepped c =
     let n = c .before in
     let m = c .match in
     let l = looped n .loop in
-    subst (λ (k : ℕ). LineStep (sheet-of n) k (command-of n) (fields-at n) (m .path) (m .rows) (m .values) (m .step)) (sym (number-is n))
+    subst (λ (k : ℕ). LineStep (sheet-of n) k (command-of n) (tail-at n) (m .path) (m .rows) (m .values) (m .step)) (sym (number-is n))
     (⊎-elim
     (λ w.
     let path = w .7 .last .1 .1 .1 .1 .1 .1 .0 in
     rw (w .8, w .9, w .10, w .12)
-    (subst (λ (x : Command). LineStep (sheet-of n) (numberOf x) x (fields-at n) path (l .rows) (l .values) (w .7 .result)) (sym (w .1 .given .1))
+    (subst (λ (x : Command). LineStep (sheet-of n) (numberOf x) x (tail-at n) path (l .rows) (l .values) (w .7 .result)) (sym (w .1 .given .1))
     (removed-step (sheet-of n) _ _ _ _ (l .inv .0) _ (w .7 .ensures))))
     (⊎-elim
     (λ w.
-    let path = w .9 .last .1 .1 .1 .1 .1 .1 .1 .1 .0 in
-    let after = w .9 .last .1 .1 .1 .1 .1 .1 .1 .1 .1 .0 in
-    rw (w .10, w .11, w .12, w .14)
-    (subst (λ (x : Command). LineStep (sheet-of n) (numberOf x) x (fields-at n) path (l .rows) after (w .9 .result)) (sym (w .1 .given .1))
-    (entered-step (sheet-of n) _ _ _ (toZ-ofZ (record { sfits = w .3 .ok }) ∙ w .3 .ensures) _ path _ (l .inv .0) after _ (w .9 .ensures))))
-    (λ w. rw (w .7, w .8, w .9, w .11) (decided-step _ _ _ _ _ _ _ (command-of n) (w .0 .keys3) (w .6 .ensures) (l .formulas) (l .values))))
+    let path = w .6 .last .1 .1 .1 .1 .1 .1 .0 in
+    let rows = w .6 .last .1 .1 .1 .1 .1 .1 .1 .0 in
+    let after = w .16 .last .1 .1 .1 .1 .1 .1 .1 .1 .1 .1 .0 in
+    let full = entered-touch _ _ (tail-at n) _ _ _ (command-of n) _ _ (w .8 .given .1) (w .6 .ensures) .rows-full in
+    rw (w .17, w .18, w .19, w .21)
+    (subst (λ (x : Command). LineStep (sheet-of n) (numberOf x) x (tail-at n) path rows after (w .16 .result)) (sym (w .8 .given .1))
+    (entered-step (sheet-of n) _ _ (tail-at n) path rows _ (toZ-ofZ (record { sfits = w .10 .ok }) ∙ w .10 .ensures) full after _ (w .16 .ensures))))
+    (λ w. rw (w .8, w .9, w .10, w .12) (decided-step _ _ _ _ _ _ _ (command-of n) (w .0 .keys2) (w .7 .keys2) (w .6 .ensures) (l .formulas) (l .values))))
     (m .came))
 
 abbrev after-of : tie.At-match-came Inv-loop μ-loop → Panel
-after-of c = let n = c .before in commandAnswer (sheet-of n) (command-of n) (fields-at n) .state .panel
+after-of c = let n = c .before in commandAnswer (sheet-of n) (command-of n) (tail-at n) .state .panel
 
 legal-after : (c : tie.At-match-came Inv-loop μ-loop) → Legal (after-of c)
-legal-after c = let n = c .before in answer-legal (sheet-of n) (command-of n) (fields-at n) (is-legal n) .panel
+legal-after c = let n = c .before in answer-legal (sheet-of n) (command-of n) (tail-at n) (is-legal n) .panel
 
 mul-link : tie.Need-mul-link Inv-loop μ-loop
 mul-link c = omega (arith, number-small (met c .before .before))
@@ -227,43 +245,45 @@ line-of c = let l = looped c in take (ended c .line-end .result - l .loop .at) (
 abbrev reply-of : tie.Joined2 Inv-loop μ-loop → List ℕ
 reply-of j = let m = joined j in wholeReply (command-of (m .before)) (m .match .step .reply) (m .match .rows)
 
--- the formula of the named link afterwards
-abbrev ruled : tie.After-rule-after Inv-loop μ-loop → tie.Joined2 Inv-loop μ-loop
-ruled c = c .before .before
+-- the formulas afterwards
+abbrev turned : tie.After-rule-after-arg Inv-loop μ-loop → tie.Joined2 Inv-loop μ-loop
+turned c = c .before .before .before
 
 mul-rule-after : tie.Need-mul-rule-after Inv-loop μ-loop
-mul-rule-after c = omega (arith, number-small (joined c .before .before))
+mul-rule-after c = omega (arith, number-small (joined (c .before .before) .before .before))
 
 element-copy-out-rule-after : tie.Need-element-copy-out-rule-after Inv-loop μ-loop
-element-copy-out-rule-after c = number-small (joined c .before .before)
+element-copy-out-rule-after c = number-small (joined (c .before .before) .before .before)
+
+rule-after-requires : tie.Need-rule-after-requires Inv-loop μ-loop
+rule-after-requires c κs = framed-at (joined (turned c) .before)
 
 mul-rule : tie.Need-mul-rule Inv-loop μ-loop
-mul-rule c = omega (arith, number-small (joined (ruled c) .before .before))
+mul-rule c = omega (arith, number-small (joined (turned (c .before)) .before .before))
 
 element-set-from-rule : tie.Need-element-set-from-rule Inv-loop μ-loop
-element-set-from-rule c = number-small (joined (ruled c) .before .before)
+element-set-from-rule c = number-small (joined (turned (c .before)) .before .before)
 
-abbrev formulas-after : tie.After-rule-after Inv-loop μ-loop → Formulas
-formulas-after c =
-    let n = joined (ruled c) .before in
-    record { of = set (looped n .loop .formulas .of) (n .before .wide .result) (c .rule-after .result) }
+abbrev ruled : tie.Joined3 Inv-loop μ-loop → tie.Joined2 Inv-loop μ-loop
+ruled c = c .before .before
 
-rule-is : (c : tie.After-rule-after Inv-loop μ-loop) → let m = joined (ruled c) in let n = m .before in let k = n .before .wide .result in
-    formulas-after c ≡ withFormula (looped n .loop .formulas) k (formulaAfter (command-of n) (m .match .step .reply) (formulaAt (looped n .loop .formulas) k))
+rule-is : (c : tie.Joined3 Inv-loop μ-loop) → let m = joined (ruled c) in let n = m .before in let k = n .before .wide .result in
+    c .if3 .formulas ≡ withFormula (looped n .loop .formulas) k (formulaAfter (command-of n) (tail-at n) (m .match .step .reply) (formulaAt (looped n .loop .formulas) k))
 rule-is c =
     let m = joined (ruled c) in
     let n = m .before in
     let k = n .before .wide .result in
-    let old = formulaAt (looped n .loop .formulas) k in
-    ap (withFormula (looped n .loop .formulas) k) (c .rule-after .ensures ∙ ap (λ (x : Command). formulaAfter x (m .match .step .reply) old) (same-command m))
+    ⊎-elim (λ w. w .3 ∙ ap (withFormula (looped n .loop .formulas) k) (w .2 .ensures))
+    (λ w. w .1 ∙ formulas-same (sheet-of n) k (command-of n) (tail-at n) (m .match .step .reply)
+    (ap setsFormula (sym (same-command m)) ∙ sym (c .before .sets-formula .ensures) ∙ w .0 .left)) (c .if3 .came)
 
-line-does : (c : tie.After-rule-after Inv-loop μ-loop) → let j = ruled c in let m = joined j in let n = m .before in
-    Did lineAnswer LegalSheet (sheet-of n) (line-of n) (sheetOf (j .if2 .q) (formulas-after c) (m .match .values)) (reply-of j)
+line-does : (c : tie.Joined3 Inv-loop μ-loop) → let j = ruled c in let m = joined j in let n = m .before in
+    Did lineAnswer LegalSheet (sheet-of n) (line-of n) (sheetOf (j .if2 .q) (c .if3 .formulas) (m .match .values)) (reply-of j)
 line-does c =
     let j = ruled c in
     let m = joined j in
     let n = m .before in
-    did (sheet-of n) (line-of n) _ (fields-at n) (read n .read-line .ensures .bytes) _ _ _ _ _ (stepped m) _ (taken j .panel) _ (rule-is c) (is-legal n)
+    did (sheet-of n) (line-of n) _ (tail-at n) (read n .read-line .ensures .bytes) _ _ _ _ _ (stepped m) _ (taken j .panel) _ (rule-is c) (is-legal n)
 
 is-written : (j : tie.Joined2 Inv-loop μ-loop) → let m = joined j in wholeReply (m .match .command) (m .match .step .reply) (m .match .rows) ≡ reply-of j
 is-written j = let m = joined j in ap (λ (k : Command). wholeReply k (m .match .step .reply) (m .match .rows)) (same-command m)
@@ -281,7 +301,7 @@ put-reply-requires c κs =
     (omega (arith, few, d .rest, d .rows-full), omega (arith, short, l .loop .inv .3 .fits, begin (l .before .before) .pre .1))
 
 -- the reply is written, and its refusal told
-abbrev step-taken : tie.After-put-reply Inv-loop μ-loop → tie.After-rule-after Inv-loop μ-loop
+abbrev step-taken : tie.After-put-reply Inv-loop μ-loop → tie.Joined3 Inv-loop μ-loop
 step-taken c = c .before .before .before
 
 abbrev replied : tie.After-refusal-of Inv-loop μ-loop → tie.After-put-reply Inv-loop μ-loop
@@ -344,17 +364,18 @@ answer-lines-spec =
     element-copy-out-old
     (λ c. search needs)
     remove-requires
-    (λ c. search needs)
-    (λ c κs. search needs)
-    enter-requires
     decide-line-requires
+    (λ c. search needs)
+    value-of-requires
+    enter-requires
     mul-link
     element-set-from-link
     stay-levels-requires
     reverse-requires
+    (λ c κs. search needs)
     mul-rule-after
     element-copy-out-rule-after
-    (λ c κs. search needs)
+    rule-after-requires
     mul-rule
     element-set-from-rule
     slice-aggregate-put-reply

@@ -1,5 +1,5 @@
 -- `deciding::decide_line` meets its contract, an arm by one law: what the arm's operation promises is the step of the command (`solved-step`,
--- `plan-step`, `relate-step`, `refused-step`); an add is given the frame's bytes from the fourth on (`add-tail`).
+-- `plan-step`, `relate-step`, `refused-step`, `touched-step`); an add is given the frame's bytes from the fourth on (`add-tail`).
 use mathlib.Core.Path.{_≡_, refl, sym, ap, _∙_}
 use Prim.Native.Nat.{_≤_}
 use native.Mathlib.Omega.{arith}
@@ -7,13 +7,15 @@ use borrow.Author.Needs.{needs}
 use lib.ListN.{length, take, length-take}
 use lib.Seq.{length-take-le}
 use Rattle.panel.specs.Items.{linkAt}
-use Rattle.panel.specs.Commands.{opening, adding, touching}
+use Rattle.panel.specs.Commands.{opening, adding, checkReply}
 use Rattle.frames.specs.declared.Command.{Command}
-use Rattle.frames.specs.declared.Command.the-variants.{Open, Add, Touch}
+use Rattle.frames.specs.declared.Command.the-variants.{Open, Add}
 use Rattle.frames.specs.Frames.{numberOf}
+use Rattle.formulas.specs.declared.Formula.{Formula}
 use Rattle.sheet.specs.Sheets.{sheetOf}
-use Rattle.deciding.specs.Lines.{fieldBytesOf}
-use Rattle.deciding.proofs.Arms.{formula-kept, solved-step, refused-step, relate-step, plan-step, add-tail}
+use Rattle.sheet.specs.Commands.{formulaChecks}
+use Rattle.frames.specs.Reading.{tailOf}
+use Rattle.deciding.proofs.Arms.{formula-kept, solved-step, refused-step, relate-step, plan-step, add-tail, touched-step}
 use Rattle.deciding.proofs.decide_line.Statement.{statement}
 use Rattle.deciding.proofs.decide_line.Tie as tie
 
@@ -58,10 +60,13 @@ add-requires c κs =
     let s = start k in
     (s .pre .0 .0, s .pre .0 .1, named-at s (k .command2 .given .1), s .pre .1 .1)
 
+formula-of-requires : tie.Need-formula-of-requires
+formula-of-requires c κs = let s = c .before .before .before in (s .pre .1 .0 .full, s .pre .1 .0 .short)
+
 relate-requires : tie.Need-relate-requires
 relate-requires c κs =
-    let k = c .before in
-    named-at (k .before .before) (k .command4 .given .1)
+    let k = c .before .before in
+    named-at (k .before .before) (k .command3 .given .1)
 
 returns : tie.Need-returns
 returns c =
@@ -79,7 +84,7 @@ returns-2 c =
     let l = s .args .line in
     let e = k .command2 .given .1 in
     rw e (λ formulas values.
-    solved-step (sheetOf _ formulas values) _ _ _ _ (s .pre .1 .2) (Add _ _) (adding _ _ (fieldBytesOf l)) _ refl refl (λ a. formula-kept formulas _)
+    solved-step (sheetOf _ formulas values) _ _ _ _ (s .pre .1 .2) (Add _ _) (adding _ _ (tailOf l)) _ refl refl (λ a. formula-kept formulas _)
     (add-tail _ _ _ _ (take (l .len) (l .frame)) _ _ (c .add .ensures)))
 
 returns-3 : tie.Need-returns-3
@@ -87,15 +92,6 @@ returns-3 c = rw (c .before .enum-told .given .1) (c .keep .ensures)
 
 returns-4 : tie.Need-returns-4
 returns-4 c =
-    let k = c .before .before .before in
-    let s = k .before .before in
-    let e = k .command3 .given .1 in
-    rw e (λ formulas values.
-    solved-step (sheetOf _ formulas values) 0 _ _ _ (s .pre .1 .2) (Touch _) (touching _) _ refl refl (λ a. formula-kept formulas 0)
-    (c .touch .ensures 0 (named-at s e)))
-
-returns-5 : tie.Need-returns-5
-returns-5 c =
     let n = c .before in
     let t = n .before .before in
     let e = t .enum-told2 .given .1 in
@@ -103,24 +99,31 @@ returns-5 c =
     rw (e, c .keep2 .ensures) (λ formulas values.
     plan-step (sheetOf _ formulas values) 0 _ _ _ (s .pre .1 .1) _ (named-at s e) _ _ (s .pre .1 .2) (n .plan .ensures))
 
+returns-5 : tie.Need-returns-5
+returns-5 c =
+    let r = c .before in
+    let f = r .before in
+    let k = f .before .before in
+    let s = k .before .before in
+    let e = k .command3 .given .1 in
+    rw (e, c .keep3 .ensures) (λ formulas values.
+    relate-step (sheetOf _ formulas values) _ _ _ _ (s .pre .1 .1) _ (named-at s e) (s .pre .1 .2) _ _ _
+    (r .relate .ensures ∙ ap (λ (x : Formula). checkReply (formulaChecks (s .args .p) (k .command3 .given .0 .0) x)) (f .formula-of .ensures)) refl)
+
 returns-6 : tie.Need-returns-6
-returns-6 c = rw (c .before .enum-told3 .given .1) (c .keep3 .ensures)
+returns-6 c =
+    let k = c .before .before in
+    let s = k .before .before in
+    let e = k .command4 .given .1 in
+    rw (e, c .keep4 .ensures) (λ formulas values. refused-step (sheetOf _ formulas values) 0 _ _ _ (s .pre .1 .1) _ (named-at s e) (s .pre .1 .2) _)
 
 returns-7 : tie.Need-returns-7
 returns-7 c =
-    let r = c .before in
-    let k = r .before .before in
-    let s = k .before .before in
-    let e = k .command4 .given .1 in
-    rw (e, c .keep4 .ensures) (λ formulas values.
-    relate-step (sheetOf _ formulas values) _ _ _ _ (s .pre .1 .1) _ (named-at s e) (s .pre .1 .2) _ _ _ (r .relate .ensures) refl)
-
-returns-8 : tie.Need-returns-8
-returns-8 c =
-    let k = c .before .before in
-    let s = k .before .before in
-    let e = k .command5 .given .1 in
-    rw (e, c .keep5 .ensures) (λ formulas values. refused-step (sheetOf _ formulas values) 0 _ _ _ (s .pre .1 .1) _ (named-at s e) (s .pre .1 .2) _)
+    let t = c .before .before in
+    let k = t .before in
+    let s = k .before in
+    touched-step (s .args .p) _ _ (tailOf (s .args .line)) _ _ _ (s .args .line .command) (k .match .keys7) (s .pre .1 .2)
+    (rw (← t .touched .ensures) (c .touch .ensures _ (s .pre .0 .2)))
 
 pub decide-line-spec : {M : Type 1} → statement M
 decide-line-spec =
@@ -139,15 +142,14 @@ decide-line-spec =
     (λ c κs. search needs)
     (λ c. search needs)
     (λ c κs. search needs)
-    (λ c. search needs)
-    (λ c κs. search needs)
     (λ c κs. search needs)
     (λ c. search needs)
-    (λ c κs. search needs)
-    (λ c. search needs)
+    formula-of-requires
     relate-requires
     (λ c κs. search needs)
     (λ c. search needs)
+    (λ c κs. search needs)
+    (λ c κs. search needs)
     (λ c κs. search needs)
     returns
     returns-2
@@ -155,5 +157,4 @@ decide-line-spec =
     returns-4
     returns-5
     returns-6
-    returns-7
-    returns-8)
+    returns-7)

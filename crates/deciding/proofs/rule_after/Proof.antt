@@ -3,35 +3,53 @@
 use mathlib.Core.Path.{_≡_, sym, ap, _∙_}
 use borrow.Author.Needs.{needs}
 use Rattle.frames.specs.declared.Command.{Command}
+use Rattle.frames.specs.Reading.{tailOf}
 use Rattle.deciding.specs.Lines.{formulaGiven, formulaAfter}
-use Rattle.deciding.proofs.Arms.{after-refused, after-accepted, given-kept}
+use Rattle.deciding.proofs.Arms.{after-refused, after-accepted, sets-none, given-kept}
 use Rattle.deciding.proofs.rule_after.Statement.{statement}
 use Rattle.deciding.proofs.rule_after.Tie as tie
 
 returns : tie.Need-returns
-returns c = let a = c .before .before .args in after-refused (a .command) (a .reply) _ (a .old .formula) (c .enum-told .given .1)
+returns c = let a = c .before .before .args in after-refused (a .line .command) (tailOf (a .line)) (a .reply) _ (a .old .formula) (c .enum-told .given .1)
 
 -- where the reply accepts
 abbrev begin : tie.After-enum-told2 → tie.Start
 begin c = c .before .before
 
-accepted : (c : tie.After-enum-told2) → let a = begin c .args in formulaGiven (a .command) (a .old .formula) ≡ formulaAfter (a .command) (a .reply) (a .old .formula)
-accepted c = let a = begin c .args in after-accepted (a .command) (a .reply) _ (a .old .formula) (c .enum-told2 .given .1)
+accepted : (c : tie.After-enum-told2) → let a = begin c .args in
+    formulaGiven (a .line .command) (tailOf (a .line)) (a .old .formula) ≡ formulaAfter (a .line .command) (tailOf (a .line)) (a .reply) (a .old .formula)
+accepted c = let a = begin c .args in after-accepted (a .line .command) (tailOf (a .line)) (a .reply) _ (a .old .formula) (c .enum-told2 .given .1)
+
+-- what a command that is known gives
+given : (c : tie.After-enum-told2) {x : Command} → begin c .args .line .command ≡ x → let a = begin c .args in
+    formulaGiven x (tailOf (a .line)) (a .old .formula) ≡ formulaAfter (a .line .command) (tailOf (a .line)) (a .reply) (a .old .formula)
+given c e = let a = begin c .args in sym (ap (λ (x : Command). formulaGiven x (tailOf (a .line)) (a .old .formula)) e) ∙ accepted c
+
+formula-of-requires : tie.Need-formula-of-requires
+formula-of-requires c κs = let s = begin (c .before .before .before) in (s .pre .full, s .pre .short)
 
 returns-2 : tie.Need-returns-2
-returns-2 c =
-    let k = c .before .before in
-    sym (ap (λ (x : Command). formulaGiven x (begin k .args .old .formula)) (c .enum-told3 .given .1)) ∙ accepted k
+returns-2 c = given (c .before .before) (c .enum-told3 .given .1)
 
 returns-3 : tie.Need-returns-3
-returns-3 c =
-    let k = c .before .before .before in
-    sym (ap (λ (x : Command). formulaGiven x (begin k .args .old .formula)) (c .before .command .given .1)) ∙ accepted k
+returns-3 c = let k = c .before .before in c .formula-of .ensures ∙ given (k .before .before) (k .command .given .1)
 
 returns-4 : tie.Need-returns-4
-returns-4 c = let k = c .before in let a = begin k .args in given-kept (a .command) (a .old .formula) (c .match2 .keys3) ∙ accepted k
+returns-4 c =
+    let k = c .before in
+    let a = begin k .args in
+    given-kept (a .line .command) (tailOf (a .line)) (a .old .formula) (sym (sets-none (a .line .command) (c .match2 .keys3))) ∙ accepted k
 
 pub rule-after-spec : {M : Type 1} → statement M
 rule-after-spec =
     tie.close
-    (tie.spec (λ c. search needs) (λ c. search needs) (λ c. search needs) (λ c. search needs) returns returns-2 returns-3 returns-4)
+    (tie.spec
+    (λ c. search needs)
+    (λ c. search needs)
+    (λ c. search needs)
+    (λ c. search needs)
+    formula-of-requires
+    returns
+    returns-2
+    returns-3
+    returns-4)

@@ -1,6 +1,6 @@
 -- `frames::read_frame` meets its contract. Bytes that do not fit their kind are refused (`unfit-read`); so is an add with bit 6 set in a field byte
--- (`bit6-read`). Else a kind with one length has its first bytes (`exact-read`), an add all of them (`range-read`); another kind would not have
--- fitted (`fits-other`). Kinds 07 and 08 have numbers of several bytes (`enter-read`, `relate-read`). Assumes nothing.
+-- (`bit6-read`). Else a kind of one or two bytes has its first bytes (`exact-read`), a longer one all of them (`long-read`); another kind would not
+-- have fitted (`fits-other`). Assumes nothing.
 use borrow.Author.Needs.{needs}
 use borrow.Author.Tests.{not-true, not-false}
 use mathlib.Core.Path.{_≡_, refl, sym, _∙_}
@@ -9,11 +9,11 @@ use mathlib.Core.List.{_∷_}
 use lib.Dec.{eqb}
 use lib.ListN.{take, drop}
 use Rattle.panel.specs.Commands.{hasBit6, anyOf}
-use Prim.Native.Nat.{ℕ}
+use Prim.Native.Nat.{ℕ, _≤_}
 use native.Mathlib.Omega.{arith}
 use Rattle.fieldset.specs.Tables.{at}
 use Rattle.frames.specs.Frames.{fitsKind, checkedFrame}
-use Rattle.frames.proofs.Reading.{fits-other, fits-short, unfit-read, bit6-read, exact-read, range-read, enter-read, relate-read}
+use Rattle.frames.proofs.Reading.{fits-other, fits-short, fits-at, long-add, long-value, long-formula, unfit-read, bit6-read, exact-read, long-read}
 use Rattle.frames.proofs.read_frame.Statement.{statement}
 use Rattle.frames.proofs.read_frame.Tie as tie
 
@@ -55,13 +55,19 @@ returns-3 : tie.Need-returns-3
 unfolding fitsKind
 returns-3 c = exactly (c .before .before) 0x01 (c .before .match .keys1) 2 refl refl
 
+-- a kind with two values and further bytes, which is long enough
+further : (c : tie.Else1) → let s = start (c .before) .args in
+    (k : ℕ) → at (s .frame .now) 0 ≡ k → ((form n : ℕ) → fitsKind k form n ≡ true → 4 ≤ n) → eqb k 0x02 && anyOf hasBit6 (drop 3 (take (s .n) (s .frame .now))) ≡ false
+    → k ∷ at (s .frame .now) 1 ∷ at (s .frame .now) 2 ∷ drop 3 (take (s .n) (s .frame .now)) ≡ checkedFrame (take (s .n) (s .frame .now))
+further c k kind long low =
+    let s = start (c .before) in
+    long-read (s .args .frame .now) (s .args .n) (s .pre) k kind (fits c) (long _ _ (fits-at k _ _ _ kind ∙ fits c)) low
+
 returns-4 : tie.Need-returns-4
-unfolding fitsKind
 returns-4 c =
     let e = c .before .before in
     let h = e .before in
-    let s = start (fitting h .before) in
-    range-read (s .args .frame .now) (s .args .n) (s .pre) 0x02 (h .before .match .keys2) (fits (fitting h)) 4 11 refl (omega arith) (sym (h .has-bit6 .ensures) ∙ e .if2 .left)
+    further (fitting h) 0x02 (h .before .match .keys2) long-add (sym (h .has-bit6 .ensures) ∙ e .if2 .left)
 
 returns-5 : tie.Need-returns-5
 unfolding fitsKind
@@ -76,16 +82,10 @@ unfolding fitsKind
 returns-7 c = exactly (c .before) 0x05 (c .match .keys5) 1 refl refl
 
 returns-8 : tie.Need-returns-8
-returns-8 c =
-    let k = c .before .before .before .before .before .before in
-    let s = start (k .before .before) in
-    enter-read (s .args .frame .now) (s .args .n) (s .pre) (k .match .keys6) (fits (k .before)) _ (c .word .ensures)
+returns-8 c = let k = c .before .before in further (k .before) 0x07 (k .match .keys6) long-value refl
 
 returns-9 : tie.Need-returns-9
-returns-9 c =
-    let k = c .before .before in
-    let s = start (k .before .before) in
-    relate-read (s .args .frame .now) (s .args .n) (s .pre) (k .match .keys7) (fits (k .before)) (c .formula-of .result) (c .formula-of .ensures)
+returns-9 c = let k = c .before .before in further (k .before) 0x08 (k .match .keys7) long-formula refl
 
 returns-10 : tie.Need-returns-10
 returns-10 c =
@@ -111,10 +111,6 @@ read-frame-spec =
     (λ c. search needs)
     (λ c. search needs)
     (λ c. search needs)
-    (λ c. search needs)
-    (λ c κs. search needs)
-    (λ c. search needs)
-    (λ c κs. search needs)
     returns-3
     returns-4
     returns-5
