@@ -17,7 +17,7 @@ use tables::stay_levels;
 use taking::reverse;
 use tally::Tally;
 use tally::tallied_line;
-ghost use Prim.Native.Nat.{_^_, _≤_, _<_};
+ghost use Prim.Native.Nat.{_^_, _<_};
 ghost use lib.ListN.{length, drop};
 ghost use Rattle.sheet.specs.Legal.{LegalSheet};
 ghost use Rattle.lines.specs.Lines.{linesOf};

@@ -1,6 +1,6 @@
 -- The reply of checks over numbers is that of a panel's checks which agree with them. Assumes nothing.
 use Prim.Native.Nat.{ℕ, _%_}
-use mathlib.Core.Path.{_≡_, refl, sym, ap, _∙_}
+use mathlib.Core.Path.{_≡_, refl, ap}
 use mathlib.Core.Bool.{Bool, true, false, not}
 use mathlib.Core.List.{List, [], _∷_}
 use borrow.Author.Tests.{ltb-false}
@@ -8,7 +8,6 @@ use native.Mathlib.Omega.{arith}
 use Rattle.panel.specs.declared.Link.{Link}
 use Rattle.panel.specs.declared.Panel.{Panel}
 use Rattle.panel.specs.Items.{linkAt}
-use Rattle.panel.specs.Answers.{refusalBytes}
 use Rattle.panel.specs.Commands.{Check, checkReply}
 use Rattle.panel.proofs.Checks.{Agree, named-link}
 use Rattle.formulas.specs.declared.Formula.{Formula}

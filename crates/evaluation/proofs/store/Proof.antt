@@ -1,5 +1,4 @@
 -- `evaluation::store` meets its contract: the plan stands in the buffer (`listed-plan`) and can be run (`listed-runnable`).
-use mathlib.Core.Path.{_≡_}
 use lib.ListN.{set}
 use mir.Facts.{toZ-ofZ}
 use borrow.Author.Needs.{needs}
