@@ -69,11 +69,32 @@ pub fn answer_lines(
         let step = match command {
             Command::Remove(id) => remove(q, old, &levels, &others, &reads, id, &mut path),
             _ => {
-                let decided = decide_line(q, old, &levels, &others, &reads, line, &mut path, &mut rows);
+                let decided = decide_line(
+                    q,
+                    old,
+                    &levels,
+                    &others,
+                    &reads,
+                    line,
+                    &mut path,
+                    &mut rows,
+                );
                 match command {
                     Command::Enter(f, b) => {
                         let v = value_of(line, b);
-                        enter(q, old, &levels, &others, &reads, formulas, decided, &path, f, v, &mut values)
+                        enter(
+                            q,
+                            old,
+                            &levels,
+                            &others,
+                            &reads,
+                            formulas,
+                            decided,
+                            &path,
+                            f,
+                            v,
+                            &mut values,
+                        )
                     }
                     _ => decided,
                 }

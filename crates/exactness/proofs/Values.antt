@@ -85,8 +85,9 @@ entered-exactly s h f v ok = go (entering-cases s f v)
         → Exact s (sheetOf (touch .panel) (s .formulas) (evaluated (touch .panel) (s .formulas) (set (s .values) f v) .values)) f v
     exact a t =
         settled-exact s (sheetOf (touch .panel) (s .formulas) (evaluated (touch .panel) (s .formulas) (set (s .values) f v) .values)) f v legal
-        (plan-settled (setterReads (touch .panel)) (touch .panel .size) (legal .few) (formulaOf (s .formulas .of) (touch .panel .setter)) (setterCovered (touch .panel)) f v (s .values)
-        (legal .loopless) (h .values-length) (setter-held (touch .panel) (s .formulas) legal (t .fits)) (omega (arith, t .low, h .panel .few)) (rw (a .free) refl) (a .fits))
+        (plan-settled (setterReads (touch .panel)) (touch .panel .size) (legal .few) (formulaOf (s .formulas .of) (touch .panel .setter))
+        (setterCovered (touch .panel)) f v (s .values) (legal .loopless) (h .values-length) (setter-held (touch .panel) (s .formulas) legal (t .fits))
+        (omega (arith, t .low, h .panel .few)) (rw (a .free) refl) (a .fits))
         (a .free)
 
     go : Left s (performed s (entering f v)) ⊎ Stored s f v (performed s (entering f v)) → Exact s (performed s (entering f v) .sheet) f v

@@ -30,6 +30,18 @@ agree-reply (c ∷ cs) (d ∷ ds) (b, x, a) = go (d .applies) refl (λ e. agree-
 pub formula-agrees : (p : Panel) (named : Link) (id : ℕ) (formula : Formula) → named ≡ linkAt (p .links) (id % 128)
     → checkReply (checkFormula (p .size) id (named .used) (named .covered) formula) ≡ checkReply (formulaChecks p id formula)
 formula-agrees p named id formula same =
-    agree-reply _ _ (refl, refl, λ o. (refl, refl, λ n. (refl, refl, λ past.
-    let here : named ≡ linkAt (p .links) id = named-link (p .links) id named same (omega (arith, ltb-false 127 id n)) in
-    (ap (λ (l : Link). not (l .used)) here, refl, λ u. (ap (λ (l : Link). not (accepted formula (l .covered))) here, refl, λ a. tt)))))
+    agree-reply _ _ (
+      refl,
+      refl,
+      λ o. (
+        refl,
+        refl,
+        λ n. (
+          refl,
+          refl,
+          λ past.
+              let here : named ≡ linkAt (p .links) id = named-link (p .links) id named same (omega (arith, ltb-false 127 id n)) in
+              (ap (λ (l : Link). not (l .used)) here, refl, λ u. (ap (λ (l : Link). not (accepted formula (l .covered))) here, refl, λ a. tt)),
+        ),
+      ),
+    )

@@ -284,7 +284,11 @@ module _ (s : Sheet) (h : LegalSheet s) where
           ap (λ (i : ℕ). formulaAt (withFormula (s .formulas) id formula) i) d
           ∙ ap (λ (r : Rule). r .formula)
           (getD-set-same (s .formulas .of) id (record { formula = formula }) noRule (omega (arith, ltb-false 127 id n, h .formulas-length))) in
-          inr (ap (λ (i : ℕ). linkAt (s .panel .links) i .used) d ∙ not-false _ u, ap (λ (x : Formula). accepted x (linkAt (s .panel .links) k .covered)) new ∙ ap (λ (i : ℕ). accepted formula (linkAt (s .panel .links) i .covered)) d ∙ not-false _ a)
+          inr (
+            ap (λ (i : ℕ). linkAt (s .panel .links) i .used) d ∙ not-false _ u,
+            ap (λ (x : Formula). accepted x (linkAt (s .panel .links) k .covered)) new
+                ∙ ap (λ (i : ℕ). accepted formula (linkAt (s .panel .links) i .covered)) d ∙ not-false _ a,
+          )
       fits-here passes k (no d) =
           subst (λ (x : Formula). Fits x (linkAt (s .panel .links) k))
           (sym (ap (λ (r : Rule). r .formula) (getD-set-other (s .formulas .of) id k (record { formula = formula }) noRule d))) (h .fits k)

@@ -81,7 +81,7 @@ undriven c = le-ltb _ 128 (rw (free c .wide .ensures) at (c .before .before .bef
 
 stored : (c : tie.After-store) → let j = free (c .before) .before in let a = start (j .before) .args in
     Stored (run (formulaOf (a .formulas .of) (j .if1 .setter)) (at (j .if1 .reading)) (order (at (j .if1 .reading)) (a .p .size)) (set (a .values .now) (a .f) (a .value)))
-        (a .values .now) (c .store .result) (c .store .last .1 .1 .1 .1 .1 .1 .0)
+    (a .values .now) (c .store .result) (c .store .last .1 .1 .1 .1 .1 .1 .0)
 stored c =
     let j = free (c .before) .before in
     rw (free (c .before) .wide .ensures, toZ-ofZ (start (j .before) .fits .value)) at (c .store .ensures)

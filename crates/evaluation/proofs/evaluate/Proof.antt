@@ -88,8 +88,7 @@ compute-requires c κs =
     let r = round f in
     let a = start r .args in
     let reads = at (a .reads .now) in
-    let there = start r .pre .usable (r .before .loop .i) (r .loop-test .taken) in
-    (
+    let there = start r .pre .usable (r .before .loop .i) (r .loop-test .taken) in (
       low f,
       subst (λ (x : Formula). Usable x (reads (f .wide .result))) (sym (formed j))
           (subst (λ (g : ℕ). Usable (formulaOf (a .t5 .of) (a .setter .now) g) (reads g)) (sym (f .wide .ensures)) there),
