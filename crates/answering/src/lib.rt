@@ -17,7 +17,7 @@ use tables::stay_levels;
 use taking::reverse;
 use tally::Tally;
 use tally::tallied_line;
-ghost use Prim.Native.Nat.{_^_, _≤_, _<_};
+ghost use Prim.Native.Nat.{_^_, _<_};
 ghost use lib.ListN.{length, drop};
 ghost use Rattle.sheet.specs.Legal.{LegalSheet};
 ghost use Rattle.lines.specs.Lines.{linesOf};
@@ -69,11 +69,32 @@ pub fn answer_lines(
         let step = match command {
             Command::Remove(id) => remove(q, old, &levels, &others, &reads, id, &mut path),
             _ => {
-                let decided = decide_line(q, old, &levels, &others, &reads, line, &mut path, &mut rows);
+                let decided = decide_line(
+                    q,
+                    old,
+                    &levels,
+                    &others,
+                    &reads,
+                    line,
+                    &mut path,
+                    &mut rows,
+                );
                 match command {
                     Command::Enter(f, b) => {
                         let v = value_of(line, b);
-                        enter(q, old, &levels, &others, &reads, formulas, decided, &path, f, v, &mut values)
+                        enter(
+                            q,
+                            old,
+                            &levels,
+                            &others,
+                            &reads,
+                            formulas,
+                            decided,
+                            &path,
+                            f,
+                            v,
+                            &mut values,
+                        )
                     }
                     _ => decided,
                 }

@@ -124,13 +124,15 @@ module _ (s : Sheet) (k : ℕ) (tail path rows : List ℕ) where
   -- a command of document 01, whose reply has no rows
   pub solved-step : length rows ≡ rowsLength → (command : Command) (c : panel.Command) (step : Step)
       → commandAnswer s command tail ≡ answerTo (performed s (solving c)) → restOf command (step .reply) ≡ 0
-      → (isRefusal (panel.performed (s .panel) c .reply) ≡ false → withFormula (s .formulas) k (formulaGiven command tail (formulaAt (s .formulas) k)) ≡ formulasAfter (s .formulas) c)
+      → (isRefusal (panel.performed (s .panel) c .reply) ≡ false
+      → withFormula (s .formulas) k (formulaGiven command tail (formulaAt (s .formulas) k)) ≡ formulasAfter (s .formulas) c)
       → Decides (s .panel) k c path step → LineStep s k command tail path rows (s .values) step
   solved-step full command c step e z given d = record {
     takes = subst (λ (a : Answered Sheet). Takes (s .panel) k path step (a .state .panel)) (sym e) (d .takes);
     formulas =
         ap (λ (b : List ℕ). withFormula (s .formulas) k (cond (isRefusal b) (formulaAt (s .formulas) k) (formulaGiven command tail (formulaAt (s .formulas) k)))) (d .reply)
-        ∙ formula-after (s .formulas) k (formulaGiven command tail (formulaAt (s .formulas) k)) (formulasAfter (s .formulas) c) (isRefusal (panel.performed (s .panel) c .reply)) given
+        ∙ formula-after (s .formulas) k (formulaGiven command tail (formulaAt (s .formulas) k)) (formulasAfter (s .formulas) c)
+        (isRefusal (panel.performed (s .panel) c .reply)) given
         ∙ ap (λ (a : Answered Sheet). a .state .formulas) (sym e);
     values = ap (λ (a : Answered Sheet). a .state .values) (sym e);
     reply = rw z (append-nil (replyBytes (step .reply))) ∙ d .reply ∙ ap (λ (a : Answered Sheet). a .reply) (sym e);

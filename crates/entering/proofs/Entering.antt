@@ -3,10 +3,9 @@
 -- (`enter-out`, `enter-done`). Assumes nothing.
 use Prim.Native.Nat.{ℕ, _<_}
 use mathlib.Core.Path.{_≡_, refl, sym, ap, ap₂, subst, _∙_}
-use mathlib.Core.Bool.{Bool, true, false, cond}
+use mathlib.Core.Bool.{Bool, true, false}
 use mathlib.Core.List.{List}
-use mathlib.Core.Logic.{_⊎_, inl, inr}
-use native.Mathlib.Omega.{arith}
+use mathlib.Core.Logic.{inl, inr}
 use lib.Dec.{ltb}
 use lib.IntN.{ℤ}
 use lib.ListN.{length, set}
@@ -20,7 +19,6 @@ use Rattle.panel.specs.declared.Link.{Link}
 use Rattle.panel.specs.declared.Panel.{Panel}
 use Rattle.panel.specs.declared.Refusal.{Refusal}
 use Rattle.panel.specs.declared.Refusal.the-variants.{OutOfRange, FieldDriven}
-use Rattle.panel.specs.declared.Reply.{Reply}
 use Rattle.panel.specs.declared.Reply.the-variants.{Accepted, Refused}
 use Rattle.panel.specs.declared.Step.{Step}
 use Rattle.panel.specs.Items.{linkAt}
@@ -36,14 +34,13 @@ use Rattle.panel.proofs.Performed.{Keeps}
 use Rattle.tables.specs.Tables.{Tabled}
 use Rattle.tables.proofs.Tables.{panel-among, panel-reads}
 use Rattle.taking.proofs.Taking.{Taken}
-use Rattle.formulas.specs.declared.Formula.{Formula}
 use Rattle.formulas.specs.declared.Formulas.{Formulas}
 use Rattle.formulas.specs.Formulas.{formulaOf, Usable}
 use Rattle.evaluation.specs.Runs.{Run, run, Ready, Stored}
 use Rattle.evaluation.proofs.Settled.{held-usable}
 use Rattle.evaluation.proofs.Planned.{run-cong}
 use Rattle.sheet.specs.declared.Sheet.{Sheet}
-use Rattle.sheet.specs.Sheets.{formulaAt, evaluated}
+use Rattle.sheet.specs.Sheets.{sheetOf, formulaAt, evaluated}
 use Rattle.sheet.specs.Commands.{Answer, isDriven, entering, refused, valued, entered, performed}
 use Rattle.sheet.specs.Legal.{Fits, LegalSheet}
 use Rattle.sheet.proofs.Legal.{Touched, touched}
@@ -62,7 +59,8 @@ module _ {p : Panel} (h : Legal p) {levels others reads : List ℕ} (t : Tabled 
   unfolding planOf
   table-run formulas v =
       run-cong (formulaOf (formulas .of) (p .setter)) (at reads) (setterReads p) (order (at reads) (p .size)) v
-      (all-map (λ f. f < p .size) (λ f. at reads f ≡ setterReads p f) (panel-reads p h levels others reads t) (order (at reads) (p .size)) (order-low (at reads) (p .size) (h .few)))
+      (all-map (λ f. f < p .size) (λ f. at reads f ≡ setterReads p f) (panel-reads p h levels others reads t)
+      (order (at reads) (p .size)) (order-low (at reads) (p .size) (h .few)))
       ∙ ap (λ (fs : List ℕ). run (formulaOf (formulas .of) (p .setter)) (setterReads p) fs v) (order-cong (at reads) (setterReads p) (p .size) reads-same)
 
   -- what it needs
@@ -161,7 +159,8 @@ module _ (s : Sheet) (h : LegalSheet s) (f : ℕ) (v : ℤ) where
             (subst (Ready (formulaOf (s .formulas .of) (q .setter)) reads) size-is
             (ready (t .legal) (t .tabled) (s .formulas)
             (λ g l. held-usable (formulaOf (s .formulas .of) (q .setter) g)
-            (setter-held q (s .formulas) (t .legal) (subst (λ (p : Panel). (k : ℕ) → Fits (formulaAt (s .formulas) k) (linkAt (p .links) k)) (sym (t .panel)) (kept .fits)) g l))))
+            (setter-held q (s .formulas) (t .legal)
+            (subst (λ (p : Panel). (k : ℕ) → Fits (formulaAt (s .formulas) k) (linkAt (p .links) k)) (sym (t .panel)) (kept .fits)) g l))))
 
         module _ (free : ltb (at setter f) 128 ≡ false) {fits : Bool} {after : List ℤ}
             (st : Stored (run (formulaOf (s .formulas .of) setter) (at reads) (order (at reads) (s .panel .size)) (set (s .values) f v)) (s .values) fits after) where
@@ -182,12 +181,13 @@ module _ (s : Sheet) (h : LegalSheet s) (f : ℕ) (v : ℤ) where
           enter-out e =
               let not-fits : result .fits ≡ false = ap (λ (r : Run). r .fits) (sym ran) ∙ sym (st .answer) ∙ e in
               let was : after ≡ s .values = st .left ∙ rw (sym (st .answer) ∙ e) refl in
-              subst (λ (w : List ℤ). Entered s f v path w (unchanged (s .panel .size) (s .panel .place) named (Refused OutOfRange))) (sym was) (left path long named same OutOfRange (answer ∙ rw not-fits refl))
+              subst (λ (w : List ℤ). Entered s f v path w (unchanged (s .panel .size) (s .panel .place) named (Refused OutOfRange))) (sym was)
+              (left path long named same OutOfRange (answer ∙ rw not-fits refl))
 
           pub enter-done : fits ≡ true → Entered s f v path after step
           enter-done e =
               let all-fits : result .fits ≡ true = ap (λ (r : Run). r .fits) (sym ran) ∙ sym (st .answer) ∙ e in
-              let is : performed s (entering f v) ≡ record { sheet = record { panel = gave .panel; formulas = s .formulas; values = result .values }; reply = gave .reply } =
+              let is : performed s (entering f v) ≡ record { sheet = sheetOf (gave .panel) (s .formulas) (result .values); reply = gave .reply } =
               answer ∙ rw all-fits refl in
               record {
                 takes = subst (λ (p : Panel). Takes (s .panel) 0 path step p) (ap (λ (a : Answer). a .sheet .panel) (sym is)) (d .takes);

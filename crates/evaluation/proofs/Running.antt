@@ -18,11 +18,13 @@ use Rattle.formulas.specs.Formulas.{computed}
 use Rattle.evaluation.specs.Runs.{Run, run, Runnable, Ran}
 
 module _ (formula : ℕ → Formula) (reads : ℕ → ℕ) where
-  pub run-value : (f : ℕ) (fs : List ℕ) (v : List ℤ) (x : ℤ) → limited (computed (formula f) (reads f) f (valueAt v)) ≡ Value x → run formula reads (f ∷ fs) v ≡ run formula reads fs (set v f x)
+  pub run-value : (f : ℕ) (fs : List ℕ) (v : List ℤ) (x : ℤ) → limited (computed (formula f) (reads f) f (valueAt v)) ≡ Value x
+      → run formula reads (f ∷ fs) v ≡ run formula reads fs (set v f x)
   unfolding run
   run-value f fs v x e = rw e
 
-  pub run-out : (f : ℕ) (fs : List ℕ) (v : List ℤ) → limited (computed (formula f) (reads f) f (valueAt v)) ≡ OutOfRange → run formula reads (f ∷ fs) v ≡ record { fits = false; values = v }
+  pub run-out : (f : ℕ) (fs : List ℕ) (v : List ℤ) → limited (computed (formula f) (reads f) f (valueAt v)) ≡ OutOfRange
+      → run formula reads (f ∷ fs) v ≡ record { fits = false; values = v }
   unfolding run
   run-out f fs v e = rw e
 
@@ -42,7 +44,8 @@ module _ (formula : ℕ → Formula) (reads : ℕ → ℕ) where
         let last : record { fits = true; values = v } ≡ run formula reads (take n order) v₀ = rw (slice-empty n order) at done in
         record { answer = ap (λ (r : Run). r .fits) last; left = ap (λ (r : Run). r .values) last }
 
-    module _ (ready : Runnable formula reads order n) {v : List ℤ} {i : ℕ} (inv : Running v i) (l : i < n) {f : ℕ} (field : f ≡ at order i) {o : Limited} (e : o ≡ limited (computed (formula f) (reads f) f (valueAt v))) where
+    module _ (ready : Runnable formula reads order n) {v : List ℤ} {i : ℕ} (inv : Running v i) (l : i < n)
+        {f : ℕ} (field : f ≡ at order i) {o : Limited} (e : o ≡ limited (computed (formula f) (reads f) f (valueAt v))) where
       here : run formula reads (f ∷ slice (suc i) n order) v ≡ run formula reads (take n order) v₀
       here = rw field (rw (slice-cons i n order 0 l (ready .long)) at (inv .whole))
 

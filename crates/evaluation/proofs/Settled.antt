@@ -83,7 +83,8 @@ module _ {formula : Formula} {covered reads f : ℕ} (held : Held formula covere
   the-other : size covered ≡ 2 → (g : ℕ) → g < 64 → member covered g ≡ true → g ≢ f → lowestOf reads ≡ g
   the-other two g l e d =
       let some : 0 < reads = not-empty reads (omega (arith, reads-size)) in
-      one-field reads (lowestOf reads) g reads-small (omega (arith, reads-size)) (lowestOf-lt reads reads-small some) l (lowestOf-member reads reads-small some) (other-read g l e d)
+      one-field reads (lowestOf reads) g reads-small (omega (arith, reads-size)) (lowestOf-lt reads reads-small some) l
+      (lowestOf-member reads reads-small some) (other-read g l e d)
 
 -- ---- what is computed depends on the read fields alone, and is right
 
@@ -115,11 +116,13 @@ module _ {covered reads f : ℕ} (v w : ℕ → ℤ) (agree : (g : ℕ) → g < 
   computed-agrees (Ratio p q) held′ e =
       let held = held′ ratio-some in
       let some : 0 < reads = not-empty reads (omega (arith, reads-size held, ratio-accepted p q covered (held .fitting) .1 .1)) in
-      let same : v (lowestOf reads) ≡ w (lowestOf reads) = agree (lowestOf reads) (lowestOf-lt reads (reads-small held) some) (lowestOf-member reads (reads-small held) some) in
+      let same : v (lowestOf reads) ≡ w (lowestOf reads) =
+      agree (lowestOf reads) (lowestOf-lt reads (reads-small held) some) (lowestOf-member reads (reads-small held) some) in
       e ∙ rw same
   computed-agrees (Sum g) held′ e = e ∙ go (held′ sum-some) (ℕ-discrete f g)
     where
-      go : Held (Sum g) covered reads f → Dec (f ≡ g) → cond (eqb f g) (total v reads) (v g -ℤ total v (without reads g)) ≡ cond (eqb f g) (total w reads) (w g -ℤ total w (without reads g))
+      go : Held (Sum g) covered reads f → Dec (f ≡ g)
+          → cond (eqb f g) (total v reads) (v g -ℤ total v (without reads g)) ≡ cond (eqb f g) (total w reads) (w g -ℤ total w (without reads g))
       go held (yes d) = rw (eq-eqb f g d) (total-cong v w reads agree)
       go held (no d) =
           let (low, inside) = sum-accepted g covered (held .fitting) in
@@ -199,7 +202,8 @@ module _ (formula : ℕ → Formula) (reads : ℕ → ℕ) where
       go (no d) x i = getD-set-other v f g x (pos 0) d
 
   -- a listed field keeps its value
-  listed-keeps : (L : ℕ) (fs : List ℕ) (v w : List ℤ) → Ordered reads L fs → Ends formula reads fs v w → (g : ℕ) → g < 64 → member L g ≡ true → valueAt w g ≡ valueAt v g
+  listed-keeps : (L : ℕ) (fs : List ℕ) (v w : List ℤ) → Ordered reads L fs → Ends formula reads fs v w → (g : ℕ) → g < 64 → member L g ≡ true
+      → valueAt w g ≡ valueAt v g
   unfolding run Ordered
   listed-keeps L [] v w o e g l m = ap (λ (r : Run). valueAt (r .values) g) (sym e)
   listed-keeps L (f ∷ fs) v w o e g l m =

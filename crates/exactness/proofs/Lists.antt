@@ -1,28 +1,23 @@
 -- Lists of commands on sheets: kind 07 is a touch or leaves the sheet, kind 08 leaves the panel, so that a sound panel and store stay sound
 -- (`sheet-sound`); a legal sheet stays legal. Assumes nothing.
-use mathlib.Core.Path.{_≡_, refl, sym, ap, subst, _∙_}
+use mathlib.Core.Path.{_≡_, refl, sym, subst}
 use mathlib.Core.Bool.{Bool, true, false, cond}
 use mathlib.Core.List.{[]}
 use mathlib.Core.Logic.{_⊎_, inl, inr}
-use Prim.Native.Nat.{ℕ, zero-le}
-use lib.IntN.{ℤ}
-use Rattle.panel.specs.declared.Panel.{Panel}
+use Prim.Native.Nat.{zero-le}
 use Rattle.panel.specs.Answers.{isRefusal}
 use Rattle.panel.specs.Panels.{opened}
-use Rattle.panel.specs.Commands as panel
 use Rattle.panel.specs.Commands.{touching}
 use Rattle.panel.proofs.Changes.{legal-opened}
 use Rattle.optimality.specs.Condition3 as store
-use Rattle.optimality.specs.Condition3.{Store, Optimal, Run, stepped}
+use Rattle.optimality.specs.Condition3.{Store, Run, stepped}
 use Rattle.optimality.specs.Agreement.{Sound}
 use Rattle.optimality.proofs.Optimum.{sound-optimal}
 use Rattle.optimality.proofs.Runs.{performed-sound, kept-after, every-system, after-sound}
 use Rattle.sheet.specs.declared.Sheet.{Sheet}
-use Rattle.sheet.specs.Sheets.{blank}
 use Rattle.sheet.specs.Commands.{Command, solving, entering, relating, Answer, performed}
 use Rattle.sheet.specs.Legal.{LegalSheet}
 use Rattle.sheet.proofs.Legal.{Left, Stored, entering-cases, legal-sheet, legal-blank}
-use Rattle.exactness.specs.Values.{EnteredExactly}
 use Rattle.exactness.specs.Lists.{entered, sheets, start, Condition3, FormulasFit, ValuesWithin, ValuesRight}
 use Rattle.exactness.proofs.Values.{entered-exactly}
 

@@ -2,42 +2,36 @@
 -- (`setter-held`), so that each is right afterwards (`plan-settled`); a refusal leaves the sheet. Assumes nothing.
 use Prim.Native.Nat.{ℕ, _<_}
 use mathlib.Core.Path.{_≡_, refl, sym, ap, subst, _∙_}
-use mathlib.Core.Bool.{Bool, true, false, cond}
+use mathlib.Core.Bool.{false}
 use mathlib.Core.Logic.{_⊎_, inl, inr, _≢_}
-use native.Mathlib.Decide.{ℕ-discrete}
 use native.Mathlib.Omega.{arith}
-use borrow.Author.Tests.{lt-ltb, le-ltb}
-use lib.Dec.{ltb}
+use borrow.Author.Tests.{lt-ltb}
 use lib.IntN.{ℤ}
 use lib.ListN.{set}
 use Rattle.fieldset.specs.Tables.{at}
 use Rattle.fieldset.proofs.Numbers.{clash}
-use Rattle.panel.specs.declared.Panel.{Panel}
 use Rattle.panel.specs.declared.Standing.the-variants.{Holding}
 use Rattle.panel.specs.Items.{linkAt}
 use Rattle.panel.specs.Answers as answers
 use Rattle.panel.specs.Answers.{isRefusal}
 use Rattle.panel.specs.Solution.{setterReads, planOf, isLooped}
 use Rattle.panel.specs.Commands as panel
-use Rattle.panel.specs.Commands.{opening, adding, removing, touching, planning, checkReply}
+use Rattle.panel.specs.Commands.{touching}
 use Rattle.panel.specs.Legal.{Legal}
 use Rattle.panel.proofs.Performed.{legal-performed, Keeps}
 use Rattle.optimality.proofs.Answers.{refused-unchanged}
-use Rattle.values.specs.Limits.{valueAt}
 use Rattle.values.specs.Ratios.{scaled}
 use Rattle.values.proofs.Ratios.{scaled-nearest, nearest-scaled}
-use Rattle.formulas.specs.declared.Formula.{Formula}
-use Rattle.formulas.specs.declared.Formula.the-variants.{None}
-use Rattle.formulas.specs.Formulas.{formulaOf, Right}
+use Rattle.formulas.specs.Formulas.{formulaOf}
 use Rattle.evaluation.specs.Runs.{Settled}
 use Rattle.evaluation.proofs.Planned.{plan-settled}
 use Rattle.sheet.specs.declared.Sheet.{Sheet}
 use Rattle.sheet.specs.Sheets.{sheetOf, formulaAt, evaluated}
-use Rattle.sheet.specs.Commands.{Command, solving, entering, relating, Answer, formulaChecks, isDriven, performed}
+use Rattle.sheet.specs.Commands.{solving, entering, relating, Answer, isDriven, performed}
 use Rattle.sheet.specs.Legal.{LegalSheet}
 use Rattle.sheet.proofs.Legal.{Left, Stored, entering-cases, Touched, touched}
 use Rattle.sheet.proofs.Held.{setterCovered, setter-held}
-use Rattle.exactness.specs.Values.{RoundedTo, EveryRatio, Exact, EnteredExactly, RefusedUnchanged}
+use Rattle.exactness.specs.Values.{EveryRatio, Exact, EnteredExactly, RefusedUnchanged}
 
 -- ---- rounding
 
@@ -91,8 +85,9 @@ entered-exactly s h f v ok = go (entering-cases s f v)
         → Exact s (sheetOf (touch .panel) (s .formulas) (evaluated (touch .panel) (s .formulas) (set (s .values) f v) .values)) f v
     exact a t =
         settled-exact s (sheetOf (touch .panel) (s .formulas) (evaluated (touch .panel) (s .formulas) (set (s .values) f v) .values)) f v legal
-        (plan-settled (setterReads (touch .panel)) (touch .panel .size) (legal .few) (formulaOf (s .formulas .of) (touch .panel .setter)) (setterCovered (touch .panel)) f v (s .values)
-        (legal .loopless) (h .values-length) (setter-held (touch .panel) (s .formulas) legal (t .fits)) (omega (arith, t .low, h .panel .few)) (rw (a .free) refl) (a .fits))
+        (plan-settled (setterReads (touch .panel)) (touch .panel .size) (legal .few) (formulaOf (s .formulas .of) (touch .panel .setter))
+        (setterCovered (touch .panel)) f v (s .values) (legal .loopless) (h .values-length) (setter-held (touch .panel) (s .formulas) legal (t .fits))
+        (omega (arith, t .low, h .panel .few)) (rw (a .free) refl) (a .fits))
         (a .free)
 
     go : Left s (performed s (entering f v)) ⊎ Stored s f v (performed s (entering f v)) → Exact s (performed s (entering f v) .sheet) f v

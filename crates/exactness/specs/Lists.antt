@@ -2,7 +2,6 @@
 use Prim.Native.Nat.{ℕ}
 use mathlib.Core.Path.{_≡_}
 use mathlib.Core.Bool.{false}
-use lib.IntN.{ℤ}
 use Rattle.panel.specs.Items.{linkAt}
 use Rattle.panel.specs.Commands.{planning, touching}
 use Rattle.values.specs.Limits.{valueAt, outside}

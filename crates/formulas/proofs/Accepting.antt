@@ -46,10 +46,14 @@ module _ {formula : Formula} (covered : ℕ) where
 pub ratio-accepted : (p q covered : ℕ) → accepted (Ratio p q) covered ≡ true → (0 < p) × ((0 < q) × (size covered ≡ 2))
 unfolding accepted
 ratio-accepted p q covered e =
-    let r = and-right (ltb 0 p) (ltb 0 q && eqb (size covered) 2) e in
-    (ltb-true 0 p (and-left (ltb 0 p) (ltb 0 q && eqb (size covered) 2) e), (ltb-true 0 q (and-left (ltb 0 q) (eqb (size covered) 2) r), eqb-true (size covered) 2 (and-right (ltb 0 q) (eqb (size covered) 2) r)))
+    let r = and-right (ltb 0 p) (ltb 0 q && eqb (size covered) 2) e in (
+      ltb-true 0 p (and-left (ltb 0 p) (ltb 0 q && eqb (size covered) 2) e),
+      (ltb-true 0 q (and-left (ltb 0 q) (eqb (size covered) 2) r), eqb-true (size covered) 2 (and-right (ltb 0 q) (eqb (size covered) 2) r)),
+    )
 
 pub sum-accepted : (g covered : ℕ) → accepted (Sum g) covered ≡ true → (g < 64) × (member covered g ≡ true)
 unfolding accepted
-sum-accepted g covered e =
-    (ltb-true g 64 (and-left (ltb g 64) (member covered g && leb 2 (size covered)) e), and-left (member covered g) (leb 2 (size covered)) (and-right (ltb g 64) (member covered g && leb 2 (size covered)) e))
+sum-accepted g covered e = (
+  ltb-true g 64 (and-left (ltb g 64) (member covered g && leb 2 (size covered)) e),
+  and-left (member covered g) (leb 2 (size covered)) (and-right (ltb g 64) (member covered g && leb 2 (size covered)) e),
+)

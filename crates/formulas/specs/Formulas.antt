@@ -19,9 +19,9 @@ use Rattle.formulas.specs.declared.Rule.{Rule}
 abbrev pub formulaOf : List Rule → List ℕ → ℕ → Formula
 formulaOf rules setter f = cond (ltb (at setter f) 128) (getD rules (at setter f) (record { formula = None }) .formula) None
 
--- What a setter sets field f to, from the values of the fields that it reads.
--- A ratio: "higher field = lower × p / q, or the reverse with q and p swapped".
--- A sum: "makes covered field g the sum of the other covered fields [..]; a link that sets another one takes g less the rest".
+-- what a setter sets field f to, from the values of the fields that it reads. A ratio: "higher field = lower × p / q, or the reverse with q and p
+-- swapped". A sum in g, which is the request's f: "makes covered field f the sum of the other covered fields, ..; a link that sets another one takes f
+-- less the rest"
 unfoldable pub computed : Formula → ℕ → ℕ → (ℕ → ℤ) → ℤ
 computed None reads f v = v f
 computed (Ratio p q) reads f v = cond (ltb (lowestOf reads) f) (scaled (v (lowestOf reads)) p q) (scaled (v (lowestOf reads)) q p)
@@ -40,8 +40,8 @@ accepted None covered = false
 accepted (Ratio p q) covered = ltb 0 p && (ltb 0 q && eqb (size covered) 2)
 accepted (Sum g) covered = ltb g 64 && (member covered g && leb 2 (size covered))
 
--- "each held formula is right, only for the field it sets": of a link over these covered fields that sets f, between the values v.
--- A ratio: f is the nearest whole number to the other covered field's value × p / q, or × q / p. A sum: g is the sum of the other covered fields.
+-- "each held formula is right, only for the field it sets": of a link over these covered fields that sets f, between the values v. A ratio: f has the
+-- nearest whole number to the value of the other covered field × p / q, or × q / p. A sum: g has the sum of the other covered fields
 unfoldable pub Right : Formula → ℕ → ℕ → (ℕ → ℤ) → Type 0
 Right None covered f v = Unit {0}
 Right (Ratio p q) covered f v =

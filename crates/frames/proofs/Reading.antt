@@ -58,7 +58,8 @@ OtherKind k =
 pub fits-other : (k form n : ℕ) → OtherKind k → false ≡ fitsKind k form n
 unfolding fitsKind
 fits-other k form n o =
-    simp (ne-eqb k 1 (o .0 .0 .0 .0 .0 .0 .1), ne-eqb k 2 (o .0 .0 .0 .0 .0 .1), ne-eqb k 3 (o .0 .0 .0 .0 .1), ne-eqb k 4 (o .0 .0 .0 .1), ne-eqb k 5 (o .0 .0 .1), ne-eqb k 7 (o .0 .1), ne-eqb k 8 (o .1))
+    let (((((((_, a), b), c), d), e), f), g) = o in
+    simp (ne-eqb k 1 a, ne-eqb k 2 b, ne-eqb k 3 c, ne-eqb k 4 d, ne-eqb k 5 e, ne-eqb k 7 f, ne-eqb k 8 g)
 
 pub fits-at : (k′ k form n : ℕ) → k ≡ k′ → fitsKind k′ form n ≡ fitsKind k form n
 fits-at k′ k form n e = ap (λ (x : ℕ). fitsKind x form n) (sym e)
@@ -82,7 +83,8 @@ fits-none k form = simp either-false
 fits-many : (k form n : ℕ) → frameRoom ≤ n → fitsKind k form n ≡ false
 unfolding fitsKind fitsFormula
 fits-many k form n h =
-    simp (ne-eqb n 1 (λ e. omega arith), ne-eqb n 2 (λ e. omega arith), ne-eqb n 4 (λ e. omega arith), ne-eqb n 6 (λ e. omega arith), ne-eqb n 7 (λ e. omega arith), lt-leb n 11 (omega arith), and-false, either-false)
+    let other : (m : ℕ) → m < frameRoom → eqb n m ≡ false = λ m l. ne-eqb n m (λ e. omega arith) in
+    simp (other 1 (omega arith), other 2 (omega arith), other 4 (omega arith), other 6 (omega arith), other 7 (omega arith), lt-leb n 11 (omega arith), and-false, either-false)
 
 -- the third byte counts only where it is there
 fits-two : (k form form′ n : ℕ) → n < 3 → fitsKind k form n ≡ fitsKind k form′ n

@@ -1,25 +1,33 @@
--- Every item marked P holds of document 01's definitions, and so does every further worked text: they give its text its output. By computation;
--- assumes nothing.
+-- Every item marked P holds of document 01's definitions, and so does every further worked text: they give its text its output. The worked values
+-- hold of document 02's. By computation; assumes nothing.
 use mathlib.Core.Path.{_≡_, refl}
 use lib.ListN.{length}
 use Rattle.fieldset.specs.Numbers.{count, any, lowest}
 use Rattle.fieldset.specs.Tables.{tabulate}
-use Rattle.fieldset.specs.Fields.{member, setOf, with, without, only, within}
+use Rattle.fieldset.specs.Fields.{member, setOf, with, without, only, within, lowestOf, size}
 use Rattle.strength.specs.Strength.{greatest, strength, lowestAt, strongest, path}
 use Rattle.ordering.specs.Order.{next, following, order, hasLoop}
 use Rattle.panel.specs.Items.{setterOf, isInForce, itemsOf}
 use Rattle.panel.specs.Panels.{opened, dropped, toFront, moved}
 use Rattle.panel.specs.Solution.{strengthOf, isBlocked, pathFor, reversed, least, leastBlocked, planOf, isLooped, rowsOf}
 use Rattle.panel.specs.Steps.{reverseStep, enterStep, removeStep, touchStep, planStep}
-use Rattle.panel.specs.Commands.{anyOf, fieldsIn, isRising, areFieldBytes, checked}
+use Rattle.panel.specs.Commands.{anyOf, fieldsIn, isRising, areFieldBytes, checked, checkReply}
+use Rattle.values.specs.Limits.{limited}
+use Rattle.values.specs.Ratios.{rounded, scaled}
+use Rattle.values.specs.Sums.{sumℤ, total}
+use Rattle.values.specs.Words.{valueOf}
+use Rattle.formulas.specs.Formulas.{computed, accepted}
+use Rattle.evaluation.specs.Runs.{run}
+use Rattle.sheet.specs.Commands.{entered}
 use Rattle.hex.specs.Hex.{isDigit, digitOf, charOf, areDigits, isHex, offsetOf, bytesOf, hexOf, lineOf}
 use Rattle.lines.specs.Lines.{linesOf}
 use Rattle.tally.specs.Tallies.{more, tallied, threeBytes, tallyBytes}
-use Rattle.frames.specs.Texts.{refusalOf, replies, tallyAfter, written, output, outputOf}
+use Rattle.frames.specs.Texts.{refusalOf, stateAfter, replies, tallyAfter, written, output, outputOf}
 use Rattle.frames.specs.Frames.{fitsFormula, fitsKind, isFrame, checkedFrame, frameOf, commandOf, lineAnswer}
 use Rattle.items.specs.Characters.{characters}
 use Rattle.items.specs.Items.{Hold, items, itemCount}
 use Rattle.items.specs.Further.{further}
+use Rattle.items.specs.Values.{HoldValues, worked}
 
 -- none of them is missing
 pub items-all : length items ≡ itemCount
@@ -40,4 +48,14 @@ unfolding characters further outputOf output written tallyAfter replies refusalO
     planStep touchStep removeStep enterStep reverseStep rowsOf isLooped planOf leastBlocked least reversed pathFor isBlocked strengthOf moved
     toFront dropped opened itemsOf isInForce setterOf tabulate hasLoop order following next path strongest lowestAt strength greatest within only
     without with setOf member lowest any count
+    entered checkReply accepted valueOf run computed limited scaled rounded total sumℤ lowestOf size
 further-hold = refl
+
+pub values-hold : HoldValues worked
+unfolding characters worked stateAfter linesOf lineAnswer commandOf frameOf checkedFrame isFrame fitsKind fitsFormula
+    bytesOf isHex offsetOf areDigits digitOf isDigit checked areFieldBytes isRising fieldsIn anyOf
+    planStep touchStep removeStep enterStep reverseStep rowsOf isLooped planOf leastBlocked least reversed pathFor isBlocked strengthOf moved
+    toFront dropped opened itemsOf isInForce setterOf tabulate hasLoop order following next path strongest lowestAt strength greatest within only
+    without with setOf member lowest any count
+    entered checkReply accepted valueOf run computed limited scaled rounded total sumℤ lowestOf size
+values-hold = refl

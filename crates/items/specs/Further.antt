@@ -53,4 +53,15 @@ further =
     -- "A loop refuses the whole removal": link 2 still holds field 0
     ∷ item "0103\n020000808102\n0201000082\n02020580\n0401\n0302\n05\n"
     "0000\n0001\n0001\n0001\n0000\nFF0B\n0003000205020100010005\nEE0000070000060000010B\n"
+    -- "Another length or formula kind is a BadFrame" (document 02, request 2), and BadFrame before NotOpen
+    ∷ item "07\n0700\n0700000000\n070000000000\n07000000000000\n08\n080001\n08000100010001\n08000200\n0800020000\n08000000\n08000300010001\n080001000100\n08000100\n08000200000000\n"
+    "FF02\nFF02\nFF02\nFF04\nFF02\nFF02\nFF02\nFF04\nFF04\nFF02\nFF02\nFF02\nFF02\nFF02\nFF02\nEE00000F00000000000F02\n"
+    -- kind 08: BadLink before NoSuchField, NoSuchField before NoSuchLink, NoSuchLink before BadFormula; "p or q 0, wrong number of covered fields, f not
+    -- covered" (document 02, request 2)
+    ∷ item "0102\n0200008081\n02010180\n08800209\n08050209\n08050200\n08050100000000\n08000100000001\n08000100010000\n08000100010001\n08010200\n08010201\n08010100010001\n08000202\n08000201\n"
+    "0000\n0001\n0001\nFF06\nFF07\nFF09\nFF09\nFF0F\nFF0F\n0000\nFF0F\nFF0F\nFF0F\nFF07\n0000\nEE00000F00000500000A07\n"
+    -- kind 07: "14 FieldDriven (a link still sets f after the touch, checked before 13)" (document 02, request 2)
+    ∷ item "0103\n0200000081\n07007FFFFFFF\n080001003C0001\n070100000000\n070200000000\n" "0000\n0001\n0000\n0000\nFF0E\nFF0D\nEE0000060000040000020D\n"
+    -- NoSuchField and the touch's Loop (document 02, request 2)
+    ∷ item "0103\n020000808102\n0201000082\n070100000001\n070300000001\n" "0000\n0001\n0001\nFF0B\nFF07\nEE00000500000300000207\n"
     ∷ []

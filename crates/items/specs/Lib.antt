@@ -1,3 +1,4 @@
 pub mod Characters
 pub mod Items
 pub mod Further
+pub mod Values

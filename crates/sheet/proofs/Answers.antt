@@ -1,6 +1,5 @@
 -- What a sheet may reply: kind 07 as the touch does, or one of two refusals of its own; kind 08 a refusal of its checks, or 00 00. Assumes nothing.
 use Prim.Native.Nat.{ℕ}
-use mathlib.Core.Path.{_≡_, refl}
 use mathlib.Core.Bool.{Bool, true, false, cond}
 use mathlib.Core.List.{List, [], _∷_}
 use lib.IntN.{ℤ}

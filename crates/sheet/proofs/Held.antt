@@ -1,19 +1,17 @@
 -- A formula of a field's setter was given to its link, which covers the field and reads its other covered fields. Assumes nothing.
 use Prim.Native.Nat.{ℕ, _<_}
-use mathlib.Core.Path.{_≡_, refl, sym, ap, _∙_}
-use mathlib.Core.Bool.{Bool, true, false, cond}
-use mathlib.Core.Logic.{_⊎_, inl, inr, _≢_}
+use mathlib.Core.Path.{_≡_, refl, ap}
+use mathlib.Core.Bool.{Bool, true, false}
+use mathlib.Core.Logic.{inl, inr, _≢_}
 use native.Mathlib.Omega.{arith}
 use borrow.Author.Tests.{ltb-true}
 use lib.Dec.{ltb}
 use Rattle.fieldset.specs.Tables.{at}
-use Rattle.fieldset.specs.Fields.{without}
 use Rattle.panel.specs.declared.Panel.{Panel}
 use Rattle.panel.specs.Items.{Item, linkAt, readsOf}
 use Rattle.panel.specs.Solution.{setterReads}
 use Rattle.panel.specs.Legal.{Legal}
 use Rattle.panel.proofs.Reversed.{setter-link}
-use Rattle.formulas.specs.declared.Formula.{Formula}
 use Rattle.formulas.specs.declared.Formula.the-variants.{None}
 use Rattle.formulas.specs.declared.Formulas.{Formulas}
 use Rattle.formulas.specs.Formulas.{formulaOf, Held}

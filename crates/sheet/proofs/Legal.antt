@@ -3,17 +3,15 @@
 -- (`run-within`) and reaches no field past the panel's (`run-others`). Assumes nothing.
 use Prim.Native.Nat.{ℕ, _≤_, _<_}
 use mathlib.Core.Path.{_≡_, refl, sym, ap, subst, _∙_}
-use mathlib.Core.Bool.{Bool, true, false, cond, not}
+use mathlib.Core.Bool.{Bool, true, false}
 use mathlib.Core.List.{List, [], _∷_}
-use mathlib.Core.Logic.{_⊎_, inl, inr, _≢_, ⊎-elim}
+use mathlib.Core.Logic.{_⊎_, inl, inr, _≢_}
 use native.Mathlib.Decide.{ℕ-discrete, decLt}
 use native.Mathlib.Omega.{arith}
-use borrow.Author.Tests.{ltb-false, le-ltb, not-false}
-use lib.Dec.{eqb, ltb}
+use borrow.Author.Tests.{ltb-false, not-false}
 use lib.IntN.{ℤ, pos}
-use lib.ListN.{length, set, getD, replicate, length-set, length-replicate, getD-replicate, List·getD-eq-default}
+use lib.ListN.{length, set, length-set, length-replicate, getD-replicate, List·getD-eq-default}
 use lib.Seq.{getD-set-same, getD-set-other}
-use Rattle.fieldset.specs.Tables.{at}
 use Rattle.fieldset.specs.Lists.{In}
 use Rattle.fieldset.proofs.Numbers.{clash}
 use Rattle.fieldset.proofs.Lists.{all-map, whole-in}
@@ -31,7 +29,7 @@ use Rattle.panel.specs.Commands as panel
 use Rattle.panel.specs.Commands.{opening, adding, removing, touching, planning, Passes, Check, checkReply}
 use Rattle.panel.specs.Legal.{Legal}
 use Rattle.panel.proofs.Reversed.{AllAlike, alike-covered, alike-used, link-there, reversed-alike, reversed-size}
-use Rattle.panel.proofs.Changes.{legal-opened, unopened-links}
+use Rattle.panel.proofs.Changes.{unopened-links}
 use Rattle.panel.proofs.Checks.{addable, removable, touchable, openable, newLink}
 use Rattle.panel.proofs.Performed.{legal-performed, Keeps, Changes, kept-performed}
 use Rattle.values.specs.Limits.{valueAt, outside}
@@ -39,11 +37,11 @@ use Rattle.formulas.specs.declared.Formula.{Formula}
 use Rattle.formulas.specs.declared.Formula.the-variants.{None}
 use Rattle.formulas.specs.declared.Rule.{Rule}
 use Rattle.formulas.specs.Formulas.{formulaOf, accepted}
-use Rattle.evaluation.specs.Runs.{Run, run}
+use Rattle.evaluation.specs.Runs.{Run}
 use Rattle.evaluation.proofs.Settled.{run-within, run-others, run-length}
 use Rattle.sheet.specs.declared.Sheet.{Sheet}
 use Rattle.sheet.specs.Sheets.{sheetOf, blank, formulaAt, withFormula, evaluated}
-use Rattle.sheet.specs.Commands.{Command, solving, entering, relating, Answer, formulasAfter, solved, isDriven, valued, entered, formulaChecks, related, performed}
+use Rattle.sheet.specs.Commands.{Command, solving, entering, relating, Answer, formulasAfter, solved, isDriven, entered, formulaChecks, related, performed}
 use Rattle.sheet.specs.Legal.{Fits, LegalSheet}
 
 -- ---- formulas that fit
@@ -286,7 +284,11 @@ module _ (s : Sheet) (h : LegalSheet s) where
           ap (λ (i : ℕ). formulaAt (withFormula (s .formulas) id formula) i) d
           ∙ ap (λ (r : Rule). r .formula)
           (getD-set-same (s .formulas .of) id (record { formula = formula }) noRule (omega (arith, ltb-false 127 id n, h .formulas-length))) in
-          inr (ap (λ (i : ℕ). linkAt (s .panel .links) i .used) d ∙ not-false _ u, ap (λ (x : Formula). accepted x (linkAt (s .panel .links) k .covered)) new ∙ ap (λ (i : ℕ). accepted formula (linkAt (s .panel .links) i .covered)) d ∙ not-false _ a)
+          inr (
+            ap (λ (i : ℕ). linkAt (s .panel .links) i .used) d ∙ not-false _ u,
+            ap (λ (x : Formula). accepted x (linkAt (s .panel .links) k .covered)) new
+                ∙ ap (λ (i : ℕ). accepted formula (linkAt (s .panel .links) i .covered)) d ∙ not-false _ a,
+          )
       fits-here passes k (no d) =
           subst (λ (x : Formula). Fits x (linkAt (s .panel .links) k))
           (sym (ap (λ (r : Rule). r .formula) (getD-set-other (s .formulas .of) id k (record { formula = formula }) noRule d))) (h .fits k)

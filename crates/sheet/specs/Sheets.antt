@@ -9,7 +9,6 @@ use Rattle.panel.specs.Solution.{setterReads, planOf}
 use Rattle.formulas.specs.declared.Formula.{Formula}
 use Rattle.formulas.specs.declared.Formula.the-variants.{None}
 use Rattle.formulas.specs.declared.Formulas.{Formulas}
-use Rattle.formulas.specs.declared.Rule.{Rule}
 use Rattle.formulas.specs.Formulas.{formulaOf}
 use Rattle.evaluation.specs.Runs.{Run, run}
 use Rattle.sheet.specs.declared.Sheet.{Sheet}

@@ -22,9 +22,7 @@ fn blank(p: Panel) -> Sheet
     let rule = Rule {
         formula: Formula::None,
     };
-    let rules = Formulas {
-        of: [rule; 128],
-    };
+    let rules = Formulas { of: [rule; 128] };
     Sheet {
         panel: p,
         formulas: rules,

@@ -1,7 +1,7 @@
 -- `entering::enter` meets its contract. The touch's step gives the panel after the touch with its tables (`tried`): taken on copies, or where no setter
 -- changes by its places alone. Then one law for each way: the touch's refusal (`enter-refused`), a link that still sets the field (`enter-driven`), a result
 -- outside the limits (`enter-out`), the values stored (`enter-done`).
-use Prim.Native.Nat.{ℕ, _<_}
+use Prim.Native.Nat.{_<_}
 use mathlib.Core.Path.{_≡_, refl}
 use mathlib.Core.Bool.{false}
 use mathlib.Core.Logic.{⊎-elim}
@@ -21,7 +21,7 @@ use Rattle.panel.specs.Commands.{touching}
 use Rattle.panel.specs.Outcomes.{Decides}
 use Rattle.panel.specs.Legal.{Legal}
 use Rattle.panel.proofs.Performed.{legal-performed}
-use Rattle.taking.proofs.Taking.{Taken, places-taken, taken-reversed, tabled-altered, taken-unmoved}
+use Rattle.taking.proofs.Taking.{places-taken, taken-reversed, tabled-altered, taken-unmoved}
 use Rattle.sheet.specs.declared.Sheet.{Sheet}
 use Rattle.sheet.specs.Sheets.{sheetOf}
 use Rattle.sheet.specs.Legal.{LegalSheet}
@@ -81,7 +81,7 @@ undriven c = le-ltb _ 128 (rw (free c .wide .ensures) at (c .before .before .bef
 
 stored : (c : tie.After-store) → let j = free (c .before) .before in let a = start (j .before) .args in
     Stored (run (formulaOf (a .formulas .of) (j .if1 .setter)) (at (j .if1 .reading)) (order (at (j .if1 .reading)) (a .p .size)) (set (a .values .now) (a .f) (a .value)))
-        (a .values .now) (c .store .result) (c .store .last .1 .1 .1 .1 .1 .1 .0)
+    (a .values .now) (c .store .result) (c .store .last .1 .1 .1 .1 .1 .1 .0)
 stored c =
     let j = free (c .before) .before in
     rw (free (c .before) .wide .ensures, toZ-ofZ (start (j .before) .fits .value)) at (c .store .ensures)

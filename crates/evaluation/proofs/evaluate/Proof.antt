@@ -1,6 +1,7 @@
--- `evaluation::evaluate` meets its contract.
-use Prim.Native.Nat.{_-_, _<_}
-use mathlib.Core.Path.{_≡_, _∙_}
+-- `evaluation::evaluate` meets its contract. The loop's invariant (`Running`): the run over the fields that are left, from the values as they stand, is
+-- the whole run; the measure is how many are left. In a round the setter's formula is found (`formed`) and computed with (`outcome`).
+use Prim.Native.Nat.{ℕ, _-_, _<_}
+use mathlib.Core.Path.{_≡_, sym, ap, subst, _∙_}
 use mathlib.Core.Logic.{⊎-elim}
 use borrow.Author.Needs.{needs}
 use native.Mathlib.Omega.{arith}
@@ -9,7 +10,8 @@ use mir.Val.{SFits}
 use mir.Facts.{toZ-ofZ}
 use Rattle.fieldset.specs.Tables.{at}
 use Rattle.values.specs.Limits.{limited, valueAt}
-use Rattle.formulas.specs.Formulas.{formulaOf, computed}
+use Rattle.formulas.specs.declared.Formula.{Formula}
+use Rattle.formulas.specs.Formulas.{formulaOf, computed, Usable}
 use Rattle.formulas.proofs.Computing.{formula-link, formula-stay}
 use Rattle.evaluation.proofs.Running.{Running, running-start, running-step, running-out, running-end}
 use Rattle.evaluation.proofs.evaluate.Statement.{statement}
@@ -21,32 +23,51 @@ Inv-loop order n setter reads values₀ formulas i₀ values i = Running (formul
 abbrev μ-loop : tie.MeasureT-loop
 μ-loop order n setter reads values₀ formulas i₀ values i = n - i
 
-loop-holds : tie.Need-loop-holds Inv-loop μ-loop
-loop-holds c = running-start _ _ _ _ _
+-- ---- the places: a round of the loop, its field, the setter's formula, what is computed
+
+abbrev start : tie.In-loop Inv-loop μ-loop → tie.Start Inv-loop μ-loop
+start c = c .before .before
+
+abbrev round : tie.After-wide Inv-loop μ-loop → tie.In-loop Inv-loop μ-loop
+round c = c .before .before
+
+abbrev field : tie.Joined1 Inv-loop μ-loop → tie.After-wide Inv-loop μ-loop
+field c = c .before .before .before
+
+abbrev joined : tie.After-compute Inv-loop μ-loop → tie.Joined1 Inv-loop μ-loop
+joined c = c .before .before .before
 
 -- the field in turn is in range
 low : (c : tie.After-wide Inv-loop μ-loop) → c .wide .result < 64
-low c = rw (c .wide .ensures) (c .before .before .before .before .pre .fields (c .before .before .before .loop .i) (c .before .before .loop-test .taken))
+low c = let r = round c in rw (c .wide .ensures) (start r .pre .fields (r .before .loop .i) (r .loop-test .taken))
 
 -- its setter's formula
-formed : (c : tie.Joined1 Inv-loop μ-loop) → c .if1 .formula ≡ formulaOf (c .before .before .before .before .before .before .before .args .t5 .of) (c .before .before .before .before .before .before .before .args .setter .now) (c .before .before .before .wide .result)
+formed : (c : tie.Joined1 Inv-loop μ-loop) → let a = start (round (field c)) .args in
+    c .if1 .formula ≡ formulaOf (a .t5 .of) (a .setter .now) (field c .wide .result)
 formed c =
+    let a = start (round (field c)) .args in
     ⊎-elim
-    (λ w. formula-link (c .before .before .before .before .before .before .before .args .t5 .of) (c .before .before .before .before .before .before .before .args .setter .now) (c .before .before .before .wide .result) (c .before .wide2 .ensures) (w .0 .taken) (w .2))
-    (λ w. formula-stay (c .before .before .before .before .before .before .before .args .t5 .of) (c .before .before .before .before .before .before .before .args .setter .now) (c .before .before .before .wide .result) (c .before .wide2 .ensures) (w .0 .left) (w .1))
-    (c .if1 .came)
+    (λ w. formula-link (a .t5 .of) (a .setter .now) (field c .wide .result) (c .before .wide2 .ensures) (w .0 .taken) (w .2))
+    (λ w. formula-stay (a .t5 .of) (a .setter .now) (field c .wide .result) (c .before .wide2 .ensures) (w .0 .left) (w .1)) (c .if1 .came)
+
+-- what is computed is the definition's
+outcome : (c : tie.After-compute Inv-loop μ-loop) → let f = field (joined c) in let a = start (round f) .args in let g = f .wide .result in
+    c .compute .result ≡ limited (computed (formulaOf (a .t5 .of) (a .setter .now) g) (at (a .reads .now) g) g (valueAt (round f .before .loop .values)))
+outcome c =
+    let f = field (joined c) in
+    let reads = at (start (round f) .args .reads .now) (f .wide .result) in
+    c .compute .ensures ∙ ap (λ (x : Formula). limited (computed x reads (f .wide .result) (valueAt (round f .before .loop .values)))) (formed (joined c))
+
+-- ---- the needs
+
+loop-holds : tie.Need-loop-holds Inv-loop μ-loop
+loop-holds c = running-start _ _ _ _ _
 
 element-copy-out-wide : tie.Need-element-copy-out-wide Inv-loop μ-loop
-element-copy-out-wide c = omega (arith, c .loop-test .taken, c .before .before .pre .few)
-
-wide-requires : tie.Need-wide-requires Inv-loop μ-loop
-wide-requires c κs = tt
+element-copy-out-wide c = omega (arith, c .loop-test .taken, start c .pre .few)
 
 element-copy-out-wide-2 : tie.Need-element-copy-out-wide-2 Inv-loop μ-loop
 element-copy-out-wide-2 c = low c
-
-wide-requires-2 : tie.Need-wide-requires-2 Inv-loop μ-loop
-wide-requires-2 c κs = tt
 
 mul-rule : tie.Need-mul-rule Inv-loop μ-loop
 mul-rule c = omega (arith, c .if1 .taken)
@@ -55,45 +76,51 @@ element-copy-out-rule : tie.Need-element-copy-out-rule Inv-loop μ-loop
 element-copy-out-rule c = c .if1 .taken
 
 mul-compute : tie.Need-mul-compute Inv-loop μ-loop
-mul-compute c = omega (arith, low (c .before .before .before))
+mul-compute c = omega (arith, low (field c))
 
 element-copy-out-compute : tie.Need-element-copy-out-compute Inv-loop μ-loop
-element-copy-out-compute c = low (c .before .before .before)
+element-copy-out-compute c = low (field c)
 
 compute-requires : tie.Need-compute-requires Inv-loop μ-loop
 compute-requires c κs =
-    (low (c .before .before .before .before .before), rw (formed (c .before .before), c .before .before .before .before .before .wide .ensures) (c .before .before .before .before .before .before .before .before .before .pre .usable (c .before .before .before .before .before .before .before .before .loop .i) (c .before .before .before .before .before .before .before .loop-test .taken)))
-
-enum-known-x : tie.Need-enum-known-x Inv-loop μ-loop
-enum-known-x c = search needs
+    let j = c .before .before in
+    let f = field j in
+    let r = round f in
+    let a = start r .args in
+    let reads = at (a .reads .now) in
+    let there = start r .pre .usable (r .before .loop .i) (r .loop-test .taken) in (
+      low f,
+      subst (λ (x : Formula). Usable x (reads (f .wide .result))) (sym (formed j))
+          (subst (λ (g : ℕ). Usable (formulaOf (a .t5 .of) (a .setter .now) g) (reads g)) (sym (f .wide .ensures)) there),
+    )
 
 mul-x : tie.Need-mul-x Inv-loop μ-loop
-mul-x c = omega (arith, low (c .before .before .before .before .before .before .before .before .before))
+mul-x c = omega (arith, low (field (joined (c .before .before .before))))
 
 element-set-from-x : tie.Need-element-set-from-x Inv-loop μ-loop
-element-set-from-x c = low (c .before .before .before .before .before .before .before .before .before)
-
-enum-told : tie.Need-enum-told Inv-loop μ-loop
-enum-told c = search needs
-
--- what is computed is the definition's
-outcome : (c : tie.After-compute Inv-loop μ-loop) → c .compute .result ≡ limited (computed (formulaOf (c .before .before .before .before .before .before .before .before .before .before .args .t5 .of) (c .before .before .before .before .before .before .before .before .before .before .args .setter .now) (c .before .before .before .before .before .before .wide .result)) (at (c .before .before .before .before .before .before .before .before .before .before .args .reads .now) (c .before .before .before .before .before .before .wide .result)) (c .before .before .before .before .before .before .wide .result) (valueAt (c .before .before .before .before .before .before .before .before .before .loop .values)))
-outcome c = c .compute .ensures ∙ rw (formed (c .before .before .before))
+element-set-from-x c = low (field (joined (c .before .before .before)))
 
 returns : tie.Need-returns Inv-loop μ-loop
-returns c = running-out _ _ _ _ _ (c .before .before .before .before .before .before .before .before .before .before .before .before .pre) (c .before .before .before .before .before .before .before .before .before .before .before .loop .inv) (c .before .before .before .before .before .before .before .before .before .before .loop-test .taken) (c .before .before .before .before .before .before .before .before .wide .ensures) (outcome (c .before .before)) (c .enum-told .given .1)
+returns c =
+    let k = c .before .before in
+    let f = field (joined k) in
+    let r = round f in
+    running-out _ _ _ _ _ (start r .pre) (r .before .loop .inv) (r .loop-test .taken) (f .wide .ensures) (outcome k) (c .enum-told .given .1)
 
 add-i : tie.Need-add-i Inv-loop μ-loop
-add-i c = omega (arith, c .before .before .before .before .before .before .before .before .before .before .before .loop-test .taken, c .before .before .before .before .before .before .before .before .before .before .before .before .before .pre .few)
+add-i c = let r = round (field (joined (c .before .before .before))) in omega (arith, r .loop-test .taken, start r .pre .few)
 
 loop-less : tie.Need-loop-less Inv-loop μ-loop
-loop-less c = omega (arith, c .before .before .before .before .before .before .before .before .before .before .before .loop-test .taken)
+loop-less c = omega (arith, round (field (joined (c .before .before .before))) .loop-test .taken)
 
 loop-again : tie.Need-loop-again Inv-loop μ-loop
 loop-again c =
-    let h : SFits w32 (c .before .x .given .0 .0) = record { sfits = c .known-told .given .0 .1 } in
-    rw (toZ-ofZ h)
-    (running-step _ _ _ _ _ (c .before .before .before .before .before .before .before .before .before .before .before .before .before .pre) (c .before .before .before .before .before .before .before .before .before .before .before .before .loop .inv) (c .before .before .before .before .before .before .before .before .before .before .before .loop-test .taken) (c .before .before .before .before .before .before .before .before .before .wide .ensures) (outcome (c .before .before .before)) (c .before .x .given .1))
+    let x = c .before .x .given in
+    let k = c .before .before .before in
+    let f = field (joined k) in
+    let r = round f in
+    let h : SFits w32 (x .0 .0) = record { sfits = c .known-told .given .0 .1 } in
+    rw (toZ-ofZ h) (running-step _ _ _ _ _ (start r .pre) (r .before .loop .inv) (r .loop-test .taken) (f .wide .ensures) (outcome k) (x .1))
 
 returns-2 : tie.Need-returns-2 Inv-loop μ-loop
 returns-2 c = running-end _ _ _ _ _ (c .before .loop .inv) (c .loop-test .left)
@@ -106,18 +133,18 @@ evaluate-spec =
     μ-loop
     loop-holds
     element-copy-out-wide
-    wide-requires
+    (λ c κs. search needs)
     element-copy-out-wide-2
-    wide-requires-2
+    (λ c κs. search needs)
     mul-rule
     element-copy-out-rule
     mul-compute
     element-copy-out-compute
     compute-requires
-    enum-known-x
+    (λ c. search needs)
     mul-x
     element-set-from-x
-    enum-told
+    (λ c. search needs)
     returns
     add-i
     loop-less

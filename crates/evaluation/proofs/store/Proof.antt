@@ -1,5 +1,4 @@
 -- `evaluation::store` meets its contract: the plan stands in the buffer (`listed-plan`) and can be run (`listed-runnable`).
-use mathlib.Core.Path.{_≡_}
 use lib.ListN.{set}
 use mir.Facts.{toZ-ofZ}
 use borrow.Author.Needs.{needs}
@@ -25,7 +24,7 @@ evaluate-requires c κs =
 -- what the run over the buffer's fields gives is what the run over the plan gives
 ran : (c : tie.After-evaluate) → let s = start (listed c) .args in
     Ran (run (formulaOf (s .formulas .of) (s .setter .now)) (at (s .reads .now)) (order (at (s .reads .now)) (s .n)) (set (s .values .now) (s .f) (s .value))) (c .evaluate .result)
-        (c .evaluate .last .1 .1 .1 .1 .1 .0)
+    (c .evaluate .last .1 .1 .1 .1 .1 .0)
 ran c =
     let o = listed c in
     rw (← listed-plan (start o .pre .0) _ _ _ (o .order .ensures .0) (o .order .ensures .1)) (rw (toZ-ofZ (start o .fits .value)) at (c .evaluate .ensures))

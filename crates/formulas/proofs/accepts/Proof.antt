@@ -1,68 +1,84 @@
--- `formulas::accepts` meets its contract.
-use mathlib.Core.Path.{sym, _∙_}
+-- `formulas::accepts` meets its contract, by one law for each way through the check.
+use Prim.Native.Nat.{_<_}
+use mathlib.Core.Path.{_≡_, sym, ap, _∙_}
 use borrow.Author.Tests.{not-true, not-false}
-use Rattle.formulas.proofs.Accepting.{none-accepts, ratio-no-p, ratio-no-q, ratio-accepts, sum-no-field, sum-not-covered, sum-accepts}
 use borrow.Author.Needs.{needs}
+use Rattle.fieldset.specs.Fields.{member}
+use Rattle.formulas.proofs.Accepting.{none-accepts, ratio-no-p, ratio-no-q, ratio-accepts, sum-no-field, sum-not-covered, sum-accepts}
 use Rattle.formulas.proofs.accepts.Statement.{statement}
 use Rattle.formulas.proofs.accepts.Tie as tie
 
-enum-told : tie.Need-enum-told
-enum-told c = search needs
+-- ---- the places: a ratio is known, a sum's field is looked at
 
-enum-known-formula : tie.Need-enum-known-formula
-enum-known-formula c = search needs
+abbrev start : tie.After-formula → tie.Start
+start c = c .before .before
+
+abbrev sum-start : tie.After-wide → tie.Start
+sum-start c = c .before .before .before .before
+
+abbrev sum-known : tie.After-wide → tie.After-formula2
+sum-known c = c .before .before
+
+-- a sum's field is below 64, and whether it is covered
+field-low : (c : tie.Else3) → sum-known (c .before) .formula2 .given .0 .0 < 64
+field-low c = rw (← c .before .wide .ensures) (c .if3 .left)
+
+covered-is : (c : tie.After-member) → let w = c .before .before in
+    member (sum-start w .args .covered) (sum-known w .formula2 .given .0 .0) ≡ c .member .result
+covered-is c =
+    let w = c .before .before in
+    ap (member (sum-start w .args .covered)) (sym (w .wide .ensures)) ∙ sym (c .member .ensures)
+
+-- ---- the needs
 
 returns : tie.Need-returns
-returns c = ratio-no-p (c .before .before .before .before .args .covered) (c .before .before .formula .given .1) (c .if1 .taken)
+returns c = let k = c .before .before in ratio-no-p (start k .args .covered) (k .formula .given .1) (c .if1 .taken)
 
 returns-2 : tie.Need-returns-2
-returns-2 c = ratio-no-q (c .before .before .before .before .before .args .covered) (c .before .before .before .formula .given .1) (c .before .if1 .left) (c .if2 .taken)
-
-size-requires : tie.Need-size-requires
-size-requires c κs = search needs
-
-enum-known-formula-2 : tie.Need-enum-known-formula-2
-enum-known-formula-2 c = search needs
-
-wide-requires : tie.Need-wide-requires
-wide-requires c κs = search needs
+returns-2 c = let k = c .before .before .before in ratio-no-q (start k .args .covered) (k .formula .given .1) (c .before .if1 .left) (c .if2 .taken)
 
 returns-3 : tie.Need-returns-3
-returns-3 c = sum-no-field (c .before .before .before .before .before .args .covered) (c .before .before .before .formula2 .given .1) (rw (← c .before .wide .ensures) (c .if3 .taken))
-
-member-requires : tie.Need-member-requires
-member-requires c κs = search needs
+returns-3 c =
+    let w = c .before in
+    sum-no-field (sum-start w .args .covered) (sum-known w .formula2 .given .1) (rw (← w .wide .ensures) (c .if3 .taken))
 
 returns-4 : tie.Need-returns-4
-returns-4 c = sum-not-covered (c .before .before .before .before .before .before .before .args .covered) (c .before .before .before .before .before .formula2 .given .1) (rw (← c .before .before .before .wide .ensures) (c .before .before .if3 .left)) (rw (← c .before .before .before .wide .ensures) (sym (c .before .member .ensures) ∙ not-true (c .before .member .result) (c .if4 .taken)))
-
-size-requires-2 : tie.Need-size-requires-2
-size-requires-2 c κs = search needs
+returns-4 c =
+    let m = c .before in
+    let w = m .before .before in
+    sum-not-covered (sum-start w .args .covered) (sum-known w .formula2 .given .1) (field-low (m .before)) (covered-is m ∙ not-true _ (c .if4 .taken))
 
 returns-5 : tie.Need-returns-5
 returns-5 c = none-accepts (c .before .before .args .covered) (c .enum-told .given .1)
 
 returns-6 : tie.Need-returns-6
-returns-6 c = ratio-accepts (c .before .before .before .before .before .before .args .covered) (c .before .before .before .before .formula .given .1) (c .before .before .if1 .left) (c .before .if2 .left) (c .size .ensures)
+returns-6 c =
+    let e = c .before .before in
+    let k = e .before .before in
+    ratio-accepts (start k .args .covered) (k .formula .given .1) (e .if1 .left) (c .before .if2 .left) (c .size .ensures)
 
 returns-7 : tie.Need-returns-7
-returns-7 c = sum-accepts (c .before .before .before .before .before .before .before .before .args .covered) (c .before .before .before .before .before .before .formula2 .given .1) (rw (← c .before .before .before .before .wide .ensures) (c .before .before .before .if3 .left)) (rw (← c .before .before .before .before .wide .ensures) (sym (c .before .before .member .ensures) ∙ not-false (c .before .before .member .result) (c .before .if4 .left))) (c .size2 .ensures)
+returns-7 c =
+    let e = c .before in
+    let m = e .before in
+    let w = m .before .before in
+    sum-accepts (sum-start w .args .covered) (sum-known w .formula2 .given .1) (field-low (m .before)) (covered-is m ∙ not-false _ (e .if4 .left)) (c .size2 .ensures)
 
 pub accepts-spec : {M : Type 1} → statement M
 accepts-spec =
     tie.close
     (tie.spec
-    enum-told
-    enum-known-formula
+    (λ c. search needs)
+    (λ c. search needs)
     returns
     returns-2
-    size-requires
-    enum-known-formula-2
-    wide-requires
+    (λ c κs. search needs)
+    (λ c. search needs)
+    (λ c κs. search needs)
     returns-3
-    member-requires
+    (λ c κs. search needs)
     returns-4
-    size-requires-2
+    (λ c κs. search needs)
     returns-5
     returns-6
     returns-7)

@@ -1,45 +1,51 @@
--- `formulas::compute` meets its contract.
+-- `formulas::compute` meets its contract, by the cases of the formula: the value is kept (`kept`); a ratio of the other field, upwards or downwards
+-- (`ratio-up`, `ratio-down`); a sum, or the sum's field less the rest (`sum-here`, `sum-there`). No step wraps: a sum of 64 values fits 64 bits.
 use Prim.Native.Nat.{_<_}
-use mathlib.Core.Path.{sym, _∙_}
+use mathlib.Core.Path.{sym, ap, ap₂, _∙_}
 use native.Mathlib.Omega.{arith}
+use lib.IntN.{_-ℤ_}
 use mir.Syntax.{w32, w64}
 use mir.Val.{SFits}
 use mir.Facts.{toZ-ofZ}
-use Rattle.values.specs.Limits.{valueAt}
-use Rattle.formulas.proofs.Computing.{kept, ratio-usable, ratio-up, ratio-down, sum-usable, sum-here, sum-there, less-fits, other-low}
 use borrow.Author.Needs.{needs}
+use Rattle.fieldset.specs.Fields.{without}
+use Rattle.values.specs.Limits.{valueAt}
+use Rattle.values.specs.Sums.{total}
+use Rattle.formulas.proofs.Computing.{kept, ratio-usable, ratio-up, ratio-down, sum-usable, sum-here, sum-there, less-fits, other-low}
 use Rattle.formulas.proofs.compute.Statement.{statement}
 use Rattle.formulas.proofs.compute.Tie as tie
 
-enum-told : tie.Need-enum-told
-enum-told c = search needs
+-- ---- the places: the other field of a ratio, the field of a sum, the difference
 
-mul-t11 : tie.Need-mul-t11
-mul-t11 c = search needs
+abbrev ratio-known : tie.After-lowest → tie.After-formula
+ratio-known c = c .before .before
 
-element-copy-out-t14 : tie.Need-element-copy-out-t14
-element-copy-out-t14 c = search needs
+abbrev ratio-start : tie.After-lowest → tie.Start
+ratio-start c = ratio-known c .before .before
 
-enum-known-formula : tie.Need-enum-known-formula
-enum-known-formula c = search needs
+abbrev sum-known : tie.After-wide → tie.After-formula2
+sum-known c = c .before .before
+
+abbrev sum-start : tie.After-wide → tie.Start
+sum-start c = sum-known c .before .before
 
 -- the other field of a ratio is in range
 other : (c : tie.After-lowest) → c .lowest .result < 64
 other c =
-    let s = c .before .before .before .before in
-    other-low (s .args .reads) (s .fits .reads .fits) (ratio-usable (s .args .reads) (c .before .before .formula .given .1) (s .pre .1) .1 .1) (c .lowest .ensures)
+    let s = ratio-start c in
+    other-low (s .args .reads) (s .fits .reads .fits) (ratio-usable (s .args .reads) (ratio-known c .formula .given .1) (s .pre .1) .1 .1) (c .lowest .ensures)
 
-lowest-requires : tie.Need-lowest-requires
-lowest-requires c κs = search needs
+-- the field of a sum is in range
+summed : (c : tie.After-wide) → c .wide .result < 64
+summed c =
+    let s = sum-start c in
+    rw (c .wide .ensures) (sum-usable (s .args .reads) (sum-known c .formula2 .given .1) (s .pre .1))
 
-mul-ratio : tie.Need-mul-ratio
-mul-ratio c = search needs
+-- the value that is read fits 32 bits
+term : (c : tie.After-minus-arg) → let w = c .before .before in SFits w32 (valueAt (sum-start w .args .values .now) (w .wide .result))
+term c = record { sfits = c .minus-arg .given }
 
-element-copy-out-ratio : tie.Need-element-copy-out-ratio
-element-copy-out-ratio c = search needs
-
-ratio-requires : tie.Need-ratio-requires
-ratio-requires c κs = ratio-usable (c .before .before .before .before .before .before .args .reads) (c .before .before .before .before .formula .given .1) (c .before .before .before .before .before .before .pre .1) .1 .0
+-- ---- the needs
 
 mul-ratio-2 : tie.Need-mul-ratio-2
 mul-ratio-2 c = omega (arith, other (c .before))
@@ -47,50 +53,27 @@ mul-ratio-2 c = omega (arith, other (c .before))
 element-copy-out-ratio-2 : tie.Need-element-copy-out-ratio-2
 element-copy-out-ratio-2 c = other (c .before)
 
+ratio-requires : tie.Need-ratio-requires
+ratio-requires c κs =
+    let l = c .before .before in
+    ratio-usable (ratio-start l .args .reads) (ratio-known l .formula .given .1) (ratio-start l .pre .1) .1 .0
+
 ratio-requires-2 : tie.Need-ratio-requires-2
-ratio-requires-2 c κs = ratio-usable (c .before .before .before .before .before .before .args .reads) (c .before .before .before .before .formula .given .1) (c .before .before .before .before .before .before .pre .1) .0
-
-enum-known-formula-2 : tie.Need-enum-known-formula-2
-enum-known-formula-2 c = search needs
-
-wide-requires : tie.Need-wide-requires
-wide-requires c κs = search needs
-
-sum-requires : tie.Need-sum-requires
-sum-requires c κs = search needs
-
-limit-requires : tie.Need-limit-requires
-limit-requires c κs = search needs
-
-mul-minus : tie.Need-mul-minus
-mul-minus c = search needs
-
--- the field of a sum is in range
-summed : (c : tie.After-wide) → c .wide .result < 64
-summed c =
-    let s = c .before .before .before .before in
-    rw (c .wide .ensures) (sum-usable (s .args .reads) (c .before .before .formula2 .given .1) (s .pre .1))
+ratio-requires-2 c κs =
+    let l = c .before .before in
+    ratio-usable (ratio-start l .args .reads) (ratio-known l .formula .given .1) (ratio-start l .pre .1) .0
 
 element-copy-out-minus : tie.Need-element-copy-out-minus
 element-copy-out-minus c = summed (c .before)
 
--- the value that is read fits 32 bits
-term : (c : tie.After-minus-arg) → SFits w32 (valueAt (c .before .before .before .before .before .before .args .values .now) (c .before .before .wide .result))
-term c = record { sfits = c .minus-arg .given }
-
 without-requires : tie.Need-without-requires
 without-requires c κs = summed (c .before .before)
-
-sum-requires-2 : tie.Need-sum-requires-2
-sum-requires-2 c κs = search needs
 
 minus-requires : tie.Need-minus-requires
 minus-requires c κs =
     let k : SFits w64 (c .sum2 .result) = record { sfits = c .sum2 .ok } in
-    rw (toZ-ofZ (term (c .before .before)), toZ-ofZ k) (less-fits (c .sum2 .result) (term (c .before .before)) (c .sum2 .ensures .1))
-
-limit-requires-2 : tie.Need-limit-requires-2
-limit-requires-2 c κs = search needs
+    let t = term (c .before .before) in
+    rw (toZ-ofZ t, toZ-ofZ k) (less-fits (c .sum2 .result) t (c .sum2 .ensures .1))
 
 returns : tie.Need-returns
 returns c =
@@ -100,63 +83,73 @@ returns c =
 
 returns-2 : tie.Need-returns-2
 returns-2 c =
-    let s = c .before .before .before .before .before .before .before in
-    let g = c .before .before .before .lowest in
-    let h : SFits w32 (valueAt (s .args .values .now) (g .result)) = record { sfits = c .before .ratio-arg .given } in
-    ratio-up (s .args .reads) (s .args .f) (valueAt (s .args .values .now)) (c .before .before .before .before .before .formula .given .1) (g .ensures) (c .before .before .if1 .taken) (c .ratio .ensures ∙ rw (toZ-ofZ h))
+    let b = c .before .before in
+    let l = b .before in
+    let a = ratio-start l .args in
+    let h : SFits w32 (valueAt (a .values .now) (l .lowest .result)) = record { sfits = c .before .ratio-arg .given } in
+    ratio-up (a .reads) (a .f) (valueAt (a .values .now)) (ratio-known l .formula .given .1) (l .lowest .ensures) (b .if1 .taken) (c .ratio .ensures ∙ rw (toZ-ofZ h))
 
 returns-3 : tie.Need-returns-3
 returns-3 c =
-    let s = c .before .before .before .before .before .before .before in
-    let g = c .before .before .before .lowest in
-    let h : SFits w32 (valueAt (s .args .values .now) (g .result)) = record { sfits = c .before .ratio-arg2 .given } in
-    ratio-down (s .args .reads) (s .args .f) (valueAt (s .args .values .now)) (c .before .before .before .before .before .formula .given .1) (g .ensures) (c .before .before .if1 .left) (c .ratio2 .ensures ∙ rw (toZ-ofZ h))
+    let b = c .before .before in
+    let l = b .before in
+    let a = ratio-start l .args in
+    let h : SFits w32 (valueAt (a .values .now) (l .lowest .result)) = record { sfits = c .before .ratio-arg2 .given } in
+    ratio-down (a .reads) (a .f) (valueAt (a .values .now)) (ratio-known l .formula .given .1) (l .lowest .ensures) (b .if1 .left) (c .ratio2 .ensures ∙ rw (toZ-ofZ h))
 
 returns-4 : tie.Need-returns-4
 returns-4 c =
-    let s = c .before .before .before .before .before .before .before in
-    let k : SFits w64 (c .before .sum .result) = record { sfits = c .before .sum .ok } in
-    sum-here (s .args .reads) (s .args .f) (valueAt (s .args .values .now)) (c .before .before .before .before .before .formula2 .given .1) (c .before .before .if2 .taken ∙ c .before .before .before .wide .ensures) (c .before .sum .ensures .0) (c .limit .ensures ∙ rw (toZ-ofZ k))
+    let t = c .before .sum in
+    let b = c .before .before in
+    let w = b .before in
+    let a = sum-start w .args in
+    let k : SFits w64 (t .result) = record { sfits = t .ok } in
+    sum-here (a .reads) (a .f) (valueAt (a .values .now)) (sum-known w .formula2 .given .1) (b .if2 .taken ∙ w .wide .ensures) (t .ensures .0)
+    (c .limit .ensures ∙ rw (toZ-ofZ k))
 
 returns-5 : tie.Need-returns-5
 returns-5 c =
-    let s = c .before .before .before .before .before .before .before .before .before .before in
-    let w = c .before .before .before .before .before .before .wide in
     let m = c .before .minus in
     let t = c .before .before .sum2 in
-    let h = term (c .before .before .before .before) in
+    let o = c .before .before .before in
+    let v = o .before in
+    let b = v .before in
+    let w = b .before in
+    let a = sum-start w .args in
+    let values = valueAt (a .values .now) in
     let j : SFits w64 (m .result) = record { sfits = m .ok } in
     let k : SFits w64 (t .result) = record { sfits = t .ok } in
-    sum-there (s .args .reads) (s .args .f) (valueAt (s .args .values .now)) (c .before .before .before .before .before .before .before .before .formula2 .given .1)
-    (λ e. c .before .before .before .before .before .if2 .left (e ∙ sym (w .ensures)))
-    (m .ensures ∙ rw (toZ-ofZ h, toZ-ofZ k, t .ensures .0, c .before .before .before .without .ensures, w .ensures))
+    sum-there (a .reads) (a .f) values (sum-known w .formula2 .given .1) (λ e. b .if2 .left (e ∙ sym (w .wide .ensures)))
+    (m .ensures
+    ∙ ap₂ _-ℤ_ (toZ-ofZ (term v) ∙ ap values (w .wide .ensures))
+    (toZ-ofZ k ∙ t .ensures .0 ∙ ap (total values) (o .without .ensures ∙ ap (without (a .reads)) (w .wide .ensures))))
     (c .limit2 .ensures ∙ rw (toZ-ofZ j))
 
 pub compute-spec : {M : Type 1} → statement M
 compute-spec =
     tie.close
     (tie.spec
-    enum-told
-    mul-t11
-    element-copy-out-t14
-    enum-known-formula
-    lowest-requires
-    mul-ratio
-    element-copy-out-ratio
+    (λ c. search needs)
+    (λ c. search needs)
+    (λ c. search needs)
+    (λ c. search needs)
+    (λ c κs. search needs)
+    (λ c. search needs)
+    (λ c. search needs)
     ratio-requires
     mul-ratio-2
     element-copy-out-ratio-2
     ratio-requires-2
-    enum-known-formula-2
-    wide-requires
-    sum-requires
-    limit-requires
-    mul-minus
+    (λ c. search needs)
+    (λ c κs. search needs)
+    (λ c κs. search needs)
+    (λ c κs. search needs)
+    (λ c. search needs)
     element-copy-out-minus
     without-requires
-    sum-requires-2
+    (λ c κs. search needs)
     minus-requires
-    limit-requires-2
+    (λ c κs. search needs)
     returns
     returns-2
     returns-3

@@ -12,7 +12,8 @@ returns c =
     let p = z .before .before in
     let y = p .before in
     let k = y .before .before in
-    ratio-tail (tailOf (k .before .before .before .before .args .line)) (k .before .tail-byte .ensures) (y .tail-byte2 .ensures) (z .tail-byte3 .ensures) (u .tail-byte4 .ensures) _ _ _ (k .match .keys1) (p .pair .ensures) (c .pair2 .ensures)
+    ratio-tail (tailOf (k .before .before .before .before .args .line)) (k .before .tail-byte .ensures) (y .tail-byte2 .ensures) (z .tail-byte3 .ensures)
+    (u .tail-byte4 .ensures) _ _ _ (k .match .keys1) (p .pair .ensures) (c .pair2 .ensures)
 
 returns-2 : tie.Need-returns-2
 returns-2 c = sum-tail (tailOf (c .before .before .before .before .args .line)) (c .before .tail-byte .ensures) _ (c .match .keys2)

@@ -14,7 +14,8 @@ returns c =
     let z = n .before in
     let y = z .before .before in
     let x = y .before .before in
-    toZ-ofZ (record { sfits = c .of-bits .ok }) ∙ c .of-bits .ensures ∙ ap valueOf (n .word .ensures ∙ word-tail (tailOf (x .before .before .before .args .line)) (x .tail-byte .ensures) (y .tail-byte2 .ensures) (z .tail-byte3 .ensures) _)
+    toZ-ofZ (record { sfits = c .of-bits .ok }) ∙ c .of-bits .ensures
+    ∙ ap valueOf (n .word .ensures ∙ word-tail (tailOf (x .before .before .before .args .line)) (x .tail-byte .ensures) (y .tail-byte2 .ensures) (z .tail-byte3 .ensures) _)
 
 pub value-of-spec : {M : Type 1} → statement M
 value-of-spec =

@@ -1,5 +1,5 @@
 -- `relating::check_formula` meets its contract: at each return the comparisons made decide the checks.
-use mathlib.Core.Path.{_≡_, refl, sym, _∙_}
+use mathlib.Core.Path.{refl, sym, _∙_}
 use native.Mathlib.Omega.{arith}
 use borrow.Author.Needs.{needs}
 use borrow.Author.Tests.{lt-ltb, le-ltb}
@@ -37,7 +37,8 @@ returns-5 c =
     let a = c .before in
     let s = a .before .before .before in
     let b = s .before .before .before .args in
-    rw (lt-ltb 0 (b .n) (omega arith), le-ltb 127 (b .id) (s .before .if2 .left), sym (s .sum-past .ensures) ∙ a .before .before .if3 .left, a .before .if4 .left, ← a .accepts .ensures, c .if5 .taken) refl
+    let past = sym (s .sum-past .ensures) ∙ a .before .before .if3 .left in
+    rw (lt-ltb 0 (b .n) (omega arith), le-ltb 127 (b .id) (s .before .if2 .left), past, a .before .if4 .left, ← a .accepts .ensures, c .if5 .taken) refl
 
 returns-6 : tie.Need-returns-6
 unfolding checkReply
@@ -45,7 +46,8 @@ returns-6 c =
     let a = c .before in
     let s = a .before .before .before in
     let b = s .before .before .before .args in
-    rw (lt-ltb 0 (b .n) (omega arith), le-ltb 127 (b .id) (s .before .if2 .left), sym (s .sum-past .ensures) ∙ a .before .before .if3 .left, a .before .if4 .left, ← a .accepts .ensures, c .if5 .left) refl
+    let past = sym (s .sum-past .ensures) ∙ a .before .before .if3 .left in
+    rw (lt-ltb 0 (b .n) (omega arith), le-ltb 127 (b .id) (s .before .if2 .left), past, a .before .if4 .left, ← a .accepts .ensures, c .if5 .left) refl
 
 pub check-formula-spec : {M : Type 1} → statement M
 check-formula-spec = tie.close (tie.spec returns returns-2 (λ c κs. search needs) returns-3 returns-4 (λ c κs. search needs) returns-5 returns-6)

@@ -1,6 +1,5 @@
 -- `relating::sum_past` meets its contract, by cases on the formula: only a sum has a field.
 use mathlib.Core.Path.{sym, ap, _∙_}
-use mathlib.Core.Path.{_≡_}
 use lib.Dec.{leb}
 use borrow.Author.Needs.{needs}
 use Rattle.sheet.specs.Commands.{sumPast}

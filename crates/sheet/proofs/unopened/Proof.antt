@@ -1,5 +1,5 @@
 -- `sheet::unopened` meets its contract: what the opening calls unopened is legal, and so is its sheet (`legal-blank`).
-use mathlib.Core.Path.{_≡_, sym, ap, subst, _∙_}
+use mathlib.Core.Path.{sym, ap, subst, _∙_}
 use borrow.Author.Needs.{needs}
 use Rattle.sheet.specs.Sheets.{blank, unopened}
 use Rattle.sheet.specs.Legal.{LegalSheet}
