@@ -69,7 +69,7 @@ pub fn answer_lines(
         let step = match command {
             Command::Remove(id) => remove(q, old, &levels, &others, &reads, id, &mut path),
             _ => {
-                let decided = decide_line(
+                let step = decide_line(
                     q,
                     old,
                     &levels,
@@ -89,14 +89,14 @@ pub fn answer_lines(
                             &others,
                             &reads,
                             formulas,
-                            decided,
+                            step,
                             &path,
                             f,
                             v,
                             &mut values,
                         )
                     }
-                    _ => decided,
+                    _ => step,
                 }
             }
         };

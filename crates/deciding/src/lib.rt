@@ -62,7 +62,7 @@ pub fn rule_after(line: Line, reply: Reply, old: Rule) -> Rule
     }
 }
 
-// The field that a command touches.
+// The field that a command touches; 0 where it touches none.
 fn touched(command: Command) -> u8
     ensures { λ r. ⌜ r ≡ touchedField command ⌝ }
 {
@@ -117,7 +117,7 @@ pub fn decide_line(
             keep(p, named, reply)
         }
         Command::Refused(r) => keep(p, named, Reply::Refused(r)),
-        // a touch, or a value that is entered: in one place, so that it stands in line there
+        // a touch, or a value that is entered: one call, so that the compiler inlines it
         _ => touching::touch(p, named, levels, others, reads, touched(command), path),
     }
 }

@@ -1,11 +1,14 @@
 -- Lists of commands on sheets: kind 07 is a touch or leaves the sheet, kind 08 leaves the panel, so that a sound panel and store stay sound
 -- (`sheet-sound`); a legal sheet stays legal. Assumes nothing.
-use mathlib.Core.Path.{_≡_, refl, sym, subst}
+use mathlib.Core.Path.{_≡_, refl, sym, ap, subst}
 use mathlib.Core.Bool.{Bool, true, false, cond}
-use mathlib.Core.List.{[]}
+use mathlib.Core.List.{List, [], _∷_}
 use mathlib.Core.Logic.{_⊎_, inl, inr}
-use Prim.Native.Nat.{zero-le}
-use Rattle.panel.specs.Answers.{isRefusal}
+use Prim.Native.Nat.{ℕ, zero-le}
+use native.Mathlib.Omega.{arith}
+use Rattle.fieldset.specs.Tables.{at}
+use Rattle.panel.specs.declared.Refusal.the-variants.{Conflict}
+use Rattle.panel.specs.Answers.{refusalBytes, isRefusal}
 use Rattle.panel.specs.Panels.{opened}
 use Rattle.panel.specs.Commands.{touching}
 use Rattle.panel.proofs.Changes.{legal-opened}
@@ -13,12 +16,17 @@ use Rattle.optimality.specs.Condition3 as store
 use Rattle.optimality.specs.Condition3.{Store, Run, stepped}
 use Rattle.optimality.specs.Agreement.{Sound}
 use Rattle.optimality.proofs.Optimum.{sound-optimal}
+use Rattle.optimality.proofs.Answers.{touch-never-conflict}
+use Rattle.optimality.proofs.States.{sound-settled, optimal-best}
+use Rattle.optimality.proofs.Conflict.{sound-conflict-exactly}
+use Rattle.optimality.proofs.Loops.{command-exactly}
 use Rattle.optimality.proofs.Runs.{performed-sound, kept-after, every-system, after-sound}
 use Rattle.sheet.specs.declared.Sheet.{Sheet}
 use Rattle.sheet.specs.Commands.{Command, solving, entering, relating, Answer, performed}
 use Rattle.sheet.specs.Legal.{LegalSheet}
+use Rattle.sheet.proofs.Answers.{entering-reply}
 use Rattle.sheet.proofs.Legal.{Left, Stored, entering-cases, legal-sheet, legal-blank}
-use Rattle.exactness.specs.Lists.{entered, sheets, start, Condition3, FormulasFit, ValuesWithin, ValuesRight}
+use Rattle.exactness.specs.Lists.{entered, sheets, start, Condition3, EveryState, ConflictAndLoop, EnteringNeverConflict, FormulasFit, ValuesWithin, ValuesRight}
 use Rattle.exactness.proofs.Values.{entered-exactly}
 
 -- ---- the store
@@ -47,9 +55,27 @@ sound-kept : (r : Run sheets) (c : Command) → SoundRun r → SoundRun (stepped
 unfolding stepped
 sound-kept r c x = sheet-sound (r .store) (r .state) c x
 
-pub condition-3 : Condition3
+start-sound : SoundRun start
 unfolding store.after
-condition-3 = every-system sheets SoundRun sound-kept (λ r x. sound-optimal x) start (after-sound [])
+start-sound = after-sound []
+
+pub condition-3 : Condition3
+condition-3 = every-system sheets SoundRun sound-kept (λ r x. sound-optimal x) start start-sound
+
+sound-after : store.AfterEveryList sheets start SoundRun
+sound-after = kept-after sheets SoundRun sound-kept start start-sound
+
+pub every-state : EveryState
+every-state commands = let x = sound-after commands in (sound-settled x, x .unblocked, optimal-best (condition-3 commands))
+
+pub conflict-and-loop : ConflictAndLoop
+conflict-and-loop commands = let x = sound-after commands in (sound-conflict-exactly x, command-exactly _ (x .legal))
+
+pub entering-never-conflict : EnteringNeverConflict
+entering-never-conflict s f v =
+    entering-reply (λ b. b ≡ 0xFF ∷ refusalBytes Conflict → ⊥) s f v (touch-never-conflict (s .panel) f)
+    (λ e. let z : _≡_ {A = ℕ} 14 10 = ap (λ (b : List ℕ). at b 1) e in omega arith)
+    (λ e. let z : _≡_ {A = ℕ} 13 10 = ap (λ (b : List ℕ). at b 1) e in omega arith)
 
 -- ---- legal sheets
 

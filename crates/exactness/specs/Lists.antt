@@ -2,7 +2,11 @@
 use Prim.Native.Nat.{ℕ}
 use mathlib.Core.Path.{_≡_}
 use mathlib.Core.Bool.{false}
+use mathlib.Core.List.{_∷_}
+use lib.IntN.{ℤ}
+use Rattle.panel.specs.declared.Refusal.the-variants.{Conflict}
 use Rattle.panel.specs.Items.{linkAt}
+use Rattle.panel.specs.Answers.{refusalBytes}
 use Rattle.panel.specs.Commands.{planning, touching}
 use Rattle.values.specs.Limits.{valueAt, outside}
 use Rattle.sheet.specs.declared.Sheet.{Sheet}
@@ -11,6 +15,8 @@ use Rattle.sheet.specs.Commands.{Command, solving, entering, relating, performe
 use Rattle.sheet.specs.Legal.{Fits}
 use Rattle.optimality.specs.Condition3 as store
 use Rattle.optimality.specs.Condition3.{Store, empty, Optimal, System, Run, AfterEveryList}
+use Rattle.optimality.specs.States.{Settled, NothingBlocked, NothingBetter}
+use Rattle.optimality.specs.Refusals.{ConflictExactly, LoopExactly}
 use Rattle.exactness.specs.Values.{EnteredExactly}
 
 -- what a command that is not refused changes in the store: kind 07 "touches f", kind 08 enters and strikes out nothing
@@ -36,6 +42,24 @@ start = record { state = unopened; store = empty }
 -- condition 3 of the tender, over lists with kinds 07 and 08
 abbrev pub Condition3 : Type 0
 Condition3 = AfterEveryList sheets start (λ r. Optimal (r .store) (sheets .plan (r .state)))
+
+-- ---- document 01's sentences about every state, over these lists
+
+-- "each field has exactly one setter ..; every required link in force holds", nothing is blocked, and nothing is better
+abbrev pub EveryState : Type 0
+EveryState =
+    AfterEveryList sheets start (λ r.
+    Settled (r .store) (sheets .plan (r .state)) × NothingBlocked (r .state .panel) × NothingBetter (r .store) (sheets .plan (r .state)))
+
+-- Conflict and Loop are given exactly when document 01 says so
+abbrev pub ConflictAndLoop : Type 0
+ConflictAndLoop = AfterEveryList sheets start (λ r. ConflictExactly (r .store) (r .state .panel) × LoopExactly (r .state .panel))
+
+-- a value that is entered never meets Conflict, since "Touch and Remove never give Conflict"
+abbrev pub EnteringNeverConflict : Type 0
+EnteringNeverConflict = (s : Sheet) (f : ℕ) (v : ℤ) → performed s (entering f v) .reply ≡ 0xFF ∷ refusalBytes Conflict → ⊥
+
+-- ---- formulas and values
 
 -- a formula fits its link
 abbrev pub FormulasFit : Type 0

@@ -112,7 +112,7 @@ module _ (p : Panel) (h : Legal p) where
   drop-exactly q k Waiting = still p (accepted p q) (yes _ _ tt)
   drop-exactly q k (Holding v) = settled-exactly q k (leastBlocked q) (least-blocked q)
 
-  command-exactly : (c : Command) → Passes (checksOf p c) → Exactly p (performed p c) (reversal p c)
+  pub command-exactly : (c : Command) → Passes (checksOf p c) → Exactly p (performed p c) (reversal p c)
   unfolding removeStep planStep reversal
   command-exactly (opening m) n = rw (checked-step p (checksOf p (opening m)) (openStep m) n) (still p (openStep m) (yes _ _ tt))
   command-exactly (adding id level bytes) n =

@@ -59,7 +59,7 @@ pub enum Refusal {
     Conflict,
     Loop,
     TextTooLong,
-    // a value is outside the limits
+    // a result is outside the limits
     OutOfRange,
     // a link still sets the field that a value is entered in
     FieldDriven,
