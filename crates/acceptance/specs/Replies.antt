@@ -15,7 +15,7 @@ use Rattle.frames.specs.Frames.{frameOf, lineAnswer}
 abbrev pub kindOf : List ℕ → ℕ
 kindOf line = at (frameOf line) 0
 
--- a kind whose reply has a moved count
+-- a kind whose reply has a moved count that may be other than 0
 abbrev pub Counts : ℕ → Type 0
 Counts kind = (kind ≤ 0x04) ⊎ (kind ≡ 0x07)
 

@@ -1,11 +1,11 @@
 -- The five sham panels of document 01 ("Agreement on the work"), each with a text for which it writes another output than document 01's. A sham
--- panel has document 01's states and its own answer to a line; lines and tally are as in document 01.
+-- panel has the same states and its own answer to a line; lines and tally are as in document 01.
 use Prim.Native.Nat.{_+_}
 use Prim.Native.String.{String}
 use mathlib.Core.Logic.{_≢_}
-use mathlib.Core.Bool.{not, _&&_, cond}
+use mathlib.Core.Bool.{not, _&&_, _||_, cond}
 use mathlib.Core.List.{List, [], _∷_, map}
-use lib.Dec.{ltb}
+use lib.Dec.{eqb, ltb}
 use Rattle.fieldset.specs.Numbers.{any}
 use Rattle.fieldset.specs.Tables.{at}
 use Rattle.panel.specs.declared.Panel.{Panel}
@@ -45,12 +45,12 @@ solvesFirstLinkOnly s line =
     let a = lineAnswer s line in
     record { state = cond (any (λ i. linkAt (s .panel .links) i .used) 128) s (a .state); reply = a .reply }
 
--- "one that invents the moved count": one more than it is, for each add, remove and touch (kinds 02 to 04) that is not refused
+-- "one that invents the moved count": one more than it is, for each add, remove, touch and value (kinds 02 to 04 and 07) that is not refused
 unfoldable pub inventsMoved : LineAnswer Sheet
 inventsMoved s line =
     let a = lineAnswer s line in
     let kind = at (frameOf line) 0 in
-    let counts = ltb 1 kind && ltb kind 5 && not (isRefusal (a .reply)) in
+    let counts = ((ltb 1 kind && ltb kind 5) || eqb kind 7) && not (isRefusal (a .reply)) in
     record { state = a .state; reply = cond counts (0x00 ∷ (at (a .reply) 1 + 1) ∷ []) (a .reply) }
 
 -- ---- each with a text

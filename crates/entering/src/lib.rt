@@ -21,7 +21,7 @@ ghost use Rattle.sheet.specs.Sheets.{sheetOf};
 ghost use Rattle.entering.specs.Entered.{Entered};
 
 // Decides on entering a value in a field, from the step of its touch: where the touch is accepted, the value is stored and the whole plan of the
-// panel after the touch is run. The step is the touch's where nothing refuses, and then only the values change.
+// panel after the touch is run. Where nothing refuses, the step is the touch's and the values are those of the run; else both leave all as it was.
 // The contract rules out, for instance, a field that a link still sets told as outside the limits and a touch that a refusal leaves (must-fail:
 // setter_told_as_limits, refusal_keeps_the_touch).
 pub fn enter(

@@ -48,4 +48,9 @@ worked =
     ∷ valued "0102\n0200000081\n08000100020001\n08000100030001\n07000000000A\n" (pos 10 ∷ pos 30 ∷ [])
     -- "and removal drops it", also for a link that is added again under the number: "a link without formula .. keeps the value"
     ∷ valued "0102\n0200000081\n08000100010002\n070000000008\n0300\n0200000081\n07000000000A\n" (pos 10 ∷ pos 4 ∷ [])
+    -- "p and q from 1 to 65,535": 2 × 65,535 / 257 is 510; 7 × 256 / 1
+    ∷ valued "0102\n0200000081\n080001FFFF0101\n070000000002\n" (pos 2 ∷ pos 510 ∷ [])
+    ∷ valued "0102\n0200000081\n08000101000001\n070000000007\n" (pos 7 ∷ pos 1792 ∷ [])
+    -- the plan goes by what is read, not by number: field 2 is read by the setter of field 1, and field 1 by that of field 0
+    ∷ valued "0103\n0200008001\n0201008102\n08000100010002\n08010100010003\n070200000005\n" (pos 30 ∷ pos 15 ∷ pos 5 ∷ [])
     ∷ []

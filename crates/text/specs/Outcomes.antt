@@ -1,4 +1,4 @@
--- What a whole text is answered, whatever answers its lines.
+-- What a whole text is answered, whatever answers its lines; and the fields of the panel after it.
 use Prim.Native.Nat.{ℕ}
 use mathlib.Core.Path.{_≡_}
 use mathlib.Core.Bool.{cond}
