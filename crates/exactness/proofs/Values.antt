@@ -1,42 +1,49 @@
 -- Values: rounding has one result; an accepted kind 07 is a run of the plan of a legal panel, whose formulas were given to their links
 -- (`setter-held`), so that each is right afterwards (`plan-settled`); a refusal leaves the sheet. Assumes nothing.
-use Prim.Native.Nat.{ℕ, _<_}
+use Prim.Native.Nat.{ℕ, _≤_, _<_}
 use mathlib.Core.Path.{_≡_, refl, sym, ap, subst, _∙_}
-use mathlib.Core.Bool.{false}
-use mathlib.Core.Logic.{_⊎_, inl, inr, _≢_}
+use mathlib.Core.Bool.{Bool, true, false}
+use mathlib.Core.List.{List, _∷_}
+use mathlib.Core.Logic.{_⊎_, inl, inr, _≢_, _↔_}
 use native.Mathlib.Omega.{arith}
-use borrow.Author.Tests.{lt-ltb}
+use borrow.Author.Tests.{lt-ltb, ltb-true, ltb-false}
+use lib.Dec.{ltb}
 use lib.IntN.{ℤ}
-use lib.ListN.{set}
+use lib.ListN.{getD, set}
 use Rattle.fieldset.specs.Tables.{at}
 use Rattle.fieldset.proofs.Numbers.{clash}
+use Rattle.panel.specs.declared.Link.{Link}
+use Rattle.panel.specs.declared.Refusal.{Refusal}
+use Rattle.panel.specs.declared.Refusal.the-variants.{OutOfRange, FieldDriven, BadFormula}
 use Rattle.panel.specs.declared.Standing.the-variants.{Holding}
 use Rattle.panel.specs.Items.{linkAt}
 use Rattle.panel.specs.Answers as answers
-use Rattle.panel.specs.Answers.{isRefusal}
+use Rattle.panel.specs.Answers.{refusalBytes, isRefusal}
 use Rattle.panel.specs.Solution.{setterReads, planOf, isLooped}
 use Rattle.panel.specs.Commands as panel
-use Rattle.panel.specs.Commands.{touching}
+use Rattle.panel.specs.Commands.{touching, checkReply}
 use Rattle.panel.specs.Legal.{Legal}
 use Rattle.panel.proofs.Performed.{legal-performed, Keeps}
-use Rattle.optimality.proofs.Answers.{refused-unchanged}
+use Rattle.optimality.proofs.Answers.{Any, Not, touching-outcome, not-given, refused-unchanged}
 use Rattle.values.specs.Ratios.{scaled}
 use Rattle.values.proofs.Ratios.{scaled-nearest, nearest-scaled}
-use Rattle.formulas.specs.Formulas.{formulaOf}
+use Rattle.formulas.specs.declared.Formula.{Formula}
+use Rattle.formulas.specs.Formulas.{formulaOf, accepted}
 use Rattle.evaluation.specs.Runs.{Settled}
 use Rattle.evaluation.proofs.Planned.{plan-settled}
 use Rattle.sheet.specs.declared.Sheet.{Sheet}
 use Rattle.sheet.specs.Sheets.{sheetOf, formulaAt, evaluated}
-use Rattle.sheet.specs.Commands.{solving, entering, relating, Answer, isDriven, performed}
+use Rattle.sheet.specs.Commands.{solving, entering, relating, Answer, isDriven, entered, sumPast, performed}
 use Rattle.sheet.specs.Legal.{LegalSheet}
-use Rattle.sheet.proofs.Legal.{Left, Stored, entering-cases, Touched, touched}
+use Rattle.sheet.proofs.Legal.{Left, Stored, entering-cases, Touched}
+use Rattle.sheet.proofs.Legal as legality
 use Rattle.sheet.proofs.Held.{setterCovered, setter-held}
-use Rattle.exactness.specs.Values.{EveryRatio, Exact, EnteredExactly, RefusedUnchanged}
+use Rattle.exactness.specs.Values.{EveryRatio, Exact, EnteredExactly, touched, AsTouched, EnteredAsTouched, Gives, EnteringRefused, EnteringExactly, BadFormulaExactly, RefusedUnchanged}
 
 -- ---- rounding
 
 pub every-ratio : EveryRatio
-every-ratio v p q some = record { number = scaled v p q; nearest = scaled-nearest v p q some; only = nearest-scaled v p q some }
+every-ratio v p q some = record { nearest = scaled-nearest v p q some; only = nearest-scaled v p q some }
 
 -- ---- kind 07
 
@@ -92,7 +99,86 @@ entered-exactly s h f v ok = go (entering-cases s f v)
 
     go : Left s (performed s (entering f v)) ⊎ Stored s f v (performed s (entering f v)) → Exact s (performed s (entering f v) .sheet) f v
     go (inl l) = absurd (clash (l .refusal) ok)
-    go (inr a) = subst (λ (x : Answer). Exact s (x .sheet) f v) (sym (a .is)) (exact a (kept (a .touched) (touched s h f)))
+    go (inr a) = subst (λ (x : Answer). Exact s (x .sheet) f v) (sym (a .is)) (exact a (kept (a .touched) (legality.touched s h f)))
+
+pub entered-as-touched : EnteredAsTouched
+entered-as-touched s f v ok = go (entering-cases s f v)
+  where
+    go : Left s (performed s (entering f v)) ⊎ Stored s f v (performed s (entering f v)) → AsTouched s f v
+    go (inl l) = absurd (clash (l .refusal) ok)
+    go (inr a) = record {
+      reply = ap (λ (x : Answer). x .reply) (a .is);
+      panel = ap (λ (x : Answer). x .sheet .panel) (a .is);
+      formulas = ap (λ (x : Answer). x .sheet .formulas) (a .is);
+    }
+
+-- ---- when kinds 07 and 08 are refused
+
+-- replies with another second byte
+differ : {a b : List ℕ} → (at a 1 ≡ at b 1 → ⊥) → a ≡ b → ⊥
+differ h e = h (ap (λ (x : List ℕ). at x 1) e)
+
+-- a touch gives neither of kind 07's own refusals
+touch-not : (s : Sheet) (f : ℕ) (r : Refusal) → 12 ≤ getD (refusalBytes r) 0 0 → touched s f .reply ≢ 0xFF ∷ refusalBytes r
+touch-not s f r l =
+    not-given (Not (getD (refusalBytes r) 0 0)) (s .panel) (touched s f)
+    (touching-outcome (Not (getD (refusalBytes r) 0 0)) Any (s .panel) (λ x h e. omega arith) (λ q. tt) (λ e. omega arith) f) r (λ h. h refl)
+
+pub entering-exactly : EnteringExactly
+unfolding entered
+entering-exactly s f v =
+    go (isRefusal (touched s f .reply)) refl (isDriven (touched s f .panel) f) refl (evaluated (touched s f .panel) (s .formulas) (set (s .values) f v) .fits) refl
+  where
+    go : (x : Bool) → isRefusal (touched s f .reply) ≡ x → (y : Bool) → isDriven (touched s f .panel) f ≡ y
+        → (z : Bool) → evaluated (touched s f .panel) (s .formulas) (set (s .values) f v) .fits ≡ z → EnteringRefused s f v
+    go true e y d z g =
+        let is : performed s (entering f v) .reply ≡ touched s f .reply = rw e refl in
+        record {
+          first = λ r. is;
+          driven = (λ r. absurd (touch-not s f FieldDriven (omega arith) (sym is ∙ r)), λ h. absurd (clash e (h .0)));
+          out = (λ r. absurd (touch-not s f OutOfRange (omega arith) (sym is ∙ r)), λ h. absurd (clash e (h .0)));
+        }
+    go false e true d z g =
+        let is : performed s (entering f v) .reply ≡ 0xFF ∷ refusalBytes FieldDriven = rw (e, d) refl in
+        record {
+          first = λ r. absurd (clash r e);
+          driven = (λ r. (e, d), λ h. is);
+          out = (λ r. absurd (differ (λ q. omega arith) (sym is ∙ r)), λ h. absurd (clash d (h .1)));
+        }
+    go false e false d false g =
+        let is : performed s (entering f v) .reply ≡ 0xFF ∷ refusalBytes OutOfRange = rw (e, d, g) refl in
+        record {
+          first = λ r. absurd (clash r e);
+          driven = (λ r. absurd (differ (λ q. omega arith) (sym is ∙ r)), λ h. absurd (clash (h .1) d));
+          out = (λ r. (e, d, g), λ h. is);
+        }
+    go false e false d true g =
+        let is : performed s (entering f v) .reply ≡ touched s f .reply = rw (e, d, g) refl in
+        record {
+          first = λ r. absurd (clash r e);
+          driven = (λ r. absurd (clash (ap isRefusal (sym is ∙ r)) e), λ h. absurd (clash (h .1) d));
+          out = (λ r. absurd (clash (ap isRefusal (sym is ∙ r)) e), λ h. absurd (clash g (h .2)));
+        }
+
+pub bad-formula-exactly : BadFormulaExactly
+unfolding checkReply
+bad-formula-exactly s id formula = go (ltb 0 n) refl (ltb 127 id) refl (sumPast n formula) refl (l .used) refl (accepted formula (l .covered)) refl
+  where
+    n : ℕ
+    n = s .panel .size
+
+    l : Link
+    l = linkAt (s .panel .links) id
+
+    go : (a : Bool) → ltb 0 n ≡ a → (b : Bool) → ltb 127 id ≡ b → (c : Bool) → sumPast n formula ≡ c → (d : Bool) → l .used ≡ d
+        → (e : Bool) → accepted formula (l .covered) ≡ e
+        → Gives s (relating id formula) BadFormula ↔ (0 < n) × (id ≤ 127) × (sumPast n formula ≡ false) × (l .used ≡ true) × (accepted formula (l .covered) ≡ false)
+    go false a b eb c ec d ed e ee = (λ r. absurd (differ (λ q. omega arith) (rw a at r)), λ h. absurd (omega (arith, ltb-false 0 n a, h .0)))
+    go true a true eb c ec d ed e ee = (λ r. absurd (differ (λ q. omega arith) (rw (a, eb) at r)), λ h. absurd (omega (arith, ltb-true 127 id eb, h .1)))
+    go true a false eb true ec d ed e ee = (λ r. absurd (differ (λ q. omega arith) (rw (a, eb, ec) at r)), λ h. absurd (clash ec (h .2)))
+    go true a false eb false ec false ed e ee = (λ r. absurd (differ (λ q. omega arith) (rw (a, eb, ec, ed) at r)), λ h. absurd (clash (h .3) ed))
+    go true a false eb false ec true ed true ee = (λ r. absurd (differ (λ q. omega arith) (rw (a, eb, ec, ed, ee) at r)), λ h. absurd (clash ee (h .4)))
+    go true a false eb false ec true ed false ee = (λ r. (ltb-true 0 n a, ltb-false 127 id eb, ec, ed, ee), λ h. rw (a, eb, ec, ed, ee) refl)
 
 -- ---- refusals
 

@@ -1,31 +1,39 @@
 -- What holds of values (document 02, request 2): statements. Quotations are of that request.
-use Prim.Native.Nat.{ℕ, _<_}
+use Prim.Native.Nat.{ℕ, _≤_, _<_}
 use mathlib.Core.Path.{_≡_}
 use mathlib.Core.Bool.{true, false}
-use mathlib.Core.Logic.{_≢_}
+use mathlib.Core.List.{_∷_}
+use mathlib.Core.Logic.{_≢_, _↔_}
 use lib.IntN.{ℤ}
+use lib.ListN.{set}
 use Rattle.fieldset.specs.Tables.{at}
+use Rattle.panel.specs.declared.Refusal.{Refusal}
+use Rattle.panel.specs.declared.Refusal.the-variants.{OutOfRange, FieldDriven, BadFormula}
 use Rattle.panel.specs.declared.Standing.the-variants.{Holding}
 use Rattle.panel.specs.Items.{linkAt}
-use Rattle.panel.specs.Answers.{isRefusal}
+use Rattle.panel.specs.Answers as answers
+use Rattle.panel.specs.Answers.{refusalBytes, isRefusal}
+use Rattle.panel.specs.Commands as panel
+use Rattle.panel.specs.Commands.{touching}
 use Rattle.values.specs.Limits.{valueAt}
-use Rattle.values.specs.Ratios.{Nearest}
+use Rattle.values.specs.Ratios.{scaled, Nearest}
+use Rattle.formulas.specs.declared.Formula.{Formula}
 use Rattle.formulas.specs.declared.Formula.the-variants.{None}
-use Rattle.formulas.specs.Formulas.{Right}
+use Rattle.formulas.specs.Formulas.{accepted, Right}
 use Rattle.sheet.specs.declared.Sheet.{Sheet}
-use Rattle.sheet.specs.Sheets.{formulaAt}
-use Rattle.sheet.specs.Commands.{Command, entering, performed}
+use Rattle.sheet.specs.Sheets.{formulaAt, evaluated}
+use Rattle.sheet.specs.Commands.{Command, entering, relating, isDriven, sumPast, performed}
 
 -- ---- rounding
 
--- "rounded to nearest, halves away from zero", said without division (`Nearest`): there is such a whole number, and no other
-pub record RoundedTo (v : ℤ) (p q : ℕ) : Type 0 where
-  pub number : ℤ
-  pub nearest : Nearest v p q number
-  pub only : (x : ℤ) → Nearest v p q x → x ≡ number
+-- "rounded to nearest, halves away from zero", said without division (`Nearest`): x is such a whole number, and there is no other
+pub record RoundedTo (v : ℤ) (p q : ℕ) (x : ℤ) : Type 0 where
+  pub nearest : Nearest v p q x
+  pub only : (y : ℤ) → Nearest v p q y → y ≡ x
 
+-- so is what a ratio comes to
 abbrev pub EveryRatio : Type 0
-EveryRatio = (v : ℤ) (p q : ℕ) → 0 < q → RoundedTo v p q
+EveryRatio = (v : ℤ) (p q : ℕ) → 0 < q → RoundedTo v p q (scaled v p q)
 
 -- ---- kind 07
 
@@ -44,6 +52,44 @@ pub record Exact (before after : Sheet) (f : ℕ) (v : ℤ) : Type 0 where
 -- "After an accepted kind 07"
 abbrev pub EnteredExactly : Sheet → Type 0
 EnteredExactly s = (f : ℕ) (v : ℤ) → isRefusal (performed s (entering f v) .reply) ≡ false → Exact s (performed s (entering f v) .sheet) f v
+
+-- what the touch of f alone gives
+abbrev pub touched : Sheet → ℕ → answers.Answer
+touched s f = panel.performed (s .panel) (touching f)
+
+-- it "touches f": where it is accepted, it replies and leaves the panel as the touch does; formulas stay
+pub record AsTouched (s : Sheet) (f : ℕ) (v : ℤ) : Type 0 where
+  pub reply : performed s (entering f v) .reply ≡ touched s f .reply
+  pub panel : performed s (entering f v) .sheet .panel ≡ touched s f .panel
+  pub formulas : performed s (entering f v) .sheet .formulas ≡ s .formulas
+
+abbrev pub EnteredAsTouched : Type 0
+EnteredAsTouched = (s : Sheet) (f : ℕ) (v : ℤ) → isRefusal (performed s (entering f v) .reply) ≡ false → AsTouched s f v
+
+-- ---- when kinds 07 and 08 are refused
+
+abbrev pub Gives : Sheet → Command → Refusal → Type 0
+Gives s c r = performed s c .reply ≡ 0xFF ∷ refusalBytes r
+
+-- the refusals of the touch come first; then "14 FieldDriven (a link still sets f after the touch, checked before 13)", then "13 OutOfRange (a result
+-- outside the limits)" of the run over the whole plan
+pub record EnteringRefused (s : Sheet) (f : ℕ) (v : ℤ) : Type 0 where
+  pub first : isRefusal (touched s f .reply) ≡ true → performed s (entering f v) .reply ≡ touched s f .reply
+  pub driven : Gives s (entering f v) FieldDriven ↔ (isRefusal (touched s f .reply) ≡ false) × (isDriven (touched s f .panel) f ≡ true)
+  pub out : Gives s (entering f v) OutOfRange
+      ↔ (isRefusal (touched s f .reply) ≡ false) × (isDriven (touched s f .panel) f ≡ false)
+      × (evaluated (touched s f .panel) (s .formulas) (set (s .values) f v) .fits ≡ false)
+
+abbrev pub EnteringExactly : Type 0
+EnteringExactly = (s : Sheet) (f : ℕ) (v : ℤ) → EnteringRefused s f v
+
+-- "15 BadFormula (p or q 0, wrong number of covered fields, f not covered); the link, open and field checks precede": of an open panel, a number that is
+-- in use and a sum in one of its fields
+abbrev pub BadFormulaExactly : Type 0
+BadFormulaExactly =
+    (s : Sheet) (id : ℕ) (formula : Formula) → let l = linkAt (s .panel .links) id in
+    Gives s (relating id formula) BadFormula
+    ↔ (0 < s .panel .size) × (id ≤ 127) × (sumPast (s .panel .size) formula ≡ false) × (l .used ≡ true) × (accepted formula (l .covered) ≡ false)
 
 -- ---- refusals
 
