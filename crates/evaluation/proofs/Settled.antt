@@ -1,14 +1,14 @@
 -- After a run over an ordered plan every held formula is right for the field that it sets, and what has no formula keeps its value.
-use Prim.Native.Nat.{ℕ, zero, suc, _+_, _^_, _<_}
+use Prim.Native.Nat.{ℕ, zero, suc, _+_, _^_, _≤_, _<_}
 use mathlib.Core.Path.{_≡_, refl, sym, ap, subst, _∙_}
 use mathlib.Core.Bool.{Bool, true, false, not, _&&_, cond, and-true, and-false, true≢false}
 use mathlib.Core.List.{List, [], _∷_}
 use mathlib.Core.Logic.{_≢_, _⊎_, inl, inr}
 use native.Mathlib.Decide.{ℕ-discrete, decLt}
 use native.Mathlib.Omega.{arith}
-use borrow.Author.Tests.{lt-ltb, le-ltb, eq-eqb, ne-eqb}
-use lib.Dec.{eqb}
-use lib.IntN.{ℤ, pos, _+ℤ_, _-ℤ_, +ℤ-comm, -ℤ-+ℤ-cancel}
+use borrow.Author.Tests.{lt-ltb, le-ltb, ltb-true, ltb-false, eq-eqb, ne-eqb}
+use lib.Dec.{eqb, ltb}
+use lib.IntN.{ℤ, pos, _+ℤ_, _-ℤ_, +ℤ-comm, -ℤ-+ℤ-cancel, +ℤ-negℤ-cancel}
 use lib.ListN.{length, set, length-set, List·getD-eq-default}
 use lib.Seq.{getD-set-same, getD-set-other, set-getD, set-out}
 use Rattle.fieldset.specs.Lists.{In, All}
@@ -16,14 +16,14 @@ use Rattle.fieldset.proofs.Lists.{all-in}
 use Rattle.fieldset.specs.Fields.{member, with, without, lowestOf, size}
 use Rattle.fieldset.proofs.Numbers.{clash, count-pos}
 use Rattle.fieldset.proofs.Tests.{and-left}
-use Rattle.fieldset.proofs.Fields.{member-with-same, member-with-other, member-without, member-without-other, without-lt, lowestOf-lt, lowestOf-member, size-without, within-member, size-empty, member-lt}
+use Rattle.fieldset.proofs.Fields.{member-with-same, member-with-other, member-without, member-without-same, member-without-other, without-lt, lowestOf-lt, lowestOf-member, size-without, within-member, size-empty, member-lt}
 use Rattle.values.specs.Limits.{outside, limited, valueAt}
 use Rattle.values.specs.declared.Limited.{Limited}
 use Rattle.values.specs.declared.Limited.the-variants.{Value, OutOfRange}
-use Rattle.values.specs.Ratios.{Nearest}
+use Rattle.values.specs.Ratios.{scaled, Nearest}
 use Rattle.values.specs.Sums.{total}
 use Rattle.values.proofs.Limits.{limited-same, limited-within}
-use Rattle.values.proofs.Ratios.{scaled-nearest}
+use Rattle.values.proofs.Ratios.{scaled-nearest, nearest-scaled}
 use Rattle.values.proofs.Sums.{total-cong, total-without, total-members}
 use Rattle.formulas.specs.declared.Formula.{Formula}
 use Rattle.formulas.specs.declared.Formula.the-variants.{None, Ratio, Sum}
@@ -33,6 +33,13 @@ use Rattle.formulas.proofs.Accepting.{ratio-accepted, sum-accepted}
 use Rattle.evaluation.proofs.Running.{run-value, run-out}
 
 -- ---- covered fields and read fields
+
+below : {f g : ℕ} → f ≤ g → g ≢ f → f < g
+below {f} {g} l d = go (decLt f g)
+  where
+    go : Dec (f < g) → f < g
+    go (yes h) = h
+    go (no h) = absurd (d (omega arith))
 
 -- a set of one field has no other
 one-field : (m f g : ℕ) → m < 2 ^ 64 → size m ≡ 1 → f < 64 → g < 64 → member m f ≡ true → member m g ≡ true → f ≡ g
@@ -88,10 +95,10 @@ module _ {formula : Formula} {covered reads f : ℕ} (held : Held formula covere
 
 -- ---- what is computed depends on the read fields alone, and is right
 
-ratio-some : {p q : ℕ} → Ratio p q ≢ None
+pub ratio-some : {p q : ℕ} → Ratio p q ≢ None
 ratio-some e = let z : _≡_ {A = ℕ} 0 1 = cc in omega arith
 
-sum-some : {g : ℕ} → Sum g ≢ None
+pub sum-some : {g : ℕ} → Sum g ≢ None
 sum-some e = let z : _≡_ {A = ℕ} 0 1 = cc in omega arith
 
 -- what is held can be computed
@@ -109,17 +116,18 @@ take-back : (a b : ℤ) → b +ℤ (a -ℤ b) ≡ a
 take-back a b = +ℤ-comm b (a -ℤ b) ∙ -ℤ-+ℤ-cancel a b
 
 module _ {covered reads f : ℕ} (v w : ℕ → ℤ) (agree : (g : ℕ) → g < 64 → member reads g ≡ true → v g ≡ w g) where
-  -- computed before the run ends, right for the values at its end
-  computed-agrees : (formula : Formula) → (formula ≢ None → Held formula covered reads f) → w f ≡ computed formula reads f v → w f ≡ computed formula reads f w
+  -- values that agree on them, and on f where there is no formula, give the same
+  pub computed-cong : (formula : Formula) → (formula ≢ None → Held formula covered reads f) → (formula ≡ None → v f ≡ w f)
+      → computed formula reads f v ≡ computed formula reads f w
   unfolding computed
-  computed-agrees None held e = refl
-  computed-agrees (Ratio p q) held′ e =
+  computed-cong None held e = e refl
+  computed-cong (Ratio p q) held′ e =
       let held = held′ ratio-some in
       let some : 0 < reads = not-empty reads (omega (arith, reads-size held, ratio-accepted p q covered (held .fitting) .1 .1)) in
       let same : v (lowestOf reads) ≡ w (lowestOf reads) =
       agree (lowestOf reads) (lowestOf-lt reads (reads-small held) some) (lowestOf-member reads (reads-small held) some) in
-      e ∙ rw same
-  computed-agrees (Sum g) held′ e = e ∙ go (held′ sum-some) (ℕ-discrete f g)
+      rw same
+  computed-cong (Sum g) held′ e = go (held′ sum-some) (ℕ-discrete f g)
     where
       go : Held (Sum g) covered reads f → Dec (f ≡ g)
           → cond (eqb f g) (total v reads) (v g -ℤ total v (without reads g)) ≡ cond (eqb f g) (total w reads) (w g -ℤ total w (without reads g))
@@ -128,6 +136,13 @@ module _ {covered reads f : ℕ} (v w : ℕ → ℤ) (agree : (g : ℕ) → g < 
           let (low, inside) = sum-accepted g covered (held .fitting) in
           rw (ne-eqb f g d, agree g low (other-read held g low inside (λ q. d (sym q))))
           (ap (λ (x : ℤ). w g -ℤ x) (total-cong v w (without reads g) (λ i l t. agree i l (part reads g i l t))))
+
+  -- computed before the run ends, right for the values at its end
+  computed-agrees : (formula : Formula) → (formula ≢ None → Held formula covered reads f) → w f ≡ computed formula reads f v → w f ≡ computed formula reads f w
+  unfolding computed
+  computed-agrees None held e = refl
+  computed-agrees (Ratio p q) held e = e ∙ computed-cong (Ratio p q) held (λ n. absurd (ratio-some n))
+  computed-agrees (Sum g) held e = e ∙ computed-cong (Sum g) held (λ n. absurd (sum-some n))
 
 module _ {covered reads f : ℕ} (w : ℕ → ℤ) where
   computed-right : (formula : Formula) → (formula ≢ None → Held formula covered reads f) → w f ≡ computed formula reads f w → Right formula covered f w
@@ -151,6 +166,51 @@ module _ {covered reads f : ℕ} (w : ℕ → ℤ) where
           rw (held .rest) (total-members w (without (without covered g) f) (without (without covered f) g) (without-swap covered f g)) in
           let here : w f ≡ w g -ℤ total w (without reads g) = e ∙ rw (ne-eqb f g d) in
           sym (t ∙ rw (same, here) (take-back (w g) (total w (without reads g))))
+
+  -- and what is right is what would be computed
+  pub right-computed : (formula : Formula) → (formula ≢ None → Held formula covered reads f) → Right formula covered f w → w f ≡ computed formula reads f w
+  unfolding computed Right
+  right-computed None held r = refl
+  right-computed (Ratio p q) held′ r = go (ltb g f) refl
+    where
+      held : Held (Ratio p q) covered reads f
+      held = held′ ratio-some
+
+      some : 0 < reads
+      some = not-empty reads (omega (arith, reads-size held, ratio-accepted p q covered (held .fitting) .1 .1))
+
+      g : ℕ
+      g = lowestOf reads
+
+      low : g < 64
+      low = lowestOf-lt reads (reads-small held) some
+
+      -- it is covered, and another one
+      inside : (member covered g ≡ true) × (g ≢ f)
+      inside =
+          let read : member (without covered f) g ≡ true = rw (← held .rest) (lowestOf-member reads (reads-small held) some) in
+          (part covered f g low read, λ e. clash read (rw e (member-without-same covered f)))
+
+      near : (g < f → Nearest (w g) p q (w f)) × (f < g → Nearest (w g) q p (w f))
+      near = r g low (inside .0) (inside .1)
+
+      go : (b : Bool) → ltb g f ≡ b → w f ≡ cond (ltb g f) (scaled (w g) p q) (scaled (w g) q p)
+      go true t = rw t (nearest-scaled (w g) p q (ratio-accepted p q covered (held .fitting) .1 .0) (w f) (near .0 (ltb-true g f t)))
+      go false t =
+          let over : f < g = below (ltb-false g f t) (inside .1) in
+          rw t (nearest-scaled (w g) q p (ratio-accepted p q covered (held .fitting) .0) (w f) (near .1 over))
+  right-computed (Sum g) held′ r = go (held′ sum-some) (ℕ-discrete f g)
+    where
+      go : Held (Sum g) covered reads f → Dec (f ≡ g) → w f ≡ cond (eqb f g) (total w reads) (w g -ℤ total w (without reads g))
+      go held (yes d) = rw (eq-eqb f g d, held .rest, d) r
+      go held (no d) =
+          let t : total w (without covered g) ≡ total w (without (without covered g) f) +ℤ w f =
+          total-without w (without covered g) f (field-low held) (member-without-other covered g f (field-low held) d ∙ held .covers) in
+          let same : total w (without (without covered g) f) ≡ total w (without reads g) =
+          rw (held .rest) (total-members w (without (without covered g) f) (without (without covered f) g) (without-swap covered f g)) in
+          let rest : ℤ = total w (without reads g) in
+          let whole : w g ≡ w f +ℤ rest = r ∙ t ∙ ap (λ (x : ℤ). x +ℤ w f) same ∙ +ℤ-comm rest (w f) in
+          rw (ne-eqb f g d) (sym (ap (λ (x : ℤ). x -ℤ rest) whole ∙ +ℤ-negℤ-cancel (w f) rest))
 
 -- ---- along the run
 

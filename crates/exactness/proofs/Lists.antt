@@ -26,8 +26,9 @@ use Rattle.sheet.specs.Commands.{Command, solving, entering, relating, Answer, 
 use Rattle.sheet.specs.Legal.{LegalSheet}
 use Rattle.sheet.proofs.Answers.{entering-reply}
 use Rattle.sheet.proofs.Legal.{Left, Stored, entering-cases, legal-sheet, legal-blank}
-use Rattle.exactness.specs.Lists.{entered, sheets, start, Condition3, EveryState, ConflictAndLoop, EnteringNeverConflict, FormulasFit, ValuesWithin, ValuesRight}
+use Rattle.exactness.specs.Lists.{entered, sheets, start, Condition3, EveryState, ConflictAndLoop, EnteringNeverConflict, FormulasFit, ValuesWithin, ValuesRight, OutOfRangeWhereNone}
 use Rattle.exactness.proofs.Values.{entered-exactly}
+use Rattle.exactness.proofs.Solutions.{out-of-range-exactly, values-only}
 
 -- ---- the store
 
@@ -97,3 +98,6 @@ values-within commands = legal-after commands .within
 
 pub values-right : ValuesRight
 values-right commands = entered-exactly _ (legal-after commands)
+
+pub out-of-range-where-none : OutOfRangeWhereNone
+out-of-range-where-none commands = let h = legal-after commands in (out-of-range-exactly _ h, values-only _ h)

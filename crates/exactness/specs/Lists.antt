@@ -17,7 +17,7 @@ use Rattle.optimality.specs.Condition3 as store
 use Rattle.optimality.specs.Condition3.{Store, empty, Optimal, System, Run, AfterEveryList}
 use Rattle.optimality.specs.States.{Settled, NothingBlocked, NothingBetter}
 use Rattle.optimality.specs.Refusals.{ConflictExactly, LoopExactly}
-use Rattle.exactness.specs.Values.{EnteredExactly}
+use Rattle.exactness.specs.Values.{EnteredExactly, OutOfRangeExactly, ValuesOnly}
 
 -- what a command that is not refused changes in the store: kind 07 "touches f", kind 08 enters and strikes out nothing
 abbrev pub entered : Store → Command → Store
@@ -72,3 +72,7 @@ ValuesWithin = AfterEveryList sheets start (λ r. (f : ℕ) → outside (valueAt
 -- a value that is entered then leaves each held formula right
 abbrev pub ValuesRight : Type 0
 ValuesRight = AfterEveryList sheets start (λ r. EnteredExactly (r .state))
+
+-- it is refused with OutOfRange exactly where no values are right, and no other values are
+abbrev pub OutOfRangeWhereNone : Type 0
+OutOfRangeWhereNone = AfterEveryList sheets start (λ r. OutOfRangeExactly (r .state) × ValuesOnly (r .state))

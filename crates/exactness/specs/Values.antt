@@ -2,7 +2,7 @@
 use Prim.Native.Nat.{ℕ, _≤_, _<_}
 use mathlib.Core.Path.{_≡_}
 use mathlib.Core.Bool.{true, false}
-use mathlib.Core.List.{_∷_}
+use mathlib.Core.List.{List, _∷_}
 use mathlib.Core.Logic.{_≢_, _↔_}
 use lib.IntN.{ℤ}
 use lib.ListN.{set}
@@ -15,13 +15,13 @@ use Rattle.panel.specs.Answers as answers
 use Rattle.panel.specs.Answers.{refusalBytes, isRefusal}
 use Rattle.panel.specs.Commands as panel
 use Rattle.panel.specs.Commands.{touching}
-use Rattle.values.specs.Limits.{valueAt}
+use Rattle.values.specs.Limits.{valueAt, outside}
 use Rattle.values.specs.Ratios.{scaled, Nearest}
 use Rattle.formulas.specs.declared.Formula.{Formula}
 use Rattle.formulas.specs.declared.Formula.the-variants.{None}
 use Rattle.formulas.specs.Formulas.{accepted, Right}
 use Rattle.sheet.specs.declared.Sheet.{Sheet}
-use Rattle.sheet.specs.Sheets.{formulaAt, evaluated}
+use Rattle.sheet.specs.Sheets.{sheetOf, formulaAt, evaluated}
 use Rattle.sheet.specs.Commands.{Command, entering, relating, isDriven, sumPast, performed}
 
 -- ---- rounding
@@ -82,6 +82,23 @@ pub record EnteringRefused (s : Sheet) (f : ℕ) (v : ℤ) : Type 0 where
 
 abbrev pub EnteringExactly : Type 0
 EnteringExactly = (s : Sheet) (f : ℕ) (v : ℤ) → EnteringRefused s f v
+
+-- values that a right answer to kind 07 could have: exact, and within the limits
+pub record Solution (s : Sheet) (f : ℕ) (v : ℤ) (values : List ℤ) : Type 0 where
+  pub exact : Exact s (sheetOf (touched s f .panel) (s .formulas) values) f v
+  pub within : (g : ℕ) → g < touched s f .panel .size → outside (valueAt values g) ≡ false
+
+-- where the touch is accepted and no link sets f, OutOfRange is given exactly when there are none
+abbrev pub OutOfRangeExactly : Sheet → Type 0
+OutOfRangeExactly s =
+    (f : ℕ) (v : ℤ) → isRefusal (touched s f .reply) ≡ false → isDriven (touched s f .panel) f ≡ false
+    → Gives s (entering f v) OutOfRange ↔ ((values : List ℤ) → Solution s f v values → ⊥)
+
+-- and where kind 07 is accepted, its values are the only ones
+abbrev pub ValuesOnly : Sheet → Type 0
+ValuesOnly s =
+    (f : ℕ) (v : ℤ) → isRefusal (performed s (entering f v) .reply) ≡ false → (values : List ℤ) → Solution s f v values
+    → (g : ℕ) → g < touched s f .panel .size → valueAt (performed s (entering f v) .sheet .values) g ≡ valueAt values g
 
 -- "15 BadFormula (p or q 0, wrong number of covered fields, f not covered); the link, open and field checks precede": of an open panel, a number that is
 -- in use and a sum in one of its fields
