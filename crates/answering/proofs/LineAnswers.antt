@@ -3,22 +3,18 @@
 use mathlib.Core.Path.{_≡_, refl, sym, ap, ap₂, subst, _∙_}
 use mathlib.Core.Bool.{Bool, true, false, cond}
 use mathlib.Core.List.{List, _∷_, append-nil}
-use mathlib.Core.Logic.{inl, inr}
-use Prim.Native.Nat.{ℕ, _%_, _<_}
+use Prim.Native.Nat.{ℕ, _%_}
 use native.Mathlib.Nat.{mod-eq-of-lt}
 use native.Mathlib.Omega.{arith}
 use lib.ListN.{length}
-use Rattle.fieldset.proofs.Numbers.{clash}
 use lib.IntN.{ℤ}
 use Rattle.panel.specs.declared.Panel.{Panel}
 use Rattle.panel.specs.declared.Reply.{Reply}
 use Rattle.panel.specs.declared.Step.{Step}
 use Rattle.panel.specs.Answers.{isRefusal, replyBytes, rowsLength}
 use Rattle.panel.specs.Outcomes.{Decides}
-use Rattle.panel.specs.Commands as panel
 use Rattle.panel.specs.Commands.{opening, adding, removing, touching, planning}
-use Rattle.panel.proofs.Checks.{removable}
-use Rattle.panel.proofs.Performed.{Keeps, kept-performed}
+use Rattle.panel.proofs.Performed.{removed-number}
 use Rattle.values.specs.Words.{valueOf}
 use Rattle.formulas.specs.declared.Formula.{Formula}
 use Rattle.formulas.specs.declared.Formula.the-variants.{None}
@@ -63,14 +59,6 @@ answer-legal q (Relate id form) fields h = legal-sheet q h (relating id (formula
 answer-legal q (Refused r) fields h = h
 
 -- ---- the steps that are decided beside the others
-
--- a removal that is not refused has a number below 128
-removed-number : (p : Panel) (id : ℕ) → isRefusal (panel.performed p (removing id) .reply) ≡ false → id < 128
-removed-number p id e = go (kept-performed (λ q. id < 128) (λ q c vs h. h) p (removing id) (λ a. removable p id a .number))
-  where
-    go : Keeps (λ q. id < 128) p (panel.performed p (removing id)) → id < 128
-    go (inl (r, q)) = absurd (clash r e)
-    go (inr (r, l)) = l
 
 pub removed-step : (s : Sheet) (id : ℕ) (fields path rows : List ℕ) → length rows ≡ rowsLength → (step : Step) → Decides (s .panel) (id % 128) (removing id) path step
     → LineStep s (id % 128) (Remove id) fields path rows (s .values) step

@@ -1,17 +1,27 @@
 -- Lists of commands on sheets: kind 07 is a touch or leaves the sheet, kind 08 leaves the panel, so that a sound panel and store stay sound
 -- (`sheet-sound`); a legal sheet stays legal. Assumes nothing.
-use mathlib.Core.Path.{_≡_, refl, sym, ap, subst}
+use mathlib.Core.Path.{_≡_, refl, sym, ap, subst, _∙_}
 use mathlib.Core.Bool.{Bool, true, false, cond}
 use mathlib.Core.List.{List, [], _∷_}
 use mathlib.Core.Logic.{_⊎_, inl, inr}
-use Prim.Native.Nat.{ℕ, zero-le}
+use Prim.Native.Nat.{ℕ, _<_, zero-le}
+use native.Mathlib.Decide.{ℕ-discrete}
+use borrow.Author.Tests.{ltb-false, eq-eqb, ne-eqb}
+use lib.Dec.{eqb}
+use lib.Seq.{getD-set-same, getD-set-other}
 use native.Mathlib.Omega.{arith}
 use Rattle.fieldset.specs.Tables.{at}
 use Rattle.panel.specs.declared.Refusal.the-variants.{Conflict}
 use Rattle.panel.specs.Answers.{refusalBytes, isRefusal}
 use Rattle.panel.specs.Panels.{opened}
-use Rattle.panel.specs.Commands.{touching}
+use Rattle.panel.specs.Commands as panel
+use Rattle.panel.specs.Commands.{opening, adding, removing, touching, planning, Check, checkReply}
 use Rattle.panel.proofs.Changes.{legal-opened}
+use Rattle.panel.proofs.Performed.{removed-number, opened-unopened}
+use Rattle.formulas.specs.declared.Formula.{Formula}
+use Rattle.formulas.specs.declared.Formula.the-variants.{None}
+use Rattle.formulas.specs.declared.Formulas.{Formulas}
+use Rattle.formulas.specs.declared.Rule.{Rule}
 use Rattle.optimality.specs.Condition3 as store
 use Rattle.optimality.specs.Condition3.{Store, Run, stepped}
 use Rattle.optimality.specs.Agreement.{Sound}
@@ -22,11 +32,12 @@ use Rattle.optimality.proofs.Conflict.{sound-conflict-exactly}
 use Rattle.optimality.proofs.Loops.{command-exactly}
 use Rattle.optimality.proofs.Runs.{performed-sound, kept-after, every-system, after-sound}
 use Rattle.sheet.specs.declared.Sheet.{Sheet}
-use Rattle.sheet.specs.Commands.{Command, solving, entering, relating, Answer, performed}
+use Rattle.sheet.specs.Sheets.{formulaAt, withFormula}
+use Rattle.sheet.specs.Commands.{Command, solving, entering, relating, Answer, formulasAfter, formulaChecks, related, performed}
 use Rattle.sheet.specs.Legal.{LegalSheet}
 use Rattle.sheet.proofs.Answers.{entering-reply}
-use Rattle.sheet.proofs.Legal.{Left, Stored, entering-cases, legal-sheet, legal-blank}
-use Rattle.exactness.specs.Lists.{entered, sheets, start, Condition3, EveryState, ConflictAndLoop, EnteringNeverConflict, FormulasFit, ValuesWithin, ValuesRight, OutOfRangeWhereNone}
+use Rattle.sheet.proofs.Legal.{reply-passes, Left, Stored, entering-cases, entered-formulas, legal-sheet, blank-none, legal-blank}
+use Rattle.exactness.specs.Lists.{entered, sheets, start, Condition3, EveryState, ConflictAndLoop, EnteringNeverConflict, FormulasFit, ValuesWithin, ValuesRight, OutOfRangeWhereNone, gives, givenAfter, FormulasGiven, ZeroAtOpening, OthersKeepValues}
 use Rattle.exactness.proofs.Values.{entered-exactly}
 use Rattle.exactness.proofs.Solutions.{out-of-range-exactly, values-only}
 
@@ -101,3 +112,67 @@ values-right commands = entered-exactly _ (legal-after commands)
 
 pub out-of-range-where-none : OutOfRangeWhereNone
 out-of-range-where-none commands = let h = legal-after commands in (out-of-range-exactly _ h, values-only _ h)
+
+-- ---- formulas, as the commands gave them
+
+module _ (s : Sheet) (h : LegalSheet s) (given : ℕ → Formula) (same : (k : ℕ) → formulaAt (s .formulas) k ≡ given k) where
+  -- another formula at a number, read there and elsewhere
+  put : (id : ℕ) (formula : Formula) → id < 128 → (k : ℕ) → formulaAt (withFormula (s .formulas) id formula) k ≡ cond (eqb k id) formula (given k)
+  put id formula l k = go (ℕ-discrete k id)
+    where
+      go : Dec (k ≡ id) → formulaAt (withFormula (s .formulas) id formula) k ≡ cond (eqb k id) formula (given k)
+      go (yes d) =
+          ap (λ (i : ℕ). formulaAt (withFormula (s .formulas) id formula) i) d
+          ∙ ap (λ (r : Rule). r .formula) (getD-set-same (s .formulas .of) id (record { formula = formula }) (record { formula = None }) (omega (arith, h .formulas-length)))
+          ∙ sym (rw (eq-eqb k id d) refl)
+      go (no d) =
+          ap (λ (r : Rule). r .formula) (getD-set-other (s .formulas .of) id k (record { formula = formula }) (record { formula = None }) d)
+          ∙ same k ∙ sym (rw (ne-eqb k id d) refl)
+
+  -- one command more
+  given-step : (c : Command) (k : ℕ) → formulaAt (performed s c .sheet .formulas) k ≡ cond (isRefusal (performed s c .reply)) given (gives given c) k
+  given-step (solving c) k = go (isRefusal (panel.performed (s .panel) c .reply)) refl c refl
+    where
+      go : (b : Bool) → isRefusal (panel.performed (s .panel) c .reply) ≡ b → (d : panel.Command) → c ≡ d
+          → formulaAt (cond b (s .formulas) (formulasAfter (s .formulas) d)) k ≡ cond b given (gives given (solving d)) k
+      go true e d i = same k
+      go false e (opening n) i = same k
+      go false e (adding id level bytes) i = same k
+      go false e (removing id) i = put id None (removed-number (s .panel) id (rw i at e)) k
+      go false e (touching f) i = same k
+      go false e planning i = same k
+  given-step (entering f v) k = ap (λ (x : Formulas). formulaAt x k) (entered-formulas s f v) ∙ same k ∙ sym (always (isRefusal (performed s (entering f v) .reply)))
+    where
+      always : (b : Bool) → cond b given given k ≡ given k
+      always true = refl
+      always false = refl
+  given-step (relating id formula) k = go (checkReply cs) refl (isRefusal (checkReply cs)) refl
+    where
+      cs : List Check
+      cs = formulaChecks (s .panel) id formula
+
+      go : (reply : List ℕ) → checkReply cs ≡ reply → (b : Bool) → isRefusal reply ≡ b
+          → formulaAt (related s id formula reply .sheet .formulas) k ≡ cond (isRefusal reply) given (gives given (relating id formula)) k
+      go reply e true t = rw t (same k)
+      go reply e false t = rw t (put id formula (omega (arith, ltb-false 127 id (reply-passes cs (rw e t) .1 .0))) k)
+
+given-after : (commands : List Command) (r : Run sheets) → LegalRun r → (given : ℕ → Formula) → ((k : ℕ) → formulaAt (r .state .formulas) k ≡ given k)
+    → (k : ℕ) → formulaAt (store.after sheets r commands .state .formulas) k ≡ givenAfter (r .state) given commands k
+unfolding store.after givenAfter stepped
+given-after [] r h given same k = same k
+given-after (c ∷ cs) r h given same k =
+    given-after cs (stepped sheets r c) (legal-kept r c h) (cond (isRefusal (performed (r .state) c .reply)) given (gives given c)) (given-step (r .state) h given same c) k
+
+pub formulas-given : FormulasGiven
+formulas-given commands =
+    given-after commands start (legal-blank (opened 0) (legal-opened 0 zero-le)) (λ i. None) (λ k. blank-none (opened 0) k)
+
+-- ---- values
+
+pub zero-at-opening : ZeroAtOpening
+zero-at-opening commands n f e =
+    let s = store.after sheets start commands .state in
+    legal-after commands .past f (omega (arith, opened-unopened (s .panel) n e))
+
+pub others-keep-values : OthersKeepValues
+others-keep-values s = (λ c. refl, λ id formula. refl)

@@ -25,9 +25,7 @@ use Rattle.panel.specs.Commands.{touching, checkReply}
 use Rattle.panel.specs.Legal.{Legal}
 use Rattle.panel.proofs.Performed.{legal-performed, Keeps}
 use Rattle.optimality.proofs.Answers.{Any, Not, touching-outcome, not-given, refused-unchanged}
-use Rattle.values.specs.Ratios.{scaled}
 use Rattle.values.proofs.Ratios.{scaled-nearest, nearest-scaled}
-use Rattle.formulas.specs.declared.Formula.{Formula}
 use Rattle.formulas.specs.Formulas.{formulaOf, accepted}
 use Rattle.evaluation.specs.Runs.{Settled}
 use Rattle.evaluation.proofs.Planned.{plan-settled}

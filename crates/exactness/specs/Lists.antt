@@ -1,20 +1,24 @@
 -- What holds after every list of commands, kinds 07 and 08 among them (document 02, request 2): statements.
 use Prim.Native.Nat.{ℕ}
 use mathlib.Core.Path.{_≡_}
-use mathlib.Core.Bool.{false}
-use mathlib.Core.List.{_∷_}
-use lib.IntN.{ℤ}
+use mathlib.Core.Bool.{false, cond}
+use mathlib.Core.List.{List, [], _∷_}
+use lib.Dec.{eqb}
+use lib.IntN.{ℤ, pos}
 use Rattle.panel.specs.declared.Refusal.the-variants.{Conflict}
 use Rattle.panel.specs.Items.{linkAt}
-use Rattle.panel.specs.Answers.{refusalBytes}
-use Rattle.panel.specs.Commands.{planning, touching}
+use Rattle.panel.specs.Answers.{refusalBytes, isRefusal}
+use Rattle.panel.specs.Commands as panel
+use Rattle.panel.specs.Commands.{opening, adding, removing, touching, planning}
 use Rattle.values.specs.Limits.{valueAt, outside}
+use Rattle.formulas.specs.declared.Formula.{Formula}
+use Rattle.formulas.specs.declared.Formula.the-variants.{None}
 use Rattle.sheet.specs.declared.Sheet.{Sheet}
 use Rattle.sheet.specs.Sheets.{unopened, formulaAt}
 use Rattle.sheet.specs.Commands.{Command, solving, entering, relating, performed}
 use Rattle.sheet.specs.Legal.{Fits}
 use Rattle.optimality.specs.Condition3 as store
-use Rattle.optimality.specs.Condition3.{Store, empty, Optimal, System, Run, AfterEveryList}
+use Rattle.optimality.specs.Condition3.{Store, empty, Optimal, System, Run, after, AfterEveryList}
 use Rattle.optimality.specs.States.{Settled, NothingBlocked, NothingBetter}
 use Rattle.optimality.specs.Refusals.{ConflictExactly, LoopExactly}
 use Rattle.exactness.specs.Values.{EnteredExactly, OutOfRangeExactly, ValuesOnly}
@@ -60,6 +64,38 @@ abbrev pub EnteringNeverConflict : Type 0
 EnteringNeverConflict = (s : Sheet) (f : ℕ) (v : ℤ) → performed s (entering f v) .reply ≡ 0xFF ∷ refusalBytes Conflict → ⊥
 
 -- ---- formulas and values
+
+-- the formula of each number, as the commands that were not refused gave it: "A new formula replaces the old, and removal drops it"
+abbrev pub gives : (ℕ → Formula) → Command → ℕ → Formula
+gives given (solving (opening n)) = given
+gives given (solving (adding id level bytes)) = given
+gives given (solving (removing id)) = λ k. cond (eqb k id) None (given k)
+gives given (solving (touching f)) = given
+gives given (solving planning) = given
+gives given (entering f v) = given
+gives given (relating id formula) = λ k. cond (eqb k id) formula (given k)
+
+-- from a sheet on: a refused command gives nothing
+unfoldable pub givenAfter : Sheet → (ℕ → Formula) → List Command → ℕ → Formula
+givenAfter s given [] = given
+givenAfter s given (c ∷ cs) = givenAfter (performed s c .sheet) (cond (isRefusal (performed s c .reply)) given (gives given c)) cs
+
+-- they are the formulas of the sheet
+abbrev pub FormulasGiven : Type 0
+FormulasGiven =
+    (commands : List Command) (k : ℕ) → formulaAt (after sheets start commands .state .formulas) k ≡ givenAfter unopened (λ i. None) commands k
+
+-- "zero at opening"
+abbrev pub ZeroAtOpening : Type 0
+ZeroAtOpening =
+    AfterEveryList sheets start (λ r. (n f : ℕ) → let a = performed (r .state) (solving (opening n)) in
+    isRefusal (a .reply) ≡ false → valueAt (a .sheet .values) f ≡ pos 0)
+
+-- only kind 07 changes a value
+abbrev pub OthersKeepValues : Type 0
+OthersKeepValues =
+    (s : Sheet) → ((c : panel.Command) → performed s (solving c) .sheet .values ≡ s .values)
+    × ((id : ℕ) (formula : Formula) → performed s (relating id formula) .sheet .values ≡ s .values)
 
 -- a formula fits its link
 abbrev pub FormulasFit : Type 0

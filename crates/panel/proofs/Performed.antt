@@ -9,6 +9,7 @@ use mathlib.Core.Logic.{_⊎_, inl, inr}
 use native.Mathlib.Omega.{arith}
 use borrow.Author.Tests.{eqb-false}
 use lib.Dec.{eqb, leb}
+use Rattle.fieldset.proofs.Numbers.{clash}
 use Rattle.panel.specs.declared.Standing.{Standing}
 use Rattle.panel.specs.declared.Standing.the-variants.{Waiting, Holding}
 use Rattle.panel.specs.declared.Link.{Link}
@@ -200,3 +201,19 @@ module _ (P : Panel → Type 0) (turns : (q : Panel) (c : Item) (vs : List ℕ) 
       kept-checked (removeChecks p id) (removeStep p id) (λ a. kept-drop (dropped p id) (linkAt (p .links) id .standing) (k a))
   kept-performed (touching f) k = kept-checked (touchChecks p f) (touchStep p f) (λ a. kept-touch f (k a))
   kept-performed planning k = kept-checked (planChecks p) (planStep p) (λ a. inr (refl, k))
+
+-- a removal that is not refused has a number below 128
+pub removed-number : (p : Panel) (id : ℕ) → isRefusal (performed p (removing id) .reply) ≡ false → id < 128
+removed-number p id e = go (kept-performed (λ q. id < 128) (λ q c vs h. h) p (removing id) (λ a. removable p id a .number))
+  where
+    go : Keeps (λ q. id < 128) p (performed p (removing id)) → id < 128
+    go (inl (r, q)) = absurd (clash r e)
+    go (inr (r, l)) = l
+
+-- an opening that is not refused meets an unopened panel
+pub opened-unopened : (p : Panel) (n : ℕ) → isRefusal (performed p (opening n) .reply) ≡ false → p .size ≡ 0
+opened-unopened p n e = go (kept-performed (λ q. p .size ≡ 0) (λ q c vs h. h) p (opening n) (λ a. openable p n a .0))
+  where
+    go : Keeps (λ q. p .size ≡ 0) p (performed p (opening n)) → p .size ≡ 0
+    go (inl (r, q)) = absurd (clash r e)
+    go (inr (r, z)) = z

@@ -309,20 +309,24 @@ module _ (s : Sheet) (h : LegalSheet s) where
   legal-sheet (entering f v) = legal-entered f v
   legal-sheet (relating id formula) = legal-related id formula
 
+-- an unopened sheet has no formula
+pub blank-none : (p : Panel) (k : ℕ) → formulaAt (blank p .formulas) k ≡ None
+blank-none p k = go (decLt k 128)
+  where
+    go : Dec (k < 128) → formulaAt (blank p .formulas) k ≡ None
+    go (yes l) = ap (λ (r : Rule). r .formula) (getD-replicate 128 k noRule noRule l)
+    go (no l) = ap (λ (r : Rule). r .formula) (List·getD-eq-default (blank p .formulas .of) noRule {n = k} (omega (arith, length-replicate 128 noRule)))
+
 pub legal-blank : (p : Panel) → Legal p → LegalSheet (blank p)
 legal-blank p h = record {
   panel = h;
-  fits = λ k. inl (none k (decLt k 128));
+  fits = λ k. inl (blank-none p k);
   formulas-length = length-replicate 128 noRule;
   values-length = length-replicate 64 (pos 0);
   within = λ f. ap outside (zero f (decLt f 64));
   past = λ f l. zero f (decLt f 64);
 }
   where
-    none : (k : ℕ) → Dec (k < 128) → formulaAt (blank p .formulas) k ≡ None
-    none k (yes l) = ap (λ (r : Rule). r .formula) (getD-replicate 128 k noRule noRule l)
-    none k (no l) = ap (λ (r : Rule). r .formula) (List·getD-eq-default (blank p .formulas .of) noRule {n = k} (omega (arith, length-replicate 128 noRule)))
-
     zero : (f : ℕ) → Dec (f < 64) → valueAt (blank p .values) f ≡ pos 0
     zero f (yes l) = getD-replicate 64 f (pos 0) (pos 0) l
     zero f (no l) = List·getD-eq-default (blank p .values) (pos 0) {n = f} (omega (arith, length-replicate 64 (pos 0)))
