@@ -1,6 +1,6 @@
 -- Lines and the commands that they give: a line changes the sheet as its command does, or not at all where it gives none, so a text's lines leave
 -- the sheet of their commands (by induction on the lines), and condition 3 of these is one of every text. Assumes nothing.
-use mathlib.Core.Path.{_≡_, refl, sym}
+use mathlib.Core.Path.{_≡_, refl, sym, ap, subst, _∙_}
 use mathlib.Core.Bool.{true}
 use mathlib.Core.List.{[], _∷_, filterMap}
 use mathlib.Core.Option.{Option, none, some, Option·elim}
@@ -9,13 +9,15 @@ use Rattle.sheet.specs.declared.Sheet.{Sheet}
 use Rattle.sheet.specs.Sheets.{unopened}
 use Rattle.sheet.specs.Commands.{Command}
 use Rattle.optimality.specs.Condition3.{Store, empty, stepped, after}
+use Rattle.exactness.specs.Values.{Exact, EnteredExactly}
 use Rattle.exactness.specs.Lists.{sheets}
 use Rattle.exactness.proofs.Values.{refused-sheet-unchanged}
 use Rattle.exactness.proofs.Lists.{condition-3, values-right}
 use Rattle.lines.specs.Lines.{linesOf}
 use Rattle.frames.specs.Texts.{stateAfter}
 use Rattle.frames.specs.Frames.{lineAnswer, answered, frameOf, commandOf, sheetAfter}
-use Rattle.acceptance.specs.Lines.{commandsOf, LinesAsCommands, AfterEveryText, RefusedLineUnchanged}
+use Rattle.frames.proofs.Outputs.{state-more}
+use Rattle.acceptance.specs.Lines.{commandsOf, LinesAsCommands, AfterEveryText, LastLineExact, RefusedLineUnchanged}
 
 pub lines-as-commands : LinesAsCommands
 unfolding stateAfter lineAnswer commandsOf filterMap after stepped
@@ -33,6 +35,13 @@ after-every-text text = record {
   exact = values-right (commandsOf (linesOf text));
   sheet = sym (lines-as-commands unopened empty (linesOf text));
 }
+
+-- the last line's answer leaves the text's sheet
+pub last-line-exact : LastLineExact
+unfolding lineAnswer
+last-line-exact text lines line f v e c ok =
+    subst (λ (s : Sheet). Exact (sheetAfter unopened lines) s f v) (sym (ap (sheetAfter unopened) e ∙ state-more lineAnswer lines line unopened ∙ rw c refl))
+    (subst EnteredExactly (sym (lines-as-commands unopened empty lines)) (values-right (commandsOf lines)) f v (rw c at ok))
 
 pub refused-line-unchanged : RefusedLineUnchanged
 unfolding lineAnswer

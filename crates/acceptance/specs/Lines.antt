@@ -3,13 +3,15 @@ use Prim.Native.Nat.{ℕ, suc}
 use mathlib.Core.Path.{_≡_}
 use mathlib.Core.Bool.{true, false}
 use mathlib.Core.List.{List, [], _∷_, _++_, map, filterMap}
+use mathlib.Core.Option.{some}
+use lib.IntN.{ℤ}
 use lib.ListN.{length}
 use Rattle.sheet.specs.declared.Sheet.{Sheet}
 use Rattle.panel.specs.Answers.{isRefusal}
 use Rattle.sheet.specs.Sheets.{unopened}
-use Rattle.sheet.specs.Commands.{Command}
+use Rattle.sheet.specs.Commands.{Command, entering}
 use Rattle.optimality.specs.Condition3.{Store, Optimal, Run, after}
-use Rattle.exactness.specs.Values.{EnteredExactly}
+use Rattle.exactness.specs.Values.{Exact, EnteredExactly}
 use Rattle.exactness.specs.Lists.{sheets, start}
 use Rattle.hex.specs.Hex.{hexOf}
 use Rattle.lines.specs.Lines.{linesOf}
@@ -69,6 +71,14 @@ pub record AfterText (text : List ℕ) : Type 0 where
 -- a text of any length: "The list of commands may have any length"
 abbrev pub AfterEveryText : Type 0
 AfterEveryText = (text : List ℕ) → AfterText text
+
+-- "After an accepted kind 07 each held formula is right, only for the field it sets" (document 02, request 2): of a text whose last line is one, and of
+-- the sheet that the text leaves, whose values are told after it (`valuesAfter`, crate `text`)
+abbrev pub LastLineExact : Type 0
+LastLineExact =
+    (text : List ℕ) (lines : List (List ℕ)) (line : List ℕ) (f : ℕ) (v : ℤ) → linesOf text ≡ lines ++ (line ∷ [])
+    → commandOf (frameOf line) ≡ some (entering f v) → isRefusal (lineAnswer (sheetAfter unopened lines) line .reply) ≡ false
+    → Exact (sheetAfter unopened lines) (sheetAfter unopened (linesOf text)) f v
 
 -- "a refusal .. leaves links, stay order and setters as they stood" (tender), and formulas and values
 abbrev pub RefusedLineUnchanged : Type 0

@@ -12,19 +12,13 @@ use lib.Seq.{getD-set-same, getD-set-other}
 use Rattle.fieldset.specs.Lists.{In, All}
 use Rattle.fieldset.specs.Fields.{member, with}
 use Rattle.fieldset.proofs.Fields.{member-with-same, member-with-other, within-member}
-use Rattle.values.specs.Limits.{outside, limited, valueAt}
-use Rattle.values.specs.declared.Limited.the-variants.{Value}
+use Rattle.values.specs.Limits.{outside, valueAt}
 use Rattle.formulas.specs.declared.Formula.{Formula}
 use Rattle.formulas.specs.declared.Formula.the-variants.{None}
 use Rattle.formulas.specs.Formulas.{computed}
 use Rattle.evaluation.specs.Runs.{Run, run, Ordered}
 use Rattle.evaluation.proofs.Running.{run-value}
 use Rattle.evaluation.proofs.Settled.{HeldAt, computed-cong}
-
--- a result within the limits is a value
-inside-value : (z : ℤ) → outside z ≡ false → limited z ≡ Value z
-unfolding limited
-inside-value z e = rw e refl
 
 -- the values w, as a run is to give them: of each of these fields
 pub record Target (formula : ℕ → Formula) (reads : ℕ → ℕ) (w : ℕ → ℤ) (f : ℕ) : Type 0 where
@@ -47,12 +41,13 @@ module _ (formula : ℕ → Formula) (reads covered : ℕ → ℕ) (w : ℕ → 
       let z : computed (formula f) (reads f) f (valueAt v) ≡ w f =
       computed-cong (valueAt v) w (λ g l m. listed g l (within-member (reads f) L g (o .1 .1 .0) l m)) (formula f) (held .0) (kept f (inl refl))
       ∙ sym (t .0 .computes) in
-      let value : limited (computed (formula f) (reads f) f (valueAt v)) ≡ Value (w f) = ap limited z ∙ inside-value (w f) (t .0 .within) in
+      let next : run formula reads (f ∷ fs) v ≡ run formula reads fs (set v f (w f)) =
+      run-value formula reads f fs v (ap outside z ∙ t .0 .within) ∙ ap (λ (x : ℤ). run formula reads fs (set v f x)) z in
       let rest =
       complete (with L f) fs (set v f (w f)) (length-set v f (w f) ∙ n) (o .1 .1 .1) (held .1) (t .1)
       (λ g l m. go g (ℕ-discrete g f) (λ d. listed g l (sym (member-with-other L f g l d) ∙ m)))
       (λ g i e. go g (ℕ-discrete g f) (λ d. kept g (inr i) e)) in
-      subst (Meets w L (f ∷ fs)) (sym (run-value formula reads f fs v (w f) value))
+      subst (Meets w L (f ∷ fs)) (sym next)
       (record { fits = rest .fits; values = λ g l h. rest .values g l (on g l (ℕ-discrete g f) h) })
     where
       go : (g : ℕ) → Dec (g ≡ f) → (g ≢ f → valueAt v g ≡ w g) → valueAt (set v f (w f)) g ≡ w g

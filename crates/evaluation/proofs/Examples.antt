@@ -8,7 +8,6 @@ use lib.ListN.{getD}
 use Rattle.fieldset.specs.Tables.{at}
 use Rattle.fieldset.specs.Numbers.{lowest}
 use Rattle.fieldset.specs.Fields.{member, without, lowestOf, setOf}
-use Rattle.values.specs.Limits.{limited}
 use Rattle.values.specs.Ratios.{scaled, rounded}
 use Rattle.values.specs.Sums.{sumℤ, total}
 use Rattle.formulas.specs.declared.Formula.{Formula}
@@ -24,10 +23,10 @@ reads : ℕ → ℕ
 reads f = at (0 ∷ 1 ∷ 3 ∷ []) f
 
 sixty : run formula reads (0 ∷ 1 ∷ 2 ∷ []) (pos 7 ∷ pos 0 ∷ pos 0 ∷ []) ≡ record { fits = true; values = pos 7 ∷ pos 420 ∷ pos 427 ∷ [] }
-unfolding formula reads run computed limited scaled rounded total sumℤ member without setOf lowestOf lowest
+unfolding formula reads run computed scaled rounded total sumℤ member without setOf lowestOf lowest
 sixty = refl
 
 -- too large in field 1: the run stops there
 too-large : run formula reads (0 ∷ 1 ∷ 2 ∷ []) (negsuc 35791394 ∷ pos 0 ∷ pos 0 ∷ []) ≡ record { fits = false; values = negsuc 35791394 ∷ pos 0 ∷ pos 0 ∷ [] }
-unfolding formula reads run computed limited scaled rounded total sumℤ member without setOf lowestOf lowest
+unfolding formula reads run computed scaled rounded total sumℤ member without setOf lowestOf lowest
 too-large = refl

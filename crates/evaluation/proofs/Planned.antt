@@ -13,15 +13,13 @@ use Rattle.fieldset.specs.Fields.{with}
 use Rattle.fieldset.specs.Tables.{at}
 use Rattle.fieldset.specs.Lists.{All}
 use Rattle.fieldset.proofs.Lists.{all-at, all-map, whole-in}
-use Rattle.values.specs.Limits.{valueAt, limited}
-use Rattle.values.specs.declared.Limited.{Limited}
-use Rattle.values.specs.declared.Limited.the-variants.{Value, OutOfRange}
+use Rattle.values.specs.Limits.{valueAt}
 use Rattle.ordering.specs.Order.{following, order, hasLoop}
 use Rattle.ordering.proofs.Plan.{Lists, Stops, step, order-low, order-whole, no-loop-length}
 use Rattle.formulas.specs.declared.Formula.{Formula}
 use Rattle.formulas.specs.declared.Formula.the-variants.{None}
 use Rattle.formulas.specs.Formulas.{computed}
-use Rattle.evaluation.specs.Runs.{Run, onward, run, Ran, Runnable, Ready, Stored, Ordered, Settled}
+use Rattle.evaluation.specs.Runs.{Run, run, Ran, Runnable, Ready, Stored, Ordered, Settled}
 use Rattle.evaluation.proofs.Settled.{HeldAt, run-right, run-keeps}
 
 following-ordered : (reads : ℕ → ℕ) (n : ℕ) → n ≤ 64 → (k L : ℕ) → Ordered reads L (following reads n k L)
@@ -63,12 +61,7 @@ module _ (reads : ℕ → ℕ) (n : ℕ) (few : n ≤ 64) where
 pub run-cong : (formula : ℕ → Formula) (r s : ℕ → ℕ) (fs : List ℕ) (v : List ℤ) → All (λ f. r f ≡ s f) fs → run formula r fs v ≡ run formula s fs v
 unfolding run
 run-cong formula r s [] v same = refl
-run-cong formula r s (f ∷ fs) v same = rw (same .0) (go (limited (computed (formula f) (s f) f (valueAt v))) (λ w. run-cong formula r s fs w (same .1)))
-  where
-    go : (o : Limited) → ((w : List ℤ) → run formula r fs w ≡ run formula s fs w)
-        → onward o (λ x. run formula r fs (set v f x)) (record { fits = false; values = v }) ≡ onward o (λ x. run formula s fs (set v f x)) (record { fits = false; values = v })
-    go (Value x) ih = ih (set v f x)
-    go OutOfRange ih = refl
+run-cong formula r s (f ∷ fs) v same = rw (same .0, run-cong formula r s fs (set v f (computed (formula f) (s f) f (valueAt v))) (same .1)) refl
 
 -- ---- the plan in a buffer
 

@@ -17,12 +17,9 @@ use Rattle.fieldset.specs.Fields.{member, with, without, lowestOf, size}
 use Rattle.fieldset.proofs.Numbers.{clash, count-pos}
 use Rattle.fieldset.proofs.Tests.{and-left}
 use Rattle.fieldset.proofs.Fields.{member-with-same, member-with-other, member-without, member-without-same, member-without-other, without-lt, lowestOf-lt, lowestOf-member, size-without, within-member, size-empty, member-lt}
-use Rattle.values.specs.Limits.{outside, limited, valueAt}
-use Rattle.values.specs.declared.Limited.{Limited}
-use Rattle.values.specs.declared.Limited.the-variants.{Value, OutOfRange}
+use Rattle.values.specs.Limits.{outside, valueAt}
 use Rattle.values.specs.Ratios.{scaled, Nearest}
 use Rattle.values.specs.Sums.{total}
-use Rattle.values.proofs.Limits.{limited-same, limited-within}
 use Rattle.values.proofs.Ratios.{scaled-nearest, nearest-scaled}
 use Rattle.values.proofs.Sums.{total-cong, total-without, total-members}
 use Rattle.formulas.specs.declared.Formula.{Formula}
@@ -235,17 +232,17 @@ record First (formula : ℕ → Formula) (reads : ℕ → ℕ) (f : ℕ) (fs : L
 
 module _ (formula : ℕ → Formula) (reads : ℕ → ℕ) where
   first-step : (f : ℕ) (fs : List ℕ) (v w : List ℤ) → Ends formula reads (f ∷ fs) v w → First formula reads f fs v w
-  first-step f fs v w e = go (limited (computed (formula f) (reads f) f (valueAt v))) refl
+  first-step f fs v w e = go (outside (computed (formula f) (reads f) f (valueAt v))) refl
     where
-      go : (o : Limited) → limited (computed (formula f) (reads f) f (valueAt v)) ≡ o → First formula reads f fs v w
-      go (Value x) d =
+      go : (b : Bool) → outside (computed (formula f) (reads f) f (valueAt v)) ≡ b → First formula reads f fs v w
+      go false d =
           record {
-            value = x;
-            is = limited-same (computed (formula f) (reads f) f (valueAt v)) x d;
-            within = limited-within (computed (formula f) (reads f) f (valueAt v)) x d;
-            onwards = sym (run-value formula reads f fs v x d) ∙ e;
+            value = computed (formula f) (reads f) f (valueAt v);
+            is = refl;
+            within = d;
+            onwards = sym (run-value formula reads f fs v d) ∙ e;
           }
-      go OutOfRange d = absurd (true≢false (ap (λ (r : Run). r .fits) (sym e ∙ run-out formula reads f fs v d)))
+      go true d = absurd (true≢false (ap (λ (r : Run). r .fits) (sym e ∙ run-out formula reads f fs v d)))
 
   -- what has no formula keeps its value
   pub run-keeps : (fs : List ℕ) (v w : List ℤ) → Ends formula reads fs v w → (g : ℕ) → formula g ≡ None → valueAt w g ≡ valueAt v g

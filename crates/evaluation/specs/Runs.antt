@@ -10,9 +10,7 @@ use Rattle.fieldset.specs.Tables.{at}
 use Rattle.fieldset.specs.Fields.{member, with, within}
 use Rattle.ordering.specs.Order.{hasLoop}
 use Rattle.ordering.specs.Walks.{Among}
-use Rattle.values.specs.Limits.{valueAt, limited}
-use Rattle.values.specs.declared.Limited.{Limited}
-use Rattle.values.specs.declared.Limited.the-variants.{Value, OutOfRange}
+use Rattle.values.specs.Limits.{valueAt, outside}
 use Rattle.formulas.specs.declared.Formula.{Formula}
 use Rattle.formulas.specs.declared.Formula.the-variants.{None}
 use Rattle.formulas.specs.Formulas.{computed, Usable, Right}
@@ -22,15 +20,12 @@ pub record Run : Type 0 where
   pub fits : Bool
   pub values : List ℤ
 
-abbrev pub onward : Limited → (ℤ → Run) → Run → Run
-onward (Value x) next stop = next x
-onward OutOfRange next stop = stop
-
 -- "runs the whole plan once": each field of the list gets what its setter computes; the first result outside the limits ends the run
 unfoldable pub run : (ℕ → Formula) → (ℕ → ℕ) → List ℕ → List ℤ → Run
 run formula reads [] v = record { fits = true; values = v }
 run formula reads (f ∷ fs) v =
-    onward (limited (computed (formula f) (reads f) f (valueAt v))) (λ x. run formula reads fs (set v f x)) (record { fits = false; values = v })
+    let x = computed (formula f) (reads f) f (valueAt v) in
+    cond (outside x) (record { fits = false; values = v }) (run formula reads fs (set v f x))
 
 -- what is answered of a run, and the values that it leaves
 pub record Ran (result : Run) (fits : Bool) (values : List ℤ) : Type 0 where

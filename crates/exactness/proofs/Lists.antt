@@ -4,6 +4,7 @@ use mathlib.Core.Path.{_≡_, refl, sym, ap, subst, _∙_}
 use mathlib.Core.Bool.{Bool, true, false, cond}
 use mathlib.Core.List.{List, [], _∷_}
 use mathlib.Core.Logic.{_⊎_, inl, inr}
+use mathlib.Core.Option.{some}
 use Prim.Native.Nat.{ℕ, _<_, zero-le}
 use native.Mathlib.Decide.{ℕ-discrete}
 use borrow.Author.Tests.{ltb-false, eq-eqb, ne-eqb}
@@ -11,11 +12,19 @@ use lib.Dec.{eqb}
 use lib.Seq.{getD-set-same, getD-set-other}
 use native.Mathlib.Omega.{arith}
 use Rattle.fieldset.specs.Tables.{at}
+use Rattle.fieldset.specs.Lists.{In}
+use Rattle.fieldset.proofs.Lists.{all-in}
+use Rattle.panel.specs.declared.Panel.{Panel}
 use Rattle.panel.specs.declared.Refusal.the-variants.{Conflict}
+use Rattle.panel.specs.declared.Standing.the-variants.{Holding}
+use Rattle.panel.specs.Items.{link, stay, linkAt}
 use Rattle.panel.specs.Answers.{refusalBytes, isRefusal}
 use Rattle.panel.specs.Panels.{opened}
+use Rattle.panel.specs.Solution.{planOf}
+use Rattle.panel.specs.Legal.{Legal}
 use Rattle.panel.specs.Commands as panel
 use Rattle.panel.specs.Commands.{opening, adding, removing, touching, planning, Check, checkReply}
+use Rattle.panel.proofs.Reversed.{setter-number, setter-own}
 use Rattle.panel.proofs.Changes.{legal-opened}
 use Rattle.panel.proofs.Performed.{removed-number, opened-unopened}
 use Rattle.formulas.specs.declared.Formula.{Formula}
@@ -23,8 +32,12 @@ use Rattle.formulas.specs.declared.Formula.the-variants.{None}
 use Rattle.formulas.specs.declared.Formulas.{Formulas}
 use Rattle.formulas.specs.declared.Rule.{Rule}
 use Rattle.optimality.specs.Condition3 as store
-use Rattle.optimality.specs.Condition3.{Store, Run, stepped}
-use Rattle.optimality.specs.Agreement.{Sound}
+use Rattle.optimality.specs.Condition3.{Entry, Store, held, Run, stepped}
+use Rattle.optimality.specs.Agreement.{entryFor, Agrees, Sound}
+use Rattle.optimality.proofs.Matchings.{pair-setter}
+use Rattle.optimality.proofs.Graphs.{settersOf}
+use Rattle.optimality.proofs.Held.{plan-whole, held-pairs}
+use Rattle.optimality.proofs.Agreement.{entry-force}
 use Rattle.optimality.proofs.Optimum.{sound-optimal}
 use Rattle.optimality.proofs.Answers.{touch-never-conflict}
 use Rattle.optimality.proofs.States.{sound-settled, optimal-best}
@@ -32,12 +45,12 @@ use Rattle.optimality.proofs.Conflict.{sound-conflict-exactly}
 use Rattle.optimality.proofs.Loops.{command-exactly}
 use Rattle.optimality.proofs.Runs.{performed-sound, kept-after, every-system, after-sound}
 use Rattle.sheet.specs.declared.Sheet.{Sheet}
-use Rattle.sheet.specs.Sheets.{formulaAt, withFormula}
+use Rattle.sheet.specs.Sheets.{unopened, formulaAt, withFormula}
 use Rattle.sheet.specs.Commands.{Command, solving, entering, relating, Answer, formulasAfter, formulaChecks, related, performed}
 use Rattle.sheet.specs.Legal.{LegalSheet}
 use Rattle.sheet.proofs.Answers.{entering-reply}
 use Rattle.sheet.proofs.Legal.{reply-passes, Left, Stored, entering-cases, entered-formulas, legal-sheet, blank-none, legal-blank}
-use Rattle.exactness.specs.Lists.{entered, sheets, start, Condition3, EveryState, ConflictAndLoop, EnteringNeverConflict, FormulasFit, ValuesWithin, ValuesRight, OutOfRangeWhereNone, gives, givenAfter, FormulasGiven, ZeroAtOpening, OthersKeepValues}
+use Rattle.exactness.specs.Lists.{entered, sheets, start, Condition3, EveryState, ConflictAndLoop, EnteringNeverConflict, FormulasFit, ValuesWithin, ValuesRight, OutOfRangeWhereNone, gives, givenAfter, FormulasGiven, HeldRight, ZeroAtOpening, OthersKeepValues}
 use Rattle.exactness.proofs.Values.{entered-exactly}
 use Rattle.exactness.proofs.Solutions.{out-of-range-exactly, values-only}
 
@@ -166,6 +179,51 @@ given-after (c ∷ cs) r h given same k =
 pub formulas-given : FormulasGiven
 formulas-given commands =
     given-after commands start (legal-blank (opened 0) (legal-opened 0 zero-le)) (λ i. None) (λ k. blank-none (opened 0) k)
+
+-- ---- what Plan answers
+
+-- a link of what a legal panel holds stands so in its record
+held-link : (q : Panel) → Legal q → (i g : ℕ) → In (record { item = link i; field = g }) (held (panel.performed q planning .reply))
+    → (i < 128) × (linkAt (q .links) i .standing ≡ Holding g)
+held-link q k i g m =
+    let (j, e) = pair-setter (settersOf q) (planOf q) (record { item = link i; field = g }) (rw (held-pairs q k) at m) in
+    let (n, l) = setter-number (q .setter) g i (sym e) in
+    let low : g < q .size = all-in (λ f. f < q .size) (planOf q) g (plan-whole q (k .few) (k .loopless) .below) j in
+    (l, ap (λ (x : ℕ). linkAt (q .links) x .standing) (sym n) ∙ k .setter-holds g (omega (arith, k .few)) (omega arith))
+
+-- and so does a stay
+held-stay : (q : Panel) → Legal q → (g : ℕ) → In (record { item = stay g; field = g }) (held (panel.performed q planning .reply))
+    → (g < q .size) × (at (q .setter) g ≡ 128)
+held-stay q k g m =
+    let (j, e) = pair-setter (settersOf q) (planOf q) (record { item = stay g; field = g }) (rw (held-pairs q k) at m) in
+    let low : g < q .size = all-in (λ f. f < q .size) (planOf q) g (plan-whole q (k .few) (k .loopless) .below) j in
+    (low, omega (arith, setter-own (q .setter) g g (sym e) .1, k .setter-small g (omega (arith, k .few))))
+
+-- what stands in the store of a link has its covered fields
+entry-covered : {b : Store} {p : Panel} → Agrees b p → (i : ℕ) (e : Entry) → b .links i ≡ some e → linkAt (p .links) i .covered ≡ e .covered
+entry-covered {b} {p} a i e q =
+    let (u, d) = entry-force (λ o. o ≡ some e) (λ n. let z : _≡_ {A = ℕ} 0 1 = cc in omega arith) (linkAt (p .links) i) (sym (a .links i) ∙ q) in
+    let same : entryFor (linkAt (p .links) i) ≡ e = cc in
+    ap (λ (x : Entry). x .covered) same
+
+pub held-right : HeldRight
+held-right commands f v ok =
+    let r = store.after sheets start commands in
+    let a = performed (r .state) (entering f v) in
+    let h = legal-after commands in
+    let k = legal-sheet (r .state) h (entering f v) .panel in
+    let x = entered-exactly (r .state) h f v ok in
+    let given : (i : ℕ) → formulaAt (a .sheet .formulas) i ≡ givenAfter unopened (λ n. None) commands i =
+    λ i. ap (λ (y : Formulas). formulaAt y i) (entered-formulas (r .state) f v) ∙ formulas-given commands i in
+    let agrees : Agrees (store.entered (r .store) (touching f)) (a .sheet .panel) = rw ok at (sheet-sound (r .store) (r .state) (entering f v) (sound-after commands)) .agrees in
+    record {
+      stored = x .stored;
+      right = λ i g e m entry.
+          let (l, s) = held-link (a .sheet .panel) k i g m in
+          rw (← given i, ← entry-covered agrees i e entry) (x .right i g l s);
+      link-keeps = λ i g m none. let (l, s) = held-link (a .sheet .panel) k i g m in x .link-keeps i g l s (given i ∙ none);
+      stay-keeps = λ g m d. let (l, s) = held-stay (a .sheet .panel) k g m in x .stay-keeps g l s d;
+    }
 
 -- ---- values
 

@@ -4,7 +4,7 @@ use Prim.Native.Nat.{ℕ, _≤_, _<_}
 use mathlib.Core.Path.{_≡_, refl, sym, ap, subst, _∙_}
 use mathlib.Core.Bool.{Bool, true, false}
 use mathlib.Core.List.{List, _∷_}
-use mathlib.Core.Logic.{_⊎_, inl, inr, _≢_, _↔_}
+use mathlib.Core.Logic.{_⊎_, inl, inr, _≢_}
 use native.Mathlib.Omega.{arith}
 use borrow.Author.Tests.{lt-ltb, ltb-true, ltb-false}
 use lib.Dec.{ltb}
@@ -14,7 +14,7 @@ use Rattle.fieldset.specs.Tables.{at}
 use Rattle.fieldset.proofs.Numbers.{clash}
 use Rattle.panel.specs.declared.Link.{Link}
 use Rattle.panel.specs.declared.Refusal.{Refusal}
-use Rattle.panel.specs.declared.Refusal.the-variants.{OutOfRange, FieldDriven, BadFormula}
+use Rattle.panel.specs.declared.Refusal.the-variants.{OutOfRange, FieldDriven}
 use Rattle.panel.specs.declared.Standing.the-variants.{Holding}
 use Rattle.panel.specs.Items.{linkAt}
 use Rattle.panel.specs.Answers as answers
@@ -36,7 +36,7 @@ use Rattle.sheet.specs.Legal.{LegalSheet}
 use Rattle.sheet.proofs.Legal.{Left, Stored, entering-cases, Touched}
 use Rattle.sheet.proofs.Legal as legality
 use Rattle.sheet.proofs.Held.{setterCovered, setter-held}
-use Rattle.exactness.specs.Values.{EveryRatio, Exact, EnteredExactly, touched, AsTouched, EnteredAsTouched, Gives, EnteringRefused, EnteringExactly, BadFormulaExactly, RefusedUnchanged}
+use Rattle.exactness.specs.Values.{EveryRatio, Exact, EnteredExactly, touched, AsTouched, EnteredAsTouched, EnteringAnswered, EnteringExactly, Relating, RelatingExactly, RefusedUnchanged}
 
 -- ---- rounding
 
@@ -110,7 +110,7 @@ entered-as-touched s f v ok = go (entering-cases s f v)
       formulas = ap (λ (x : Answer). x .sheet .formulas) (a .is);
     }
 
--- ---- when kinds 07 and 08 are refused
+-- ---- when kinds 07 and 08 are refused, and when they are accepted
 
 -- replies with another second byte
 differ : {a b : List ℕ} → (at a 1 ≡ at b 1 → ⊥) → a ≡ b → ⊥
@@ -128,13 +128,14 @@ entering-exactly s f v =
     go (isRefusal (touched s f .reply)) refl (isDriven (touched s f .panel) f) refl (evaluated (touched s f .panel) (s .formulas) (set (s .values) f v) .fits) refl
   where
     go : (x : Bool) → isRefusal (touched s f .reply) ≡ x → (y : Bool) → isDriven (touched s f .panel) f ≡ y
-        → (z : Bool) → evaluated (touched s f .panel) (s .formulas) (set (s .values) f v) .fits ≡ z → EnteringRefused s f v
+        → (z : Bool) → evaluated (touched s f .panel) (s .formulas) (set (s .values) f v) .fits ≡ z → EnteringAnswered s f v
     go true e y d z g =
         let is : performed s (entering f v) .reply ≡ touched s f .reply = rw e refl in
         record {
           first = λ r. is;
           driven = (λ r. absurd (touch-not s f FieldDriven (omega arith) (sym is ∙ r)), λ h. absurd (clash e (h .0)));
           out = (λ r. absurd (touch-not s f OutOfRange (omega arith) (sym is ∙ r)), λ h. absurd (clash e (h .0)));
+          accepted = (λ r. absurd (clash (ap isRefusal is ∙ e) r), λ h. absurd (clash e (h .0)));
         }
     go false e true d z g =
         let is : performed s (entering f v) .reply ≡ 0xFF ∷ refusalBytes FieldDriven = rw (e, d) refl in
@@ -142,6 +143,7 @@ entering-exactly s f v =
           first = λ r. absurd (clash r e);
           driven = (λ r. (e, d), λ h. is);
           out = (λ r. absurd (differ (λ q. omega arith) (sym is ∙ r)), λ h. absurd (clash d (h .1)));
+          accepted = (λ r. absurd (clash (ap isRefusal is) r), λ h. absurd (clash d (h .1)));
         }
     go false e false d false g =
         let is : performed s (entering f v) .reply ≡ 0xFF ∷ refusalBytes OutOfRange = rw (e, d, g) refl in
@@ -149,6 +151,7 @@ entering-exactly s f v =
           first = λ r. absurd (clash r e);
           driven = (λ r. absurd (differ (λ q. omega arith) (sym is ∙ r)), λ h. absurd (clash (h .1) d));
           out = (λ r. (e, d, g), λ h. is);
+          accepted = (λ r. absurd (clash (ap isRefusal is) r), λ h. absurd (clash (h .2) g));
         }
     go false e false d true g =
         let is : performed s (entering f v) .reply ≡ touched s f .reply = rw (e, d, g) refl in
@@ -156,11 +159,12 @@ entering-exactly s f v =
           first = λ r. absurd (clash r e);
           driven = (λ r. absurd (clash (ap isRefusal (sym is ∙ r)) e), λ h. absurd (clash (h .1) d));
           out = (λ r. absurd (clash (ap isRefusal (sym is ∙ r)) e), λ h. absurd (clash g (h .2)));
+          accepted = (λ r. (e, d, g), λ h. ap isRefusal is ∙ e);
         }
 
-pub bad-formula-exactly : BadFormulaExactly
+pub relating-exactly : RelatingExactly
 unfolding checkReply
-bad-formula-exactly s id formula = go (ltb 0 n) refl (ltb 127 id) refl (sumPast n formula) refl (l .used) refl (accepted formula (l .covered)) refl
+relating-exactly s id formula = go (ltb 0 n) refl (ltb 127 id) refl (sumPast n formula) refl (l .used) refl (accepted formula (l .covered)) refl
   where
     n : ℕ
     n = s .panel .size
@@ -169,14 +173,13 @@ bad-formula-exactly s id formula = go (ltb 0 n) refl (ltb 127 id) refl (sumPast 
     l = linkAt (s .panel .links) id
 
     go : (a : Bool) → ltb 0 n ≡ a → (b : Bool) → ltb 127 id ≡ b → (c : Bool) → sumPast n formula ≡ c → (d : Bool) → l .used ≡ d
-        → (e : Bool) → accepted formula (l .covered) ≡ e
-        → Gives s (relating id formula) BadFormula ↔ (0 < n) × (id ≤ 127) × (sumPast n formula ≡ false) × (l .used ≡ true) × (accepted formula (l .covered) ≡ false)
-    go false a b eb c ec d ed e ee = (λ r. absurd (differ (λ q. omega arith) (rw a at r)), λ h. absurd (omega (arith, ltb-false 0 n a, h .0)))
-    go true a true eb c ec d ed e ee = (λ r. absurd (differ (λ q. omega arith) (rw (a, eb) at r)), λ h. absurd (omega (arith, ltb-true 127 id eb, h .1)))
-    go true a false eb true ec d ed e ee = (λ r. absurd (differ (λ q. omega arith) (rw (a, eb, ec) at r)), λ h. absurd (clash ec (h .2)))
-    go true a false eb false ec false ed e ee = (λ r. absurd (differ (λ q. omega arith) (rw (a, eb, ec, ed) at r)), λ h. absurd (clash (h .3) ed))
-    go true a false eb false ec true ed true ee = (λ r. absurd (differ (λ q. omega arith) (rw (a, eb, ec, ed, ee) at r)), λ h. absurd (clash ee (h .4)))
-    go true a false eb false ec true ed false ee = (λ r. (ltb-true 0 n a, ltb-false 127 id eb, ec, ed, ee), λ h. rw (a, eb, ec, ed, ee) refl)
+        → (e : Bool) → accepted formula (l .covered) ≡ e → Relating n id l formula (performed s (relating id formula) .reply)
+    go false a b eb c ec d ed e ee = rw a (Relating.notOpen (omega (arith, ltb-false 0 n a)))
+    go true a true eb c ec d ed e ee = rw (a, eb) (Relating.badLink (ltb-true 0 n a) (ltb-true 127 id eb))
+    go true a false eb true ec d ed e ee = rw (a, eb, ec) (Relating.noSuchField (ltb-true 0 n a) (ltb-false 127 id eb) ec)
+    go true a false eb false ec false ed e ee = rw (a, eb, ec, ed) (Relating.noSuchLink (ltb-true 0 n a) (ltb-false 127 id eb) ec ed)
+    go true a false eb false ec true ed false ee = rw (a, eb, ec, ed, ee) (Relating.badFormula (ltb-true 0 n a) (ltb-false 127 id eb) ec ed ee)
+    go true a false eb false ec true ed true ee = rw (a, eb, ec, ed, ee) (Relating.done (ltb-true 0 n a) (ltb-false 127 id eb) ec ed ee)
 
 -- ---- refusals
 

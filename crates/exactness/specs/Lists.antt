@@ -3,22 +3,26 @@ use Prim.Native.Nat.{ℕ}
 use mathlib.Core.Path.{_≡_}
 use mathlib.Core.Bool.{false, cond}
 use mathlib.Core.List.{List, [], _∷_}
+use mathlib.Core.Logic.{_≢_}
+use mathlib.Core.Option.{some}
 use lib.Dec.{eqb}
 use lib.IntN.{ℤ, pos}
 use Rattle.panel.specs.declared.Refusal.the-variants.{Conflict}
-use Rattle.panel.specs.Items.{linkAt}
+use Rattle.fieldset.specs.Lists.{In}
+use Rattle.panel.specs.Items.{link, stay, linkAt}
 use Rattle.panel.specs.Answers.{refusalBytes, isRefusal}
 use Rattle.panel.specs.Commands as panel
 use Rattle.panel.specs.Commands.{opening, adding, removing, touching, planning}
 use Rattle.values.specs.Limits.{valueAt, outside}
 use Rattle.formulas.specs.declared.Formula.{Formula}
 use Rattle.formulas.specs.declared.Formula.the-variants.{None}
+use Rattle.formulas.specs.Formulas.{Right}
 use Rattle.sheet.specs.declared.Sheet.{Sheet}
 use Rattle.sheet.specs.Sheets.{unopened, formulaAt}
 use Rattle.sheet.specs.Commands.{Command, solving, entering, relating, performed}
 use Rattle.sheet.specs.Legal.{Fits}
 use Rattle.optimality.specs.Condition3 as store
-use Rattle.optimality.specs.Condition3.{Store, empty, Optimal, System, Run, after, AfterEveryList}
+use Rattle.optimality.specs.Condition3.{Entry, Store, empty, held, Optimal, System, Run, after, AfterEveryList}
 use Rattle.optimality.specs.States.{Settled, NothingBlocked, NothingBetter}
 use Rattle.optimality.specs.Refusals.{ConflictExactly, LoopExactly}
 use Rattle.exactness.specs.Values.{EnteredExactly, OutOfRangeExactly, ValuesOnly}
@@ -109,6 +113,23 @@ ValuesWithin = AfterEveryList sheets start (λ r. (f : ℕ) → outside (valueAt
 abbrev pub ValuesRight : Type 0
 ValuesRight = AfterEveryList sheets start (λ r. EnteredExactly (r .state))
 
--- it is refused with OutOfRange exactly where no values are right, and no other values are
+-- The same of what Plan then answers, of the covered fields in the store b, and of the formulas that commands gave: v was entered in f, and the values
+-- before and after are these
+pub record HeldExactly (b : Store) (given : ℕ → Formula) (plan : List ℕ) (f : ℕ) (v : ℤ) (before after : ℕ → ℤ) : Type 0 where
+  pub stored : after f ≡ v
+  -- "each held formula is right, only for the field it sets"
+  pub right : (i g : ℕ) (e : Entry) → In (record { item = link i; field = g }) (held plan) → b .links i ≡ some e → Right (given i) (e .covered) g after
+  -- "a link without formula, and a stay, keeps the value"
+  pub link-keeps : (i g : ℕ) → In (record { item = link i; field = g }) (held plan) → given i ≡ None → after g ≡ before g
+  pub stay-keeps : (g : ℕ) → In (record { item = stay g; field = g }) (held plan) → g ≢ f → after g ≡ before g
+
+abbrev pub HeldRight : Type 0
+HeldRight =
+    (commands : List Command) (f : ℕ) (v : ℤ) → let r = after sheets start commands in
+    let a = performed (r .state) (entering f v) in
+    isRefusal (a .reply) ≡ false
+    → HeldExactly (r .store) (givenAfter unopened (λ i. None) commands) (sheets .plan (a .sheet)) f v (valueAt (r .state .values)) (valueAt (a .sheet .values))
+
+-- where the touch is accepted and no link sets f, a value is refused with OutOfRange exactly where no values are right; and no others are
 abbrev pub OutOfRangeWhereNone : Type 0
 OutOfRangeWhereNone = AfterEveryList sheets start (λ r. OutOfRangeExactly (r .state) × ValuesOnly (r .state))

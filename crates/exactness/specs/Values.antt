@@ -2,13 +2,14 @@
 use Prim.Native.Nat.{ℕ, _≤_, _<_}
 use mathlib.Core.Path.{_≡_}
 use mathlib.Core.Bool.{true, false}
-use mathlib.Core.List.{List, _∷_}
+use mathlib.Core.List.{List, [], _∷_}
 use mathlib.Core.Logic.{_≢_, _↔_}
 use lib.IntN.{ℤ}
 use lib.ListN.{set}
 use Rattle.fieldset.specs.Tables.{at}
+use Rattle.panel.specs.declared.Link.{Link}
 use Rattle.panel.specs.declared.Refusal.{Refusal}
-use Rattle.panel.specs.declared.Refusal.the-variants.{OutOfRange, FieldDriven, BadFormula}
+use Rattle.panel.specs.declared.Refusal.the-variants.{NotOpen, BadLink, NoSuchField, NoSuchLink, OutOfRange, FieldDriven, BadFormula}
 use Rattle.panel.specs.declared.Standing.the-variants.{Holding}
 use Rattle.panel.specs.Items.{linkAt}
 use Rattle.panel.specs.Answers as answers
@@ -66,22 +67,25 @@ pub record AsTouched (s : Sheet) (f : ℕ) (v : ℤ) : Type 0 where
 abbrev pub EnteredAsTouched : Type 0
 EnteredAsTouched = (s : Sheet) (f : ℕ) (v : ℤ) → isRefusal (performed s (entering f v) .reply) ≡ false → AsTouched s f v
 
--- ---- when kinds 07 and 08 are refused
+-- ---- when kinds 07 and 08 are refused, and when they are accepted
 
 abbrev pub Gives : Sheet → Command → Refusal → Type 0
 Gives s c r = performed s c .reply ≡ 0xFF ∷ refusalBytes r
 
 -- the refusals of the touch come first; then "14 FieldDriven (a link still sets f after the touch, checked before 13)", then "13 OutOfRange (a result
 -- outside the limits)" of the run over the whole plan
-pub record EnteringRefused (s : Sheet) (f : ℕ) (v : ℤ) : Type 0 where
+pub record EnteringAnswered (s : Sheet) (f : ℕ) (v : ℤ) : Type 0 where
   pub first : isRefusal (touched s f .reply) ≡ true → performed s (entering f v) .reply ≡ touched s f .reply
   pub driven : Gives s (entering f v) FieldDriven ↔ (isRefusal (touched s f .reply) ≡ false) × (isDriven (touched s f .panel) f ≡ true)
   pub out : Gives s (entering f v) OutOfRange
       ↔ (isRefusal (touched s f .reply) ≡ false) × (isDriven (touched s f .panel) f ≡ false)
       × (evaluated (touched s f .panel) (s .formulas) (set (s .values) f v) .fits ≡ false)
+  pub accepted : isRefusal (performed s (entering f v) .reply) ≡ false
+      ↔ (isRefusal (touched s f .reply) ≡ false) × (isDriven (touched s f .panel) f ≡ false)
+      × (evaluated (touched s f .panel) (s .formulas) (set (s .values) f v) .fits ≡ true)
 
 abbrev pub EnteringExactly : Type 0
-EnteringExactly = (s : Sheet) (f : ℕ) (v : ℤ) → EnteringRefused s f v
+EnteringExactly = (s : Sheet) (f : ℕ) (v : ℤ) → EnteringAnswered s f v
 
 -- values that a right answer to kind 07 could have: exact, and within the limits
 pub record Solution (s : Sheet) (f : ℕ) (v : ℤ) (values : List ℤ) : Type 0 where
@@ -100,13 +104,22 @@ ValuesOnly s =
     (f : ℕ) (v : ℤ) → isRefusal (performed s (entering f v) .reply) ≡ false → (values : List ℤ) → Solution s f v values
     → (g : ℕ) → g < touched s f .panel .size → valueAt (performed s (entering f v) .sheet .values) g ≡ valueAt values g
 
--- "15 BadFormula (p or q 0, wrong number of covered fields, f not covered); the link, open and field checks precede": of an open panel, a number that is
--- in use and a sum in one of its fields
-abbrev pub BadFormulaExactly : Type 0
-BadFormulaExactly =
-    (s : Sheet) (id : ℕ) (formula : Formula) → let l = linkAt (s .panel .links) id in
-    Gives s (relating id formula) BadFormula
-    ↔ (0 < s .panel .size) × (id ≤ 127) × (sumPast (s .panel .size) formula ≡ false) × (l .used ≡ true) × (accepted formula (l .covered) ≡ false)
+-- the reply to kind 08 at a panel of n fields, where l is the link of the number: "the link, open and field checks precede", then "15 BadFormula (p or
+-- q 0, wrong number of covered fields, f not covered)". No two of these cases can meet, so each reply is given in its case and in no other
+pub data Relating (n id : ℕ) (l : Link) (formula : Formula) : List ℕ → Type 0 where
+  notOpen : n ≡ 0 → Relating n id l formula (0xFF ∷ refusalBytes NotOpen)
+  badLink : 0 < n → 127 < id → Relating n id l formula (0xFF ∷ refusalBytes BadLink)
+  noSuchField : 0 < n → id ≤ 127 → sumPast n formula ≡ true → Relating n id l formula (0xFF ∷ refusalBytes NoSuchField)
+  noSuchLink : 0 < n → id ≤ 127 → sumPast n formula ≡ false → l .used ≡ false → Relating n id l formula (0xFF ∷ refusalBytes NoSuchLink)
+  badFormula : 0 < n → id ≤ 127 → sumPast n formula ≡ false → l .used ≡ true → accepted formula (l .covered) ≡ false
+      → Relating n id l formula (0xFF ∷ refusalBytes BadFormula)
+  done : 0 < n → id ≤ 127 → sumPast n formula ≡ false → l .used ≡ true → accepted formula (l .covered) ≡ true
+      → Relating n id l formula (0x00 ∷ 0x00 ∷ [])
+
+abbrev pub RelatingExactly : Type 0
+RelatingExactly =
+    (s : Sheet) (id : ℕ) (formula : Formula)
+    → Relating (s .panel .size) id (linkAt (s .panel .links) id) formula (performed s (relating id formula) .reply)
 
 -- ---- refusals
 

@@ -4,7 +4,7 @@ use mathlib.Core.Path.{_≡_, sym, ap, subst, _∙_}
 use mathlib.Core.Logic.{_≢_}
 use native.Mathlib.Omega.{arith}
 use borrow.Author.Tests.{lt-ltb, le-ltb, eq-eqb, ne-eqb}
-use mathlib.Core.List.{List}
+use mathlib.Core.List.{List, [], _∷_}
 use lib.ListN.{getD}
 use lib.IntN.{ℤ, natAbs, _-ℤ_}
 use mir.Syntax.{w32, w64}
@@ -13,8 +13,6 @@ use Rattle.fieldset.specs.Tables.{at}
 use Rattle.fieldset.specs.Fields.{without, lowestOf}
 use Rattle.fieldset.proofs.Fields.{lowestOf-lt}
 use Rattle.values.specs.Limits.{limited}
-use Rattle.values.specs.declared.Limited.{Limited}
-use Rattle.values.specs.declared.Limited.the-variants.{Value}
 use Rattle.values.specs.Ratios.{scaled}
 use Rattle.values.specs.Sums.{total}
 use Rattle.values.proofs.Integers.{natAbs-minus, fits-small, value-small}
@@ -25,12 +23,12 @@ use Rattle.formulas.specs.declared.Rule.{Rule}
 use Rattle.formulas.specs.Formulas.{computed, Usable, formulaOf}
 
 module _ {formula : Formula} (reads f : ℕ) (v : ℕ → ℤ) where
-  pub kept : formula ≡ None → SFits w32 (v f) → Value (v f) ≡ limited (computed formula reads f v)
+  pub kept : formula ≡ None → SFits w32 (v f) → v f ∷ [] ≡ limited (computed formula reads f v)
   unfolding computed
   kept e h = rw e (sym (limited-fits h))
 
   module _ {p q : ℕ} (e : formula ≡ Ratio p q) where
-    module _ {g : ℕ} (low : g ≡ lowestOf reads) {r : Limited} where
+    module _ {g : ℕ} (low : g ≡ lowestOf reads) {r : List ℤ} where
       pub ratio-up : g < f → r ≡ limited (scaled (v g) p q) → r ≡ limited (computed formula reads f v)
       unfolding computed
       ratio-up l h = h ∙ ap limited (rw (e, low, lt-ltb (lowestOf reads) f (rw low at l)))
@@ -40,11 +38,11 @@ module _ {formula : Formula} (reads f : ℕ) (v : ℕ → ℤ) where
       ratio-down l h = h ∙ ap limited (rw (e, low, le-ltb (lowestOf reads) f (rw low at l)))
 
   module _ {g : ℕ} (e : formula ≡ Sum g) where
-    pub sum-here : {z : ℤ} {r : Limited} → f ≡ g → z ≡ total v reads → r ≡ limited z → r ≡ limited (computed formula reads f v)
+    pub sum-here : {z : ℤ} {r : List ℤ} → f ≡ g → z ≡ total v reads → r ≡ limited z → r ≡ limited (computed formula reads f v)
     unfolding computed
     sum-here d t h = h ∙ ap limited (t ∙ rw (e, eq-eqb f g d))
 
-    pub sum-there : {z : ℤ} {r : Limited} → f ≢ g → z ≡ v g -ℤ total v (without reads g) → r ≡ limited z → r ≡ limited (computed formula reads f v)
+    pub sum-there : {z : ℤ} {r : List ℤ} → f ≢ g → z ≡ v g -ℤ total v (without reads g) → r ≡ limited z → r ≡ limited (computed formula reads f v)
     unfolding computed
     sum-there d t h = h ∙ ap limited (t ∙ rw (e, ne-eqb f g d))
 

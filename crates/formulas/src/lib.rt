@@ -11,7 +11,7 @@ use values::ratio;
 use values::sum;
 ghost use mathlib.Core.Path.{_≡_};
 ghost use Prim.Native.Nat.{_<_};
-ghost use Rattle.values.specs.Limits.{limited, valueAt};
+ghost use Rattle.values.specs.Limits.{limitedValues, limited, valueAt};
 ghost use Rattle.formulas.specs.Formulas.{computed, Usable, accepted};
 
 // A link's formula: none, which keeps the value of the field that the link sets; a ratio p to q of two fields; a sum in a field.
@@ -34,7 +34,7 @@ pub struct Formulas {
 // What a setter with this formula sets field f to, from the fields that it reads.
 pub fn compute(formula: Formula, f: usize, reads: u64, values: &[i32; 64]) -> Limited
     requires { ⌜ (f < 64) × Usable formula reads ⌝ }
-    ensures { λ r. ⌜ r ≡ limited (computed formula reads f (valueAt (now (values .entry)))) ⌝ }
+    ensures { λ r. ⌜ limitedValues r ≡ limited (computed formula reads f (valueAt (now (values .entry)))) ⌝ }
 {
     match formula {
         Formula::None => Limited::Value(values[f]),

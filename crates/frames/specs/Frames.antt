@@ -1,5 +1,5 @@
 -- A line's frame, its command, and what it is answered. Quotations are of document 01, or of document 02 where that is said.
-use Prim.Native.Nat.{ℕ, _+_, _*_, _%_, min}
+use Prim.Native.Nat.{ℕ, _+_, _*_, _/_, _%_, min}
 use mathlib.Core.Bool.{Bool, false, not, _&&_, cond}
 use mathlib.Core.List.{List, [], _∷_}
 use mathlib.Core.Option.{Option, none, some}
@@ -74,6 +74,12 @@ formulaIn b =
     cond (eqb (at b 0) 0x01) (Ratio (pairOf (drop 1 b)) (pairOf (drop 3 b)))
     (cond (eqb (at b 0) 0x02) (Sum (at b 1))
     None)
+
+-- a formula by these numbers and values; no frame gives none
+abbrev pub formulaBytes : Formula → List ℕ
+formulaBytes None = []
+formulaBytes (Ratio p q) = 0x01 ∷ p / 256 ∷ p % 256 ∷ q / 256 ∷ q % 256 ∷ []
+formulaBytes (Sum f) = 0x02 ∷ f ∷ []
 
 -- the command of a frame, by its kind; "A line refused with 1 or 2 gives no command"
 unfoldable pub commandOf : List ℕ → Option sheet.Command

@@ -10,7 +10,7 @@ ghost use Rattle.hex.specs.Hex.{frameRoom};
 ghost use mathlib.Core.List.{[], _∷_};
 ghost use Rattle.fieldset.specs.Tables.{at};
 ghost use Rattle.values.specs.Words.{valueOf};
-ghost use Rattle.frames.specs.Frames.{fitsFormula, fitsKind, checkedFrame, pairOf, wordOf, formulaIn, commandBytes, numberOf};
+ghost use Rattle.frames.specs.Frames.{fitsFormula, fitsKind, checkedFrame, pairOf, wordOf, formulaIn, formulaBytes, commandBytes, numberOf};
 ghost use Rattle.frames.specs.Reading.{tailOf, LineRead};
 
 // What a line asks. What a frame has behind its third byte stands beside it, in the frame: the field bytes of an add, the rest of a value or of a formula.
@@ -189,7 +189,7 @@ pub fn value_of(line: Line, first: u8) -> i32
 // The formula that a line gives, whose kind its command has.
 pub fn formula_of(line: Line, form: u8) -> Formula
     requires { ⌜ (length (line .frame) ≡ frameRoom) × (line .len ≤ frameRoom) ⌝ }
-    ensures { λ r. ⌜ r ≡ formulaIn (form ∷ tailOf line) ⌝ }
+    ensures { λ r. ⌜ formulaBytes r ≡ formulaBytes (formulaIn (form ∷ tailOf line)) ⌝ }
 {
     let frame = line.frame;
     let len = line.len;

@@ -12,7 +12,6 @@ use Rattle.panel.specs.Panels.{opened, dropped, toFront, moved}
 use Rattle.panel.specs.Solution.{strengthOf, isBlocked, pathFor, reversed, least, leastBlocked, planOf, isLooped, rowsOf}
 use Rattle.panel.specs.Steps.{reverseStep, enterStep, removeStep, touchStep, planStep}
 use Rattle.panel.specs.Commands.{anyOf, fieldsIn, isRising, areFieldBytes, checked, checkReply}
-use Rattle.values.specs.Limits.{limited}
 use Rattle.values.specs.Ratios.{rounded, scaled}
 use Rattle.values.specs.Sums.{sumℤ, total}
 use Rattle.values.specs.Words.{valueOf}
@@ -48,7 +47,7 @@ unfolding characters further outputOf output written tallyAfter replies refusalO
     planStep touchStep removeStep enterStep reverseStep rowsOf isLooped planOf leastBlocked least reversed pathFor isBlocked strengthOf moved
     toFront dropped opened itemsOf isInForce setterOf tabulate hasLoop order following next path strongest lowestAt strength greatest within only
     without with setOf member lowest any count
-    entered checkReply accepted valueOf run computed limited scaled rounded total sumℤ lowestOf size
+    entered checkReply accepted valueOf run computed scaled rounded total sumℤ lowestOf size
 further-hold = refl
 
 pub values-hold : HoldValues worked
@@ -57,5 +56,5 @@ unfolding characters worked stateAfter linesOf lineAnswer commandOf frameOf chec
     planStep touchStep removeStep enterStep reverseStep rowsOf isLooped planOf leastBlocked least reversed pathFor isBlocked strengthOf moved
     toFront dropped opened itemsOf isInForce setterOf tabulate hasLoop order following next path strongest lowestAt strength greatest within only
     without with setOf member lowest any count
-    entered checkReply accepted valueOf run computed limited scaled rounded total sumℤ lowestOf size
+    entered checkReply accepted valueOf run computed scaled rounded total sumℤ lowestOf size
 values-hold = refl

@@ -60,6 +60,15 @@ further =
     -- covered" (document 02, request 2)
     ∷ item "0102\n0200008081\n02010180\n08800209\n08050209\n08050200\n08050100000000\n08000100000001\n08000100010000\n08000100010001\n08010200\n08010201\n08010100010001\n08000202\n08000201\n"
     "0000\n0001\n0001\nFF06\nFF07\nFF09\nFF09\nFF0F\nFF0F\n0000\nFF0F\nFF0F\nFF0F\nFF07\n0000\nEE00000F00000500000A07\n"
+    -- kind 08: NotOpen before BadLink and NoSuchField (document 02, request 2)
+    ∷ item "08800200\n08000209\n" "FF04\nFF04\nEE00000200000000000204\n"
+    -- a link that waits can be given a formula (document 02, request 2)
+    ∷ item "0102\n02000080\n0201018001\n08010100010001\n08010201\n" "0000\n0001\n0000\n0000\n0000\nEE00000500000500000000\n"
+    -- "from −2,147,483,648 to 2,147,483,647", "13 OutOfRange (a result outside the limits)" (document 02, request 2): a sum at each limit, and one past it
+    ∷ item "0103\n020000000182\n08000202\n070080000000\n0701FFFFFFFF\n07007FFFFFFF\n070100000001\n"
+    "0000\n0001\n0000\n0000\nFF0D\n0000\nFF0D\nEE0000070000050000020D\n"
+    -- every field of 64 takes a value (document 02, request 2)
+    ∷ item "0140\n073F00000001\n074000000001\n" "0000\n0000\nFF07\nEE00000300000200000107\n"
     -- kind 07: "14 FieldDriven (a link still sets f after the touch, checked before 13)" (document 02, request 2)
     ∷ item "0103\n0200000081\n07007FFFFFFF\n080001003C0001\n070100000000\n070200000000\n" "0000\n0001\n0000\n0000\nFF0E\nFF0D\nEE0000060000040000020D\n"
     -- NoSuchField and the touch's Loop (document 02, request 2)

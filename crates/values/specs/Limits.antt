@@ -1,7 +1,7 @@
 -- The limits of a value (document 02, request 2): "whole-number values from −2,147,483,648 to 2,147,483,647".
 use Prim.Native.Nat.{ℕ}
 use mathlib.Core.Bool.{Bool, _||_, cond}
-use mathlib.Core.List.{List}
+use mathlib.Core.List.{List, [], _∷_}
 use lib.IntN.{ℤ, pos, negsuc}
 use lib.Signed.{ltZ}
 use lib.ListN.{getD}
@@ -23,6 +23,10 @@ greatest = pos 2147483647
 abbrev pub outside : ℤ → Bool
 outside z = ltZ z least || ltZ greatest z
 
--- a result that is held to the limits
-unfoldable pub limited : ℤ → Limited
-limited z = cond (outside z) OutOfRange (Value z)
+-- what is answered of a result that is held to the limits, by its values: the result, and none where it is outside
+abbrev pub limitedValues : Limited → List ℤ
+limitedValues (Value x) = x ∷ []
+limitedValues OutOfRange = []
+
+unfoldable pub limited : ℤ → List ℤ
+limited z = cond (outside z) [] (z ∷ [])

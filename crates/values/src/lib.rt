@@ -7,7 +7,7 @@ ghost use Prim.Native.Nat.{_≤_, _<_, _*_, _^_};
 ghost use lib.IntN.{pos, negℤ, natAbs, _+ℤ_, _-ℤ_};
 ghost use mir.Syntax.{w64};
 ghost use mir.Val.{SFits};
-ghost use Rattle.values.specs.Limits.{limited, valueAt};
+ghost use Rattle.values.specs.Limits.{limitedValues, limited, valueAt};
 ghost use Rattle.values.specs.Ratios.{rounded, scaled};
 ghost use Rattle.values.specs.Sums.{total};
 ghost use Rattle.values.specs.Words.{valueOf};
@@ -20,7 +20,7 @@ pub enum Limited {
 
 // A result, held to the limits.
 pub fn limit(z: i64) -> Limited
-    ensures { λ r. ⌜ r ≡ limited z ⌝ }
+    ensures { λ r. ⌜ limitedValues r ≡ limited z ⌝ }
 {
     if z < -2147483648 {
         return Limited::OutOfRange;
@@ -60,7 +60,7 @@ fn rounded(n: u64, p: u16, q: u16) -> u64
 // v p / q, to the nearest whole number, halves away from zero.
 pub fn ratio(v: i32, p: u16, q: u16) -> Limited
     requires { ⌜ 0 < q ⌝ }
-    ensures { λ r. ⌜ r ≡ limited (scaled v p q) ⌝ }
+    ensures { λ r. ⌜ limitedValues r ≡ limited (scaled v p q) ⌝ }
 {
     limit(signed(v < 0, rounded(magnitude(v), p, q)))
 }

@@ -4,17 +4,19 @@ use mathlib.Core.Path.{_≡_, refl, sym, ap, _∙_}
 use Prim.Native.Nat.{_≤_}
 use native.Mathlib.Omega.{arith}
 use borrow.Author.Needs.{needs}
+use mathlib.Core.List.{_∷_}
 use lib.ListN.{length, take, length-take}
 use lib.Seq.{length-take-le}
 use Rattle.panel.specs.Items.{linkAt}
 use Rattle.panel.specs.Commands.{opening, adding, checkReply}
 use Rattle.frames.specs.declared.Command.{Command}
 use Rattle.frames.specs.declared.Command.the-variants.{Open, Add}
-use Rattle.frames.specs.Frames.{numberOf}
+use Rattle.frames.specs.Frames.{formulaIn, numberOf}
 use Rattle.formulas.specs.declared.Formula.{Formula}
 use Rattle.sheet.specs.Sheets.{sheetOf}
 use Rattle.sheet.specs.Commands.{formulaChecks}
 use Rattle.frames.specs.Reading.{tailOf}
+use Rattle.frames.proofs.Answers.{formulas-apart}
 use Rattle.deciding.proofs.Arms.{formula-kept, solved-step, refused-step, relate-step, plan-step, add-tail, touched-step}
 use Rattle.deciding.proofs.decide_line.Statement.{statement}
 use Rattle.deciding.proofs.decide_line.Tie as tie
@@ -108,7 +110,8 @@ returns-5 c =
     let e = k .command3 .given .1 in
     rw (e, c .keep3 .ensures) (λ formulas values.
     relate-step (sheetOf _ formulas values) _ _ _ _ (s .pre .1 .1) _ (named-at s e) (s .pre .1 .2) _ _ _
-    (r .relate .ensures ∙ ap (λ (x : Formula). checkReply (formulaChecks (s .args .p) (k .command3 .given .0 .0) x)) (f .formula-of .ensures)) refl)
+    (r .relate .ensures ∙ ap (λ (x : Formula). checkReply (formulaChecks (s .args .p) (k .command3 .given .0 .0) x))
+    (formulas-apart (f .formula-of .result) (formulaIn (k .command3 .given .0 .1 .0 ∷ tailOf (s .args .line))) (f .formula-of .ensures))) refl)
 
 returns-6 : tie.Need-returns-6
 returns-6 c =

@@ -4,6 +4,7 @@ use mathlib.Core.Path.{_≡_, sym, ap, _∙_}
 use borrow.Author.Needs.{needs}
 use Rattle.frames.specs.declared.Command.{Command}
 use Rattle.frames.specs.Reading.{tailOf}
+use Rattle.frames.proofs.Answers.{formulas-apart}
 use Rattle.deciding.specs.Lines.{formulaGiven, formulaAfter}
 use Rattle.deciding.proofs.Arms.{after-refused, after-accepted, sets-none, given-kept}
 use Rattle.deciding.proofs.rule_after.Statement.{statement}
@@ -32,7 +33,7 @@ returns-2 : tie.Need-returns-2
 returns-2 c = given (c .before .before) (c .enum-told3 .given .1)
 
 returns-3 : tie.Need-returns-3
-returns-3 c = let k = c .before .before in c .formula-of .ensures ∙ given (k .before .before) (k .command .given .1)
+returns-3 c = let k = c .before .before in formulas-apart _ _ (c .formula-of .ensures) ∙ given (k .before .before) (k .command .given .1)
 
 returns-4 : tie.Need-returns-4
 returns-4 c =

@@ -9,7 +9,7 @@ use mir.Syntax.{w32}
 use mir.Val.{SFits}
 use mir.Facts.{toZ-ofZ}
 use Rattle.fieldset.specs.Tables.{at}
-use Rattle.values.specs.Limits.{limited, valueAt}
+use Rattle.values.specs.Limits.{limitedValues, limited, valueAt}
 use Rattle.formulas.specs.declared.Formula.{Formula}
 use Rattle.formulas.specs.Formulas.{formulaOf, computed, Usable}
 use Rattle.formulas.proofs.Computing.{formula-link, formula-stay}
@@ -52,7 +52,7 @@ formed c =
 
 -- what is computed is the definition's
 outcome : (c : tie.After-compute Inv-loop μ-loop) → let f = field (joined c) in let a = start (round f) .args in let g = f .wide .result in
-    c .compute .result ≡ limited (computed (formulaOf (a .t5 .of) (a .setter .now) g) (at (a .reads .now) g) g (valueAt (round f .before .loop .values)))
+    limitedValues (c .compute .result) ≡ limited (computed (formulaOf (a .t5 .of) (a .setter .now) g) (at (a .reads .now) g) g (valueAt (round f .before .loop .values)))
 outcome c =
     let f = field (joined c) in
     let reads = at (start (round f) .args .reads .now) (f .wide .result) in
