@@ -1,4 +1,4 @@
-// The operation on a text for C and Rust to call: a text and a buffer, each as pointer and length, and a tally by its address.
+// The operations on a text for C and Rust to call. A text and a buffer are a pointer and a length each; a tally and the values are lent by their address.
 use tally::Tally;
 use text::Outcome;
 ghost use mathlib.Core.Path.{_≡_};
