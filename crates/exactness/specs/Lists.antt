@@ -130,6 +130,6 @@ HeldRight =
     isRefusal (a .reply) ≡ false
     → HeldExactly (r .store) (givenAfter unopened (λ i. None) commands) (sheets .plan (a .sheet)) f v (valueAt (r .state .values)) (valueAt (a .sheet .values))
 
--- where the touch is accepted and no link sets f, a value is refused with OutOfRange exactly where no values are right; and no others are
+-- where the touch is accepted and no link sets f, a value is refused with OutOfRange exactly where no values are right; an accepted one has the only ones
 abbrev pub OutOfRangeWhereNone : Type 0
 OutOfRangeWhereNone = AfterEveryList sheets start (λ r. OutOfRangeExactly (r .state) × ValuesOnly (r .state))
