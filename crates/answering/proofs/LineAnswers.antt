@@ -12,9 +12,10 @@ use Rattle.panel.specs.declared.Panel.{Panel}
 use Rattle.panel.specs.declared.Reply.{Reply}
 use Rattle.panel.specs.declared.Step.{Step}
 use Rattle.panel.specs.Answers.{isRefusal, replyBytes, rowsLength}
-use Rattle.panel.specs.Outcomes.{Decides}
-use Rattle.panel.specs.Commands.{opening, adding, removing, touching, planning}
-use Rattle.panel.proofs.Performed.{removed-number}
+use Rattle.panel.specs.Outcomes.{taken, Takes, Decides}
+use Rattle.panel.specs.Legal.{Legal}
+use Rattle.panel.specs.Commands.{opening, adding, removing, touching, planning, performed}
+use Rattle.panel.proofs.Performed.{removed-number, legal-performed}
 use Rattle.values.specs.Words.{valueOf}
 use Rattle.formulas.specs.declared.Formula.{Formula}
 use Rattle.formulas.specs.declared.Formula.the-variants.{None}
@@ -24,7 +25,7 @@ use Rattle.sheet.specs.Sheets.{sheetOf, formulaAt, withFormula}
 use Rattle.sheet.specs.Commands.{solving, entering, relating}
 use Rattle.sheet.specs.Legal.{LegalSheet}
 use Rattle.sheet.proofs.Legal.{legal-sheet, entered-formulas}
-use Rattle.entering.specs.Entered.{Entered}
+use Rattle.entering.specs.Entered.{SettersOf, Entered}
 use Rattle.frames.specs.declared.Command.{Command}
 use Rattle.frames.specs.declared.Command.the-variants.{Open, Add, Remove, Touch, Plan, Enter, Relate, Refused}
 use Rattle.frames.specs.Frames.{frameOf, wordOf, formulaIn, commandBytes, commandOf, answered, commandAnswer, lineAnswer}
@@ -66,12 +67,23 @@ removed-step s id fields path rows full step d =
     solved-step s (id % 128) fields path rows full (Remove id) (removing id) step refl refl
     (λ e. ap (λ (k : ℕ). withFormula (s .formulas) k None) (mod-eq-of-lt (removed-number (s .panel) id e))) d
 
+-- the panel after the step of a touch
+pub touch-taken : {p : Panel} {f : ℕ} {path : List ℕ} {step : Step} → Legal p → Decides p 0 (touching f) path step
+    → Legal (taken p 0 step path) × Takes p 0 path step (taken p 0 step path)
+touch-taken {p} {f} {path} {step} h d =
+    let e = sym (d .takes .panel) in (subst Legal e (legal-performed p (touching f) h), subst (λ (q : Panel). Takes p 0 path step q) e (d .takes))
+
+pub touch-setters : {p : Panel} {f : ℕ} {path setter reads : List ℕ} {step : Step} → Decides p 0 (touching f) path step
+    → SettersOf (taken p 0 step path) setter reads → SettersOf (performed p (touching f) .panel) setter reads
+touch-setters {setter = setter} {reads} d t = subst (λ (q : Panel). SettersOf q setter reads) (d .takes .panel) t
+
 pub entered-step : (s : Sheet) (f b : ℕ) (fields path rows : List ℕ) (v : ℤ) → v ≡ valueOf (wordOf (b ∷ fields)) → length rows ≡ rowsLength
-    → (after : List ℤ) (step : Step) → Entered s f v path after step → LineStep s 0 (Enter f b) fields path rows after step
-entered-step s f b fields path rows v e full after step d =
-    let d′ : Entered s f (valueOf (wordOf (b ∷ fields))) path after step = subst (λ (x : ℤ). Entered s f x path after step) e d in
+    → (touch : Step) → Decides (s .panel) 0 (touching f) path touch → (after : List ℤ) (step : Step) → Entered s f v touch after step
+    → LineStep s 0 (Enter f b) fields path rows after step
+entered-step s f b fields path rows v e full touch touches after step d =
+    let d′ : Entered s f (valueOf (wordOf (b ∷ fields))) touch after step = subst (λ (x : ℤ). Entered s f x touch after step) e d in
     record {
-      takes = d′ .takes;
+      takes = d′ .takes path touches;
       formulas = either (isRefusal (replyBytes (step .reply))) ∙ sym (entered-formulas s f (valueOf (wordOf (b ∷ fields))));
       values = d′ .values;
       reply = append-nil (replyBytes (step .reply)) ∙ d′ .reply;

@@ -3,9 +3,12 @@ use deciding::decide_line;
 use deciding::rule_after;
 use deciding::sets_formula;
 use entering::enter;
+use entering::setters;
 use fieldset::wide;
+use formulas::Formulas;
 use frames::Command;
 use frames::value_of;
+use panel::Panel;
 use panel::ROWS;
 use removing::remove;
 use replies::LONGEST;
@@ -18,7 +21,9 @@ use taking::reverse;
 use tally::Tally;
 use tally::tallied_line;
 ghost use Prim.Native.Nat.{_^_, _<_};
+ghost use mathlib.Core.Path.{_≡_};
 ghost use lib.ListN.{length, drop};
+ghost use Rattle.sheet.specs.Sheets.{sheetOf};
 ghost use Rattle.sheet.specs.Legal.{LegalSheet};
 ghost use Rattle.lines.specs.Lines.{linesOf};
 ghost use Rattle.frames.specs.Frames.{lineAnswer};
@@ -32,31 +37,55 @@ pub struct Progress {
     pub written: usize,
 }
 
+// Where a run stands, with the parts of the sheet put together.
+fn progress_of(
+    next: usize,
+    panel: Panel,
+    formulas: Formulas,
+    values: [i32; 64],
+    tally: Tally,
+    written: usize,
+) -> Progress
+    ensures { λ r. ⌜ reached r ≡ record { next = next; state = sheetOf panel formulas values; tally = tally; written = written } ⌝ }
+{
+    let sheet = Sheet {
+        panel: panel,
+        formulas: formulas,
+        values: values,
+    };
+    Progress {
+        next: next,
+        sheet: sheet,
+        tally: tally,
+        written: written,
+    }
+}
+
 // Answers whole lines from a position on while the room has place for a longest reply; what does not fit the buffer is counted, not stored. Past the
-// text's end there is no line.
+// text's end there is no line. The step of a line is decided, and the panel takes it. A removal scans all links, and a value that is entered needs all
+// formulas: both stand here, since in decide_line they would have the panel or the formulas copied for every line.
 pub fn answer_lines(
     text: &[u8],
-    from: usize,
+    mut at: usize,
     s: Sheet,
-    t: Tally,
+    mut t: Tally,
     out: &mut [u8],
     room: usize,
 ) -> Progress
     requires { ⌜ LegalSheet s × (room < 2 ^ 63) ⌝ }
-    ensures { λ r. ⌜ RanFrom lineAnswer LegalSheet (now (text .entry)) from room s t (now (out .entry)) (now (out .exit)) (reached r) ⌝ }
-    ensures { λ r. ⌜ Paced (now (text .entry)) from room (fitting lineAnswer room s (linesOf (drop from (now (text .entry))))) (reached r) ⌝ }
+    ensures { λ r. ⌜ RanFrom lineAnswer LegalSheet (now (text .entry)) at room s t (now (out .entry)) (now (out .exit)) (reached r) ⌝ }
+    ensures { λ r. ⌜ Paced (now (text .entry)) at room (fitting lineAnswer room s (linesOf (drop at (now (text .entry))))) (reached r) ⌝ }
 {
-    let mut at = from;
     let mut q = s.panel;
     let mut formulas = s.formulas;
     let mut values = s.values;
-    let mut u = t;
     let mut n: usize = 0;
     let mut rows = [0u8; ROWS];
     let mut path = [0u8; 64];
     let mut levels = [0u8; 64];
     let mut others = [0u64; 64];
     let mut reads = [0u64; 64];
+    let mut after = [0u64; 64];
     fill_tables(q, &mut levels, &mut others, &mut reads);
     while at < text.len() && LONGEST <= room - n {
         let end = lines::line_end(text, at);
@@ -64,73 +93,36 @@ pub fn answer_lines(
         let command = line.command;
         let k = wide(frames::number_of(command));
         let old = q.links[k];
-        // a removal scans all links, and a value that is entered needs all formulas: they stand here, since in decide_line they would have the panel or
-        // the formulas copied for every line
-        let step = match command {
-            Command::Remove(id) => remove(q, old, &levels, &others, &reads, id, &mut path),
-            _ => {
-                let step = decide_line(
-                    q,
-                    old,
-                    &levels,
-                    &others,
-                    &reads,
-                    line,
-                    &mut path,
-                    &mut rows,
-                );
-                match command {
-                    Command::Enter(f, b) => {
-                        let v = value_of(line, b);
-                        enter(
-                            q,
-                            old,
-                            &levels,
-                            &others,
-                            &reads,
-                            formulas,
-                            step,
-                            &path,
-                            f,
-                            v,
-                            &mut values,
-                        )
-                    }
-                    _ => step,
-                }
+        let step = if let Command::Remove(id) = command {
+            remove(q, old, &levels, &others, &reads, id, &mut path)
+        } else {
+            let step = decide_line(q, old, &levels, &others, &reads, line, &mut path, &mut rows);
+            if let Command::Enter(f, b) = command {
+                let setter = setters(q, step, &path, &levels, &others, &reads, &mut after);
+                let v = value_of(line, b);
+                enter(q, old, step, &setter, &after, formulas, f, v, &mut values)
+            } else {
+                step
             }
         };
-        // the panel takes the step
         let place = step.place;
         let link = step.link;
-        let setter = q.setter;
+        let reply = step.reply;
         q.size = step.size;
         q.place = place;
         q.links[k] = link;
-        stay_levels(&mut levels, &setter, &place);
+        stay_levels(&mut levels, &q.setter, &place);
         if step.changed != 0 {
             q = reverse(q, step, &path, &mut levels, &mut others, &mut reads);
         }
-        let reply = step.reply;
         if sets_formula(command) {
-            let rule = rule_after(line, reply, formulas.of[k]);
-            formulas.of[k] = rule;
+            formulas.of[k] = rule_after(line, reply, formulas.of[k]);
         }
         n = put_reply(out, n, command, reply, &rows[..ROWS]);
-        u = tallied_line(u, refusal_of(reply));
+        t = tallied_line(t, refusal_of(reply));
         at = lines::behind(text, end);
     }
-    let after = Sheet {
-        panel: q,
-        formulas: formulas,
-        values: values,
-    };
-    Progress {
-        next: at,
-        sheet: after,
-        tally: u,
-        written: n,
-    }
+    progress_of(at, q, formulas, values, t, n)
 }
 
 // Goes on from a position of a text: answers whole lines while a longest reply, with its LF, still fits the buffer.

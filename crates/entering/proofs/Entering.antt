@@ -8,7 +8,7 @@ use mathlib.Core.List.{List}
 use mathlib.Core.Logic.{inl, inr}
 use lib.Dec.{ltb}
 use lib.IntN.{ℤ}
-use lib.ListN.{length, set}
+use lib.ListN.{set}
 use Rattle.fieldset.specs.Tables.{at}
 use Rattle.fieldset.specs.Fields.{member}
 use Rattle.fieldset.proofs.Numbers.{clash}
@@ -27,10 +27,10 @@ use Rattle.panel.specs.Answers.{isRefusal, replyBytes}
 use Rattle.panel.specs.Solution.{setterReads, planOf, isLooped}
 use Rattle.panel.specs.Commands as panel
 use Rattle.panel.specs.Commands.{touching}
-use Rattle.panel.specs.Outcomes.{unchanged, Takes, Decides}
+use Rattle.panel.specs.Outcomes.{unchanged, Takes}
 use Rattle.panel.specs.Legal.{Legal}
 use Rattle.panel.proofs.Outcomes.{takes-size}
-use Rattle.panel.proofs.Performed.{Keeps}
+use Rattle.panel.proofs.Performed.{Keeps, legal-performed}
 use Rattle.tables.specs.Tables.{Tabled}
 use Rattle.tables.proofs.Tables.{panel-among, panel-reads}
 use Rattle.taking.proofs.Taking.{Taken}
@@ -45,7 +45,7 @@ use Rattle.sheet.specs.Commands.{Answer, isDriven, entering, refused, valued, e
 use Rattle.sheet.specs.Legal.{Fits, LegalSheet}
 use Rattle.sheet.proofs.Legal.{Touched, touched}
 use Rattle.sheet.proofs.Held.{setter-held}
-use Rattle.entering.specs.Entered.{Entered}
+use Rattle.entering.specs.Entered.{SettersOf, Entered}
 
 -- ---- the run over the tables of a panel
 
@@ -74,19 +74,17 @@ module _ {p : Panel} (h : Legal p) {levels others reads : List ℕ} (t : Tabled 
     usable = λ f l. rw (panel-reads p h levels others reads t f l) (usable f l);
   }
 
--- ---- the touch, tried on copies
+-- ---- the setters after the touch
 
--- the setters and the table of reads of the panel after the touch; its other tables are needed no more
-pub record Tried (after : Panel) (setter reads : List ℕ) : Type 0 where
-  pub panel : Panel
-  pub levels : List ℕ
-  pub others : List ℕ
-  pub taken : Taken after panel levels others reads
-  pub sets : setter ≡ panel .setter
-
-pub tried-by : {after q : Panel} {levels others setter reads reads′ : List ℕ} → setter ≡ q .setter → reads ≡ reads′ → Taken after q levels others reads′
-    → Tried after setter reads
-tried-by {q = q} {levels} {others} e d t = rw d (record { panel = q; levels = levels; others = others; taken = t; sets = e })
+pub setters-by : {after q : Panel} {levels others setter reads reads′ : List ℕ} → setter ≡ q .setter → reads ≡ reads′ → Taken after q levels others reads′
+    → SettersOf after setter reads
+setters-by {levels = levels} {others} {reads′ = reads′} e d t =
+    rw d (record {
+      sets = e ∙ ap (λ (p : Panel). p .setter) (t .panel);
+      levels = levels;
+      others = others;
+      tabled = subst (λ (p : Panel). Tabled p levels others reads′) (t .panel) (t .tabled);
+    })
 
 -- ---- the command
 
@@ -96,24 +94,25 @@ module _ (s : Sheet) (h : LegalSheet s) (f : ℕ) (v : ℤ) where
   gave = panel.performed (s .panel) (touching f)
 
   -- a refusal leaves the sheet
-  left : (path : List ℕ) → length path ≡ 64 → (named : Link) → named ≡ linkAt (s .panel .links) 0 → (x : Refusal) → performed s (entering f v) ≡ refused s x
-      → Entered s f v path (s .values) (unchanged (s .panel .size) (s .panel .place) named (Refused x))
-  left path long named same x e = record {
-    takes = takes-size (s .panel) 0 named (Refused x) same path long (s .panel .size) _ (ap (λ (a : Answer). a .sheet .panel) (sym e));
+  left : (touch : Step) (named : Link) → named ≡ linkAt (s .panel .links) 0 → (x : Refusal) → performed s (entering f v) ≡ refused s x
+      → Entered s f v touch (s .values) (unchanged (s .panel .size) (s .panel .place) named (Refused x))
+  left touch named same x e = record {
+    takes = λ path d.
+        takes-size (s .panel) 0 named (Refused x) same path (d .takes .path-of .full) (s .panel .size) _ (ap (λ (a : Answer). a .sheet .panel) (sym e));
     reply = ap (λ (a : Answer). a .reply) (sym e);
     values = ap (λ (a : Answer). a .sheet .values) (sym e);
   }
 
-  module _ {path : List ℕ} {step : Step} (d : Decides (s .panel) 0 (touching f) path step) where
-    pub enter-refused : (x : Refusal) → step .reply ≡ Refused x → Entered s f v path (s .values) step
+  module _ (step : Step) (told : replyBytes (step .reply) ≡ gave .reply) where
+    pub enter-refused : (x : Refusal) → step .reply ≡ Refused x → Entered s f v step (s .values) step
     unfolding entered
     enter-refused x e =
-        let told : replyBytes (Refused x) ≡ gave .reply = ap replyBytes (sym e) ∙ d .reply in
-        let refusal : isRefusal (gave .reply) ≡ true = ap isRefusal (sym told) in
+        let refusal : isRefusal (gave .reply) ≡ true = ap isRefusal (sym (ap replyBytes (sym e) ∙ told)) in
         let is : performed s (entering f v) ≡ record { sheet = s; reply = gave .reply } = rw refusal refl in
         record {
-          takes = subst (λ (q : Panel). Takes (s .panel) 0 path step q) (same refusal (touched s h f) ∙ ap (λ (a : Answer). a .sheet .panel) (sym is)) (d .takes);
-          reply = d .reply ∙ ap (λ (a : Answer). a .reply) (sym is);
+          takes = λ path d.
+              subst (λ (q : Panel). Takes (s .panel) 0 path step q) (same refusal (touched s h f) ∙ ap (λ (a : Answer). a .sheet .panel) (sym is)) (d .takes);
+          reply = told ∙ ap (λ (a : Answer). a .reply) (sym is);
           values = ap (λ (a : Answer). a .sheet .values) (sym is);
         }
       where
@@ -123,7 +122,7 @@ module _ (s : Sheet) (h : LegalSheet s) (f : ℕ) (v : ℤ) where
 
     module _ (m : ℕ) (ok : step .reply ≡ Accepted m) where
       accepts : isRefusal (gave .reply) ≡ false
-      accepts = ap isRefusal (sym (ap replyBytes (sym ok) ∙ d .reply))
+      accepts = ap isRefusal (sym (ap replyBytes (sym ok) ∙ told))
 
       pub kept : Touched s h f (gave .panel)
       kept = go (touched s h f)
@@ -132,65 +131,56 @@ module _ (s : Sheet) (h : LegalSheet s) (f : ℕ) (v : ℤ) where
           go (inl (e, q)) = absurd (clash e accepts)
           go (inr (e, k)) = k
 
-      module _ {setter reads : List ℕ} (tried : Tried (gave .panel) setter reads) (named : Link) (same : named ≡ linkAt (s .panel .links) 0) where
+      module _ {setter reads : List ℕ} (t : SettersOf (gave .panel) setter reads) (named : Link) (same : named ≡ linkAt (s .panel .links) 0) where
         abbrev q : Panel
-        q = tried .panel
+        q = gave .panel
 
-        abbrev t : Taken (gave .panel) q (tried .levels) (tried .others) reads
-        t = tried .taken
+        legal : Legal q
+        legal = legal-performed (s .panel) (touching f) (h .panel)
 
-        long : length path ≡ 64
-        long = d .takes .path-of .full
+        driven-is : isDriven q f ≡ ltb (at setter f) 128
+        driven-is = ap (λ (l : List ℕ). ltb (at l f) 128) (sym (t .sets))
 
-        driven-is : isDriven (gave .panel) f ≡ ltb (at setter f) 128
-        driven-is = ap (λ (p : Panel). isDriven p f) (sym (t .panel)) ∙ ap (λ (l : List ℕ). ltb (at l f) 128) (sym (tried .sets))
-
-        size-is : q .size ≡ s .panel .size
-        size-is = ap (λ (p : Panel). p .size) (t .panel) ∙ kept .size
-
-        pub enter-driven : ltb (at setter f) 128 ≡ true → Entered s f v path (s .values) (unchanged (s .panel .size) (s .panel .place) named (Refused FieldDriven))
+        pub enter-driven : ltb (at setter f) 128 ≡ true → Entered s f v step (s .values) (unchanged (s .panel .size) (s .panel .place) named (Refused FieldDriven))
         unfolding entered
-        enter-driven e = left path long named same FieldDriven (rw (accepts, driven-is ∙ e) refl)
+        enter-driven e = left step named same FieldDriven (rw (accepts, driven-is ∙ e) refl)
 
         -- every formula can be computed with
         pub enter-ready : Ready (formulaOf (s .formulas .of) setter) reads (s .panel .size)
         enter-ready =
-            rw (tried .sets)
-            (subst (Ready (formulaOf (s .formulas .of) (q .setter)) reads) size-is
-            (ready (t .legal) (t .tabled) (s .formulas)
-            (λ g l. held-usable (formulaOf (s .formulas .of) (q .setter) g)
-            (setter-held q (s .formulas) (t .legal)
-            (subst (λ (p : Panel). (k : ℕ) → Fits (formulaAt (s .formulas) k) (linkAt (p .links) k)) (sym (t .panel)) (kept .fits)) g l))))
+            rw (t .sets)
+            (subst (Ready (formulaOf (s .formulas .of) (q .setter)) reads) (kept .size)
+            (ready legal (t .tabled) (s .formulas)
+            (λ g l. held-usable (formulaOf (s .formulas .of) (q .setter) g) (setter-held q (s .formulas) legal (kept .fits) g l))))
 
         module _ (free : ltb (at setter f) 128 ≡ false) {fits : Bool} {after : List ℤ}
             (st : Stored (run (formulaOf (s .formulas .of) setter) (at reads) (order (at reads) (s .panel .size)) (set (s .values) f v)) (s .values) fits after) where
           abbrev result : Run
-          result = evaluated (gave .panel) (s .formulas) (set (s .values) f v)
+          result = evaluated q (s .formulas) (set (s .values) f v)
 
           ran : run (formulaOf (s .formulas .of) setter) (at reads) (order (at reads) (s .panel .size)) (set (s .values) f v) ≡ result
           ran =
-              ap₂ (λ (l : List ℕ) (n : ℕ). run (formulaOf (s .formulas .of) l) (at reads) (order (at reads) n) (set (s .values) f v)) (tried .sets) (sym size-is)
-              ∙ table-run (t .legal) (t .tabled) (s .formulas) (set (s .values) f v)
-              ∙ ap (λ (p : Panel). evaluated p (s .formulas) (set (s .values) f v)) (t .panel)
+              ap₂ (λ (l : List ℕ) (n : ℕ). run (formulaOf (s .formulas .of) l) (at reads) (order (at reads) n) (set (s .values) f v)) (t .sets) (sym (kept .size))
+              ∙ table-run legal (t .tabled) (s .formulas) (set (s .values) f v)
 
           answer : performed s (entering f v) ≡ valued s gave result
           unfolding entered
           answer = rw (accepts, driven-is ∙ free) refl
 
-          pub enter-out : fits ≡ false → Entered s f v path after (unchanged (s .panel .size) (s .panel .place) named (Refused OutOfRange))
+          pub enter-out : fits ≡ false → Entered s f v step after (unchanged (s .panel .size) (s .panel .place) named (Refused OutOfRange))
           enter-out e =
               let not-fits : result .fits ≡ false = ap (λ (r : Run). r .fits) (sym ran) ∙ sym (st .answer) ∙ e in
               let was : after ≡ s .values = st .left ∙ rw (sym (st .answer) ∙ e) refl in
-              subst (λ (w : List ℤ). Entered s f v path w (unchanged (s .panel .size) (s .panel .place) named (Refused OutOfRange))) (sym was)
-              (left path long named same OutOfRange (answer ∙ rw not-fits refl))
+              subst (λ (w : List ℤ). Entered s f v step w (unchanged (s .panel .size) (s .panel .place) named (Refused OutOfRange))) (sym was)
+              (left step named same OutOfRange (answer ∙ rw not-fits refl))
 
-          pub enter-done : fits ≡ true → Entered s f v path after step
+          pub enter-done : fits ≡ true → Entered s f v step after step
           enter-done e =
               let all-fits : result .fits ≡ true = ap (λ (r : Run). r .fits) (sym ran) ∙ sym (st .answer) ∙ e in
               let is : performed s (entering f v) ≡ record { sheet = sheetOf (gave .panel) (s .formulas) (result .values); reply = gave .reply } =
               answer ∙ rw all-fits refl in
               record {
-                takes = subst (λ (p : Panel). Takes (s .panel) 0 path step p) (ap (λ (a : Answer). a .sheet .panel) (sym is)) (d .takes);
-                reply = d .reply ∙ ap (λ (a : Answer). a .reply) (sym is);
+                takes = λ path d. subst (λ (p : Panel). Takes (s .panel) 0 path step p) (ap (λ (a : Answer). a .sheet .panel) (sym is)) (d .takes);
+                reply = told ∙ ap (λ (a : Answer). a .reply) (sym is);
                 values = st .left ∙ rw (sym (st .answer) ∙ e) (ap (λ (r : Run). r .values) ran) ∙ ap (λ (a : Answer). a .sheet .values) (sym is);
               }

@@ -13,42 +13,32 @@ use tables::stay_levels;
 use taking::reverse;
 ghost use mathlib.Core.Path.{_≡_};
 ghost use Rattle.panel.specs.Items.{linkAt};
-ghost use Rattle.panel.specs.Commands.{touching};
-ghost use Rattle.panel.specs.Outcomes.{Decides};
+ghost use Rattle.panel.specs.Answers.{replyBytes};
+ghost use Rattle.panel.specs.Commands.{touching, performed};
+ghost use Rattle.panel.specs.Outcomes.{taken, Takes};
+ghost use Rattle.panel.specs.Legal.{Legal};
 ghost use Rattle.tables.specs.Tables.{Tabled};
 ghost use Rattle.sheet.specs.Legal.{LegalSheet};
 ghost use Rattle.sheet.specs.Sheets.{sheetOf};
-ghost use Rattle.entering.specs.Entered.{Entered};
+ghost use Rattle.entering.specs.Entered.{SettersOf, Entered};
 
-// Decides on entering a value in a field, from the step of its touch: where the touch is accepted, the value is stored and the whole plan of the
-// panel after the touch is run. Where nothing refuses, the step is the touch's and the values are those of the run; else both leave all as it was.
-// The contract rules out, for instance, a field that a link still sets told as outside the limits and a touch that a refusal leaves (must-fail:
-// setter_told_as_limits, refusal_keeps_the_touch).
-pub fn enter(
+// The setters of the panel after a touch's step, and in a buffer the table of the fields that they read. The contract rules out, for instance, the
+// setters from before the step (must-fail: plan_before_the_touch).
+pub fn setters(
     p: Panel,
-    named: Link,
+    step: Step,
+    path: &[u8; 64],
     levels: &[u8; 64],
     others: &[u64; 64],
     reads: &[u64; 64],
-    formulas: Formulas,
-    step: Step,
-    path: &[u8; 64],
-    f: u8,
-    value: i32,
-    values: &mut [i32; 64],
-) -> Step
-    requires { ⌜ LegalSheet (sheetOf p formulas (now values)) × Tabled p (now levels) (now others) (now reads) ⌝ }
-    requires { ⌜ (named ≡ linkAt (p .links) 0) × Decides p 0 (touching f) (now path) step ⌝ }
-    ensures { λ r. ⌜ Entered (sheetOf p formulas (now (values .entry))) f value (now (path .entry)) (now (values .exit)) r ⌝ }
+    after: &mut [u64; 64],
+) -> [u8; 64]
+    requires { ⌜ Legal p × Tabled p (now levels) (now others) (now reads) ⌝ }
+    requires { ⌜ Legal (taken p 0 step (now path)) × Takes p 0 (now path) step (taken p 0 step (now path)) ⌝ }
+    ensures { λ r. ⌜ SettersOf (taken p 0 step (now (path .entry))) r (now (after .exit)) ⌝ }
 {
-    let reply = step.reply;
-    if let Reply::Refused(_) = reply {
-        return step;
-    }
-    let n = p.size;
-    let order = p.place;
     let mut setter = p.setter;
-    let mut reading = *reads;
+    *after = *reads;
     if step.changed != 0 {
         // the step is taken on copies
         let place = step.place;
@@ -60,14 +50,42 @@ pub fn enter(
         q.place = place;
         q.links[0] = link;
         stay_levels(&mut fresh, &setter, &place);
-        q = reverse(q, step, path, &mut fresh, &mut outs, &mut reading);
+        q = reverse(q, step, path, &mut fresh, &mut outs, after);
         setter = q.setter;
     }
+    setter
+}
+
+// Decides on entering a value in a field, from the step of its touch, the setters after it and the fields that they read: where the touch is accepted,
+// the value is stored and the whole plan is run. Where nothing refuses, the step is the touch's and the values are those of the run; else both leave all
+// as it was. The contract rules out, for instance, a field that a link still sets told as outside the limits and a touch that a refusal leaves
+// (must-fail: setter_told_as_limits, refusal_keeps_the_touch).
+pub fn enter(
+    p: Panel,
+    named: Link,
+    step: Step,
+    setter: &[u8; 64],
+    reads: &[u64; 64],
+    formulas: Formulas,
+    f: u8,
+    value: i32,
+    values: &mut [i32; 64],
+) -> Step
+    requires { ⌜ LegalSheet (sheetOf p formulas (now values)) × (named ≡ linkAt (p .links) 0) ⌝ }
+    requires { ⌜ (replyBytes (step .reply) ≡ performed p (touching f) .reply) × SettersOf (performed p (touching f) .panel) (now setter) (now reads) ⌝ }
+    ensures { λ r. ⌜ Entered (sheetOf p formulas (now (values .entry))) f value step (now (values .exit)) r ⌝ }
+{
+    let reply = step.reply;
+    if let Reply::Refused(_) = reply {
+        return step;
+    }
+    let n = p.size;
+    let order = p.place;
     let v = wide(f);
     if setter[v] < STAY {
         return unchanged(n, &order, named, Reply::Refused(Refusal::FieldDriven));
     }
-    if !store(n, &setter, &reading, formulas, v, value, values) {
+    if !store(n, setter, reads, formulas, v, value, values) {
         return unchanged(n, &order, named, Reply::Refused(Refusal::OutOfRange));
     }
     step

@@ -31,18 +31,18 @@ use Rattle.replies.proofs.Replies.{rows-tell-none, reply-short}
 use Rattle.frames.specs.Reading.{tailOf}
 use Rattle.deciding.specs.Lines.{Framed, formulaAfter, setsFormula, LineStep, TouchStep}
 use Rattle.deciding.proofs.Arms.{framed, entered-touch, decided-step}
-use Rattle.answering.proofs.LineAnswers.{answer-legal, removed-step, entered-step, formulas-same, did}
+use Rattle.answering.proofs.LineAnswers.{answer-legal, removed-step, touch-taken, touch-setters, entered-step, formulas-same, did}
 use Rattle.answering.proofs.Going.{Did, Going, start, line-done, finish-end, finish-full}
 use Rattle.answering.proofs.answer_lines.Statement.{statement}
 use Rattle.answering.proofs.answer_lines.Tie as tie
 
 abbrev Inv-loop : tie.InvT-loop
-Inv-loop text from out₀ room at₀ q₀ formulas₀ values₀ u₀ n₀ rows₀ path₀ levels₀ others₀ reads₀ out at q formulas values u n rows path levels others reads =
+Inv-loop text at₀ t₀ out₀ room q₀ formulas₀ values₀ n₀ rows₀ path₀ levels₀ others₀ reads₀ after₀ at t out q formulas values n rows path levels others reads after =
     (length rows ≡ rowsLength) × (length path ≡ 64) × Tabled q levels others reads
-    × Going lineAnswer LegalSheet text from room (sheetOf q₀ formulas₀ values₀) u₀ out₀ out (record { next = at; state = sheetOf q formulas values; tally = u; written = n })
+    × Going lineAnswer LegalSheet text at₀ room (sheetOf q₀ formulas₀ values₀) t₀ out₀ out (record { next = at; state = sheetOf q formulas values; tally = t; written = n })
 
 abbrev μ-loop : tie.MeasureT-loop
-μ-loop text from out₀ room at₀ q₀ formulas₀ values₀ u₀ n₀ rows₀ path₀ levels₀ others₀ reads₀ out at q formulas values u n rows path levels others reads =
+μ-loop text at₀ t₀ out₀ room q₀ formulas₀ values₀ n₀ rows₀ path₀ levels₀ others₀ reads₀ after₀ at t out q formulas values n rows path levels others reads after =
     length text - at
 
 -- ---- the places: the line is read, and the link that its command names is known
@@ -115,8 +115,8 @@ decides c = c .before .before
 abbrev decided : tie.After-decide-line Inv-loop μ-loop → tie.After-old Inv-loop μ-loop
 decided c = decides (c .before .before .before .before .before)
 
-abbrev enters : tie.After-value-of Inv-loop μ-loop → tie.After-command2 Inv-loop μ-loop
-enters c = c .before .before
+abbrev enters : tie.After-after Inv-loop μ-loop → tie.After-command2 Inv-loop μ-loop
+enters c = c .before .before .before .before .before .before
 
 -- the touch of a value that is entered
 touches : (c : tie.After-command2 Inv-loop μ-loop) → let d = c .before .before in let r = d .decide-line in
@@ -135,15 +135,24 @@ remove-requires c κs =
 framed-at : (c : tie.After-old Inv-loop μ-loop) → Framed (read c .read-line .result)
 framed-at c = framed _ _ (read c .read-line .ensures)
 
+setters-requires : tie.Need-setters-requires Inv-loop μ-loop
+setters-requires c κs =
+    let k = enters c in
+    let n = decided (k .before .before) in
+    ((is-legal n .panel, looped n .loop .inv .2), touch-taken (is-legal n .panel) (touches k .decides))
+
 value-of-requires : tie.Need-value-of-requires Inv-loop μ-loop
-value-of-requires c κs = let f = framed-at (decided (c .before .before .before)) in (f .full, f .short)
+value-of-requires c κs = let f = framed-at (decided (enters (c .before) .before .before)) in (f .full, f .short)
 
 enter-requires : tie.Need-enter-requires Inv-loop μ-loop
 enter-requires c κs =
-    let k = enters (c .before .before .before .before .before) in
+    let g = c .before .before .before .before in
+    let k = enters (g .before) in
     let n = decided (k .before .before) in
-    let l = looped n .loop .inv in
-    ((is-legal n, l .2), (named-at n ∙ ap (λ (x : Command). linkAt (looped n .loop .q .links) (numberOf x)) (k .command2 .given .1), touches k .decides))
+    let d = touches k .decides in (
+      (is-legal n, named-at n ∙ ap (λ (x : Command). linkAt (looped n .loop .q .links) (numberOf x)) (k .command2 .given .1)),
+      (d .reply, touch-setters d (g .setters .ensures)),
+    )
 
 decide-line-requires : tie.Need-decide-line-requires Inv-loop μ-loop
 decide-line-requires c κs =
@@ -154,11 +163,11 @@ decide-line-requires c κs =
 -- ---- the step of the line, and the panel that has taken it
 
 -- the arms of the match meet; from there the parts of the step, and the levels of the stays
-abbrev met : tie.After-setter Inv-loop μ-loop → tie.At-match-came Inv-loop μ-loop
-met c = c .before .before .before
+abbrev met : tie.After-link Inv-loop μ-loop → tie.At-match-came Inv-loop μ-loop
+met c = c .before .before
 
-abbrev parts : tie.After-stay-levels Inv-loop μ-loop → tie.After-setter Inv-loop μ-loop
-parts c = c .before .before .before .before
+abbrev parts : tie.After-stay-levels Inv-loop μ-loop → tie.After-link Inv-loop μ-loop
+parts c = c .before .before .before .before .before
 
 -- the step changes setters
 abbrev changes : tie.After-path4 Inv-loop μ-loop → tie.After-stay-levels Inv-loop μ-loop
@@ -168,7 +177,7 @@ abbrev tail-at : tie.After-old Inv-loop μ-loop → List ℕ
 tail-at c = tailOf (read c .read-line .result)
 
 same-command : (c : tie.At-match-came Inv-loop μ-loop) → c .match .command ≡ command-of (c .before)
-same-command c = ⊎-elim (λ w. w .11 ∙ sym (w .1 .given .1)) (⊎-elim (λ w. w .20 ∙ sym (w .8 .given .1)) (λ w. w .11)) (c .match .came)
+same-command c = ⊎-elim (λ w. w .12 ∙ sym (w .1 .given .1)) (⊎-elim (λ w. w .25 ∙ sym (w .8 .given .1)) (λ w. w .12)) (c .match .came)
 
 stepped : (c : tie.At-match-came Inv-loop μ-loop)
     → let n = c .before in let m = c .match in LineStep (sheet-of n) (n .before .wide .result) (command-of n) (tail-at n) (m .path) (m .rows) (m .values) (m .step)
@@ -180,19 +189,19 @@ stepped c =
     (⊎-elim
     (λ w.
     let path = w .7 .last .1 .1 .1 .1 .1 .1 .0 in
-    rw (w .8, w .9, w .10, w .12)
+    rw (w .8, w .9, w .10, w .13)
     (subst (λ (x : Command). LineStep (sheet-of n) (numberOf x) x (tail-at n) path (l .rows) (l .values) (w .7 .result)) (sym (w .1 .given .1))
     (removed-step (sheet-of n) _ _ _ _ (l .inv .0) _ (w .7 .ensures))))
     (⊎-elim
     (λ w.
     let path = w .6 .last .1 .1 .1 .1 .1 .1 .0 in
     let rows = w .6 .last .1 .1 .1 .1 .1 .1 .1 .0 in
-    let after = w .16 .last .1 .1 .1 .1 .1 .1 .1 .1 .1 .1 .0 in
-    let full = entered-touch _ _ (tail-at n) _ _ _ (command-of n) _ _ (w .8 .given .1) (w .6 .ensures) .rows-full in
-    rw (w .17, w .18, w .19, w .21)
-    (subst (λ (x : Command). LineStep (sheet-of n) (numberOf x) x (tail-at n) path rows after (w .16 .result)) (sym (w .8 .given .1))
-    (entered-step (sheet-of n) _ _ (tail-at n) path rows _ (toZ-ofZ (record { sfits = w .10 .ok }) ∙ w .10 .ensures) full after _ (w .16 .ensures))))
-    (λ w. rw (w .8, w .9, w .10, w .12) (decided-step _ _ _ _ _ _ _ (command-of n) (w .0 .keys2) (w .7 .keys2) (w .6 .ensures) (l .formulas) (l .values))))
+    let after = w .20 .last .1 .1 .1 .1 .1 .1 .1 .1 .0 in
+    let t = entered-touch _ _ (tail-at n) _ _ _ (command-of n) _ _ (w .8 .given .1) (w .6 .ensures) in
+    rw (w .21, w .22, w .23, w .26)
+    (subst (λ (x : Command). LineStep (sheet-of n) (numberOf x) x (tail-at n) path rows after (w .20 .result)) (sym (w .8 .given .1))
+    (entered-step (sheet-of n) _ _ (tail-at n) path rows _ (toZ-ofZ (record { sfits = w .16 .ok }) ∙ w .16 .ensures) (t .rows-full) _ (t .decides) after _ (w .20 .ensures))))
+    (λ w. rw (w .8, w .9, w .10, w .13) (decided-step _ _ _ _ _ _ _ (command-of n) (w .0 .keys2) (w .7 .keys2) (w .6 .ensures) (l .formulas) (l .values))))
     (m .came))
 
 abbrev after-of : tie.At-match-came Inv-loop μ-loop → Panel
@@ -209,7 +218,7 @@ element-set-from-link c = number-small (met c .before .before)
 
 stay-levels-requires : tie.Need-stay-levels-requires Inv-loop μ-loop
 stay-levels-requires c κs =
-    let m = met (c .before .before .before) in
+    let m = met (c .before .before .before .before) in
     (places-taken (stepped m .takes) (legal-after m), looped (m .before) .loop .inv .2 .levels-full)
 
 reverse-requires : tie.Need-reverse-requires Inv-loop μ-loop
@@ -258,11 +267,11 @@ element-copy-out-rule-after c = number-small (joined (c .before .before) .before
 rule-after-requires : tie.Need-rule-after-requires Inv-loop μ-loop
 rule-after-requires c κs = framed-at (joined (turned c) .before)
 
-mul-rule : tie.Need-mul-rule Inv-loop μ-loop
-mul-rule c = omega (arith, number-small (joined (turned (c .before)) .before .before))
+mul-t92 : tie.Need-mul-t92 Inv-loop μ-loop
+mul-t92 c = omega (arith, number-small (joined (turned (c .before)) .before .before))
 
-element-set-from-rule : tie.Need-element-set-from-rule Inv-loop μ-loop
-element-set-from-rule c = number-small (joined (turned (c .before)) .before .before)
+element-set-from-formulas : tie.Need-element-set-from-formulas Inv-loop μ-loop
+element-set-from-formulas c = number-small (joined (turned (c .before)) .before .before)
 
 abbrev ruled : tie.Joined3 Inv-loop μ-loop → tie.Joined2 Inv-loop μ-loop
 ruled c = c .before .before
@@ -329,20 +338,18 @@ loop-again c =
       line-done _ _ _ _ _ _ _ _ _ _ (l .inv .3) (e .before .before .loop-test .taken) (leb-true _ _ (e .before .if1 .taken)) (e .line-end .result) (e .line-end .ensures)
           (line-of n) refl _ _ (reply-of j) (line-does t)
           (w .0 ∙ ap (λ (b : List ℕ). sets (l .out) (l .n) (lineOf b)) (is-written j)) (w .1 ∙ ap (λ (b : List ℕ). l .n + length (lineOf b)) (is-written j))
-          (c .before .tallied-line .ensures ∙ ap (tallied (l .u)) (c .before .before .refusal-of .ensures ∙ rows-tell-none (command-of n) (m .match .step .reply) (m .match .rows))) (c .behind .ensures),
+          (c .before .tallied-line .ensures ∙ ap (tallied (l .t)) (c .before .before .refusal-of .ensures ∙ rows-tell-none (command-of n) (m .match .step .reply) (m .match .rows))) (c .behind .ensures),
     )
 
 same-length : tie.Need-same-length Inv-loop μ-loop
 same-length c = ap length (c .before .before .loop .inv .3 .stored) ∙ simp length-sets
 
 returns : tie.Need-returns Inv-loop μ-loop
-returns c = finish-full _ _ _ _ _ _ _ _ _ _ (c .before .before .loop .inv .3) (omega (arith, leb-false))
-
-same-length-2 : tie.Need-same-length-2 Inv-loop μ-loop
-same-length-2 c = ap length (c .before .loop .inv .3 .stored) ∙ simp length-sets
-
-returns-2 : tie.Need-returns-2 Inv-loop μ-loop
-returns-2 c = finish-end _ _ _ _ _ _ _ _ _ _ (c .before .loop .inv .3) (omega arith)
+returns c =
+    let l = c .before in
+    rw (c .progress-of .ensures)
+    (⊎-elim (λ w. finish-full _ _ _ _ _ _ _ _ _ _ (l .before .loop .inv .3) (omega (arith, leb-false)))
+    (λ w. finish-end _ _ _ _ _ _ _ _ _ _ (l .before .loop .inv .3) (omega arith)) (l .loop-test .came))
 
 pub answer-lines-spec : {M : Type 1} → statement M
 answer-lines-spec =
@@ -366,6 +373,7 @@ answer-lines-spec =
     remove-requires
     decide-line-requires
     (λ c. search needs)
+    setters-requires
     value-of-requires
     enter-requires
     mul-link
@@ -376,8 +384,8 @@ answer-lines-spec =
     mul-rule-after
     element-copy-out-rule-after
     rule-after-requires
-    mul-rule
-    element-set-from-rule
+    mul-t92
+    element-set-from-formulas
     slice-aggregate-put-reply
     put-reply-requires
     (λ c κs. search needs)
@@ -385,7 +393,6 @@ answer-lines-spec =
     (λ c κs. search needs)
     loop-less
     loop-again
+    (λ c κs. search needs)
     same-length
-    returns
-    same-length-2
-    returns-2)
+    returns)
