@@ -40,9 +40,9 @@ use Rattle.evaluation.specs.Runs.{Run, run, Ready, Stored}
 use Rattle.evaluation.proofs.Settled.{held-usable}
 use Rattle.evaluation.proofs.Planned.{run-cong}
 use Rattle.sheet.specs.declared.Sheet.{Sheet}
-use Rattle.sheet.specs.Sheets.{sheetOf, formulaAt, evaluated}
+use Rattle.sheet.specs.Sheets.{sheetOf, evaluated}
 use Rattle.sheet.specs.Commands.{Answer, isDriven, entering, refused, valued, entered, performed}
-use Rattle.sheet.specs.Legal.{Fits, LegalSheet}
+use Rattle.sheet.specs.Legal.{LegalSheet}
 use Rattle.sheet.proofs.Legal.{Touched, touched}
 use Rattle.sheet.proofs.Held.{setter-held}
 use Rattle.entering.specs.Entered.{SettersOf, Entered}
@@ -76,15 +76,13 @@ module _ {p : Panel} (h : Legal p) {levels others reads : List ℕ} (t : Tabled 
 
 -- ---- the setters after the touch
 
-pub setters-by : {after q : Panel} {levels others setter reads reads′ : List ℕ} → setter ≡ q .setter → reads ≡ reads′ → Taken after q levels others reads′
-    → SettersOf after setter reads
-setters-by {levels = levels} {others} {reads′ = reads′} e d t =
-    rw d (record {
-      sets = e ∙ ap (λ (p : Panel). p .setter) (t .panel);
-      levels = levels;
-      others = others;
-      tabled = subst (λ (p : Panel). Tabled p levels others reads′) (t .panel) (t .tabled);
-    })
+pub setters-by : {after q : Panel} {levels others reads : List ℕ} → Taken after q levels others reads → SettersOf after (q .setter) reads
+setters-by {levels = levels} {others} {reads} t = record {
+  sets = ap (λ (p : Panel). p .setter) (t .panel);
+  levels = levels;
+  others = others;
+  tabled = subst (λ (p : Panel). Tabled p levels others reads) (t .panel) (t .tabled);
+}
 
 -- ---- the command
 

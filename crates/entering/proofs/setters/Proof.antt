@@ -51,12 +51,12 @@ returns : tie.Need-returns
 returns c =
     let r = c .before in
     let s = copied (levelled (r .before) .before) in
-    setters-by refl refl (taken-reversed (takes s) (legal-after s) (r .reverse .ensures .0) (r .reverse .ensures .1))
+    setters-by (taken-reversed (takes s) (legal-after s) (r .reverse .ensures .0) (r .reverse .ensures .1))
 
 returns-2 : tie.Need-returns-2
 returns-2 c =
     let s = start (c .before) in
-    setters-by refl refl (taken-unmoved (takes s) (legal-after s) (legal s) (omega arith) (tabled s) refl (c .if1 .left))
+    setters-by (taken-unmoved (takes s) (legal-after s) (legal s) (omega arith) (tabled s) refl (c .if1 .left))
 
 pub setters-spec : {M : Type 1} → statement M
 setters-spec = tie.close (tie.spec (λ c. search needs) stay-levels-requires reverse-requires returns returns-2)
