@@ -1,6 +1,7 @@
 //! A plain solver, written sentence by sentence from document 01 and from the
 //! change requests of document 02 that have landed: 1, the offset in the reply
-//! to a bad line, and 2, values and formulas.
+//! to a bad line, and 2, values and formulas. Request 3, the import of airflow
+//! channels from EDF, is a plain importer of its own, `import`.
 //!
 //! It is meant to be read next to the documents, not to be fast. Comments in
 //! quotation marks are sentences of the documents.
@@ -8,6 +9,7 @@
 mod commands;
 mod formula;
 mod frame;
+mod import;
 mod panel;
 mod refusal;
 mod steps;
@@ -16,6 +18,7 @@ mod text;
 
 pub use formula::Formula;
 pub use frame::{hex, read_frame, read_hex, Command};
+pub use import::import;
 pub use panel::{Item, Link, Panel, Standing};
 pub use refusal::Refusal;
 pub use steps::{new_link, PlanEntry, Reply};

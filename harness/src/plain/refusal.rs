@@ -2,7 +2,7 @@
 
 /// The refusals in the order of their numbers; 1 to 11 are "also the order of
 /// checks for a line", "after Loop come" 13 to 15, of which 14 is "checked before
-/// 13".
+/// 13"; 16 to 18 are answers of the import, checked "in that order".
 #[derive(Clone, Copy, Debug, PartialEq, Eq)]
 pub enum Refusal {
     /// With the offset in the line that its reply tells.
@@ -21,6 +21,9 @@ pub enum Refusal {
     OutOfRange,
     FieldDriven,
     BadFormula,
+    BadHeader,
+    UnclearUnit,
+    FlowCount,
 }
 
 impl Refusal {
@@ -42,6 +45,9 @@ impl Refusal {
             Refusal::OutOfRange => 13,
             Refusal::FieldDriven => 14,
             Refusal::BadFormula => 15,
+            Refusal::BadHeader => 16,
+            Refusal::UnclearUnit => 17,
+            Refusal::FlowCount => 18,
         }
     }
 }
