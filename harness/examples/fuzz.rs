@@ -5,7 +5,7 @@
 use harness::compare::compared;
 use harness::generate::{long_text, text, Mix, Rng, MIXES};
 use harness::plain::lines;
-use harness::program;
+use harness::program::PANEL;
 use std::time::{Duration, Instant};
 
 const LEVELS: [&[u8]; 5] = [
@@ -50,7 +50,7 @@ fn main() {
             0 => text(seed),
             _ => long_text(seed, &mix),
         };
-        if let Err(difference) = compared(&input, program::outcome) {
+        if let Err(difference) = compared(&input, |text| PANEL.outcome(text)) {
             println!("seed {seed}: {difference}");
             std::process::exit(1);
         }

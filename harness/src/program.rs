@@ -1,28 +1,48 @@
-//! The run program, `target/bin/run`, started on a text, or another program that
-//! the environment names in its place (`.ci/wrong-programs`).
+//! The programs of `target/bin`, started on an input: the run program on a text,
+//! the import program on a file. The environment can name another program in
+//! place of each (`.ci/wrong-programs`).
 //!
-//! Where the program is missing the tests fail; none of them is left out. A run
+//! Where a program is missing the tests fail; none of them is left out. A run
 //! counts only if it ends well: by itself with exit status 0, or by SIGPIPE where
 //! the output was closed before its end.
 
 use std::fs::File;
 use std::io::{ErrorKind, Read, Write};
+use std::os::fd::OwnedFd;
+use std::os::unix::net::UnixStream;
 use std::os::unix::process::ExitStatusExt;
 use std::path::Path;
 use std::process::{Child, ChildStdin, ChildStdout, Command, ExitStatus, Stdio};
 use std::thread::{scope, sleep};
 use std::time::{Duration, Instant};
 
-/// Where `rt check run` puts the program.
-const PATH: &str = concat!(env!("CARGO_MANIFEST_DIR"), "/../target/bin/run");
+/// Where `rt check` puts the programs.
+const FOLDER: &str = concat!(env!("CARGO_MANIFEST_DIR"), "/../target/bin/");
 
-/// The environment's name for the path of a program to test in its place.
-const OTHER: &str = "PANEL_PROGRAM";
+/// A program to test.
+pub struct Program {
+    /// Its name there, and that of its crate.
+    pub name: &'static str,
+    /// The environment's name for the path of a program to test in its place.
+    pub other: &'static str,
+}
+
+/// The run program.
+pub const PANEL: Program = Program {
+    name: "run",
+    other: "PANEL_PROGRAM",
+};
+
+/// The import program.
+pub const IMPORT: Program = Program {
+    name: "edf_import",
+    other: "IMPORT_PROGRAM",
+};
 
 /// The number of SIGPIPE, which a write to a closed pipe gives.
 const SIGPIPE: i32 = 13;
 
-/// A program that runs longer than this is taken not to end. No text needs more
+/// A program that runs longer than this is taken not to end. No input needs more
 /// than a small part of it: it only turns an endless run into a failed test.
 const ENDLESS: Duration = Duration::from_secs(120);
 
@@ -30,87 +50,100 @@ const ENDLESS: Duration = Duration::from_secs(120);
 #[derive(Debug)]
 pub struct Seen {
     pub output: Vec<u8>,
-    /// Whether the pipe took the whole text. It does not if the program ends
-    /// with more of the text unread than the pipe holds.
+    /// Whether the pipe took the whole input. It does not if the program ends
+    /// with more of the input unread than the pipe holds.
     pub all_taken: bool,
 }
 
-/// The whole output on a text, or how the program ended if not well.
-pub fn outcome(text: &[u8]) -> Result<Vec<u8>, String> {
-    outcome_of(command(), text)
-}
-
-/// The same of a command.
-pub fn outcome_of(command: Command, text: &[u8]) -> Result<Vec<u8>, String> {
-    finish(start_piped(command), &[text], usize::MAX).map(|seen| seen.output)
-}
-
-/// The whole output on a text.
-pub fn run(text: &[u8]) -> Vec<u8> {
-    seen(text).output
-}
-
-/// A run on a text that is written at once.
-pub fn seen(text: &[u8]) -> Seen {
-    ended_well(finish(start_piped(command()), &[text], usize::MAX))
-}
-
-/// The whole output on a text that comes in pieces. The sizes are used in turn,
-/// over and over.
-pub fn run_in_pieces(text: &[u8], sizes: &[usize]) -> Vec<u8> {
-    let mut sizes = sizes.iter().cycle();
-    let mut pieces = Vec::new();
-    let mut rest = text;
-    while !rest.is_empty() {
-        let size = *sizes.next().expect("a size");
-        let (piece, more) = rest.split_at(rest.len().min(size));
-        pieces.push(piece);
-        rest = more;
+impl Program {
+    /// The whole output on an input, or how the program ended if not well.
+    pub fn outcome(&self, input: &[u8]) -> Result<Vec<u8>, String> {
+        outcome_of(self.command(), input)
     }
-    ended_well(finish(start_piped(command()), &pieces, usize::MAX)).output
+
+    /// The whole output on an input.
+    pub fn run(&self, input: &[u8]) -> Vec<u8> {
+        self.seen(input).output
+    }
+
+    /// A run on an input that is written at once.
+    pub fn seen(&self, input: &[u8]) -> Seen {
+        ended_well(finish(start_piped(self.command()), &[input], usize::MAX))
+    }
+
+    /// The whole output on an input that comes in pieces. The sizes are used in
+    /// turn, over and over.
+    pub fn run_in_pieces(&self, input: &[u8], sizes: &[usize]) -> Vec<u8> {
+        let mut sizes = sizes.iter().cycle();
+        let mut pieces = Vec::new();
+        let mut rest = input;
+        while !rest.is_empty() {
+            let size = *sizes.next().expect("a size");
+            let (piece, more) = rest.split_at(rest.len().min(size));
+            pieces.push(piece);
+            rest = more;
+        }
+        ended_well(finish(start_piped(self.command()), &pieces, usize::MAX)).output
+    }
+
+    /// The whole output with a file as standard input, in place of a pipe.
+    pub fn run_on_file(&self, path: &str) -> Vec<u8> {
+        let file = File::open(path).unwrap_or_else(|error| panic!("{path}: {error}"));
+        self.run_from(file.into())
+    }
+
+    /// The whole output where all of the input can be read and the read after it
+    /// fails: a socket whose other end is closed before it read everything.
+    pub fn run_before_a_failed_read(&self, input: &[u8]) -> Vec<u8> {
+        let (mut near, mut far) = UnixStream::pair().expect("a pair of sockets");
+        near.write_all(b"not read").expect("input written");
+        far.write_all(input).expect("input written");
+        drop(far);
+        self.run_from(OwnedFd::from(near).into())
+    }
+
+    /// The whole output with this standard input.
+    fn run_from(&self, input: Stdio) -> Vec<u8> {
+        let child = start(self.command().stdin(input));
+        ended_well(finish(child, &[], usize::MAX)).output
+    }
+
+    /// The program as a command.
+    pub fn command(&self) -> Command {
+        Command::new(self.path())
+    }
+
+    /// A line of the shell as a command, where `"$0"` is the program.
+    pub fn through_shell(&self, line: &str) -> Command {
+        let mut command = Command::new("/bin/sh");
+        command.args(["-c", line, &self.path()]);
+        command
+    }
+
+    /// The path of the program to test, which is there.
+    fn path(&self) -> String {
+        let path = std::env::var(self.other).unwrap_or(FOLDER.to_string() + self.name);
+        let there = Path::new(&path).is_file();
+        assert!(there, "{path} is missing; build it: rt check {}", self.name);
+        path
+    }
 }
 
-/// The whole output with a file as standard input, in place of a pipe.
-pub fn run_on_file(path: &str) -> Vec<u8> {
-    let file = File::open(path).unwrap_or_else(|error| panic!("{path}: {error}"));
-    let child = start(command().stdin(file));
-    ended_well(finish(child, &[], usize::MAX)).output
+/// The whole output of a command on an input, or how it ended if not well.
+pub fn outcome_of(command: Command, input: &[u8]) -> Result<Vec<u8>, String> {
+    finish(start_piped(command), &[input], usize::MAX).map(|seen| seen.output)
 }
 
 /// The first bytes of the output, at most so many; then the reading end of the
-/// output is closed, with 0 bytes before any of the text is written. This comes
+/// output is closed, with 0 bytes before any of the input is written. This comes
 /// back only if the program ends all the same.
-pub fn run_closing_output(command: Command, text: &[u8], bytes: usize) -> Vec<u8> {
-    ended_well(closing_output(command, text, bytes)).output
+pub fn run_closing_output(command: Command, input: &[u8], bytes: usize) -> Vec<u8> {
+    ended_well(closing_output(command, input, bytes)).output
 }
 
 /// The same, or how the program ended if not well.
-pub fn closing_output(command: Command, text: &[u8], bytes: usize) -> Result<Seen, String> {
-    finish(start_piped(command), &[text], bytes)
-}
-
-/// The program as a command.
-pub fn command() -> Command {
-    Command::new(present(&path()))
-}
-
-/// A line of the shell as a command, where `"$0"` is the program.
-pub fn through_shell(line: &str) -> Command {
-    let mut command = Command::new("/bin/sh");
-    command.args(["-c", line, present(&path())]);
-    command
-}
-
-/// The path of the program to test.
-fn path() -> String {
-    std::env::var(OTHER).unwrap_or(PATH.to_string())
-}
-
-/// The path of a program that is there.
-pub fn present(path: &str) -> &str {
-    let there = Path::new(path).is_file();
-    assert!(there, "{path} is missing; build it: rt check run");
-    path
+pub fn closing_output(command: Command, input: &[u8], bytes: usize) -> Result<Seen, String> {
+    finish(start_piped(command), &[input], bytes)
 }
 
 /// What is seen of a run; one that did not end well fails the test.

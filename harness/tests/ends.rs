@@ -1,6 +1,6 @@
 //! How the end of a program is judged: right output does not excuse a bad end.
 
-use harness::program::{closing_output, outcome_of, through_shell};
+use harness::program::{closing_output, outcome_of, PANEL};
 use harness::worked::items::ONE_RUN_IN_FULL;
 use harness::worked::panels::longest_output;
 use harness::worked::Worked;
@@ -14,7 +14,7 @@ fn one_run() -> Worked {
 
 /// The program, and then this end.
 fn ending(end: &str) -> Command {
-    through_shell(&format!(r#"ulimit -c 0; "$0"; {end}"#))
+    PANEL.through_shell(&format!(r#"ulimit -c 0; "$0"; {end}"#))
 }
 
 /// Ends with what is said of them.

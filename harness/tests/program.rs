@@ -4,7 +4,7 @@
 use harness::compare::{compared, first_difference};
 use harness::generate;
 use harness::plain::{hex, run_text};
-use harness::program::{self, through_shell};
+use harness::program::{run_closing_output, Program, PANEL};
 use harness::worked::items::ONE_RUN_IN_FULL;
 use harness::worked::panels::{longest_output, plan_of_stays};
 use harness::worked::values::ratios::sample;
@@ -21,13 +21,13 @@ fn check_output(name: &str, given: &[u8], expected: &[u8]) {
 fn check(texts: &[Worked]) {
     assert!(!texts.is_empty());
     for text in texts {
-        check_output(&text.name, &program::run(&text.text), &text.output);
+        check_output(&text.name, &PANEL.run(&text.text), &text.output);
     }
 }
 
 /// Compares the program with the plain solver.
 fn check_with_plain(text: &[u8]) {
-    if let Err(report) = compared(text, program::outcome) {
+    if let Err(report) = compared(text, |text| PANEL.outcome(text)) {
         panic!("{report}");
     }
 }
@@ -39,9 +39,13 @@ fn one_run() -> Worked {
 }
 
 #[test]
-#[should_panic(expected = "is missing; build it: rt check run")]
+#[should_panic(expected = "target/bin/no_such is missing; build it: rt check no_such")]
 fn missing_program_fails() {
-    program::present(concat!(env!("CARGO_MANIFEST_DIR"), "/no-such-program"));
+    let program = Program {
+        name: "no_such",
+        other: "NO_SUCH_PROGRAM",
+    };
+    program.run(b"");
 }
 
 #[test]
@@ -56,7 +60,7 @@ fn sample_files() {
     let samples = concat!(env!("CARGO_MANIFEST_DIR"), "/../samples/");
     for (file, text) in [("run.txt", one_run()), ("airflow.txt", sample())] {
         let path = samples.to_string() + file;
-        check_output(&path, &program::run_on_file(&path), &text.output);
+        check_output(&path, &PANEL.run_on_file(&path), &text.output);
     }
 }
 
@@ -85,7 +89,7 @@ fn full_panels() {
 #[test]
 fn reading_stops_over_the_limit() {
     for byte in *b"\n0" {
-        let seen = program::seen(&vec![byte; 10_000_000]);
+        let seen = PANEL.seen(&vec![byte; 10_000_000]);
         check_output("10 MB", &seen.output, b"FF0C\n");
         assert!(!seen.all_taken, "10 MB were read");
     }
@@ -241,7 +245,7 @@ fn middle_text() -> Vec<u8> {
 #[test]
 fn input_in_single_bytes() {
     let text = middle_text();
-    let output = program::run_in_pieces(&text, &[1]);
+    let output = PANEL.run_in_pieces(&text, &[1]);
     check_output("single bytes", &output, &run_text(&text));
 }
 
@@ -260,7 +264,7 @@ fn input_in_odd_pieces() {
         &[4_096, 1],
     ];
     for sizes in sizes {
-        let output = program::run_in_pieces(&text, sizes);
+        let output = PANEL.run_in_pieces(&text, sizes);
         check_output(&format!("pieces {sizes:?}"), &output, &expected);
     }
 }
@@ -279,7 +283,7 @@ fn limit_in_pieces() {
             &[4_093],
             &[32_768],
         ] {
-            let output = program::run_in_pieces(&text.text, sizes);
+            let output = PANEL.run_in_pieces(&text.text, sizes);
             let name = format!("{} in pieces {sizes:?}", text.name);
             check_output(&name, &output, &text.output);
         }
@@ -290,7 +294,7 @@ fn limit_in_pieces() {
 /// A folder can be opened, and cannot be read.
 #[test]
 fn failed_read_is_not_answered() {
-    assert_eq!(program::run_on_file("/"), b"");
+    assert_eq!(PANEL.run_on_file("/"), b"");
 }
 
 /// What is read of the output before it is closed is right, and the program
@@ -300,9 +304,9 @@ fn failed_read_is_not_answered() {
 fn program_ends_when_its_output_is_closed() {
     for text in [one_run(), longest_output()] {
         for bytes in [0, 1, 100, 100_000] {
-            let ignoring_signal = through_shell(r#"trap '' PIPE; exec "$0""#);
-            for command in [program::command(), ignoring_signal] {
-                let start = program::run_closing_output(command, &text.text, bytes);
+            let ignoring_signal = PANEL.through_shell(r#"trap '' PIPE; exec "$0""#);
+            for command in [PANEL.command(), ignoring_signal] {
+                let start = run_closing_output(command, &text.text, bytes);
                 let expected = &text.output[..bytes.min(text.output.len())];
                 check_output(&text.name, &start, expected);
             }
@@ -314,8 +318,8 @@ fn program_ends_when_its_output_is_closed() {
 #[test]
 fn program_ends_without_an_output() {
     for text in [one_run(), longest_output()] {
-        let command = through_shell(r#"exec "$0" >&-"#);
-        let output = program::run_closing_output(command, &text.text, usize::MAX);
+        let command = PANEL.through_shell(r#"exec "$0" >&-"#);
+        let output = run_closing_output(command, &text.text, usize::MAX);
         check_output(&text.name, &output, b"");
     }
 }

@@ -7,7 +7,7 @@
 use harness::compare::compared;
 use harness::generate::{frames, long_text, text, Mix, Rng, MIXES};
 use harness::plain::{hex, lines, values_after, TEXT_LIMIT};
-use harness::program;
+use harness::program::PANEL;
 use harness::worked::values::{look, store};
 use harness::worked::Lines;
 use std::collections::BTreeMap;
@@ -224,7 +224,8 @@ const LEAST: [(&str, usize); 36] = [
 
 /// The output that the program and the plain solver both give a text.
 fn output(seed: u64, text: &[u8]) -> Vec<u8> {
-    compared(text, program::outcome).unwrap_or_else(|report| panic!("seed {seed}: {report}"))
+    let output = compared(text, |text| PANEL.outcome(text));
+    output.unwrap_or_else(|report| panic!("seed {seed}: {report}"))
 }
 
 /// Compares the texts of the seeds and checks what was met.
