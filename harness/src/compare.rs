@@ -53,6 +53,13 @@ fn shortest(text: &[u8], program: impl Fn(&[u8]) -> Given) -> Vec<u8> {
     })
 }
 
+/// Fails where two outputs differ, and shows the first difference.
+pub fn check_output(name: &str, given: &[u8], expected: &[u8]) {
+    if let Some(difference) = first_difference(given, expected) {
+        panic!("{name}: {difference}");
+    }
+}
+
 /// The first line in which two outputs differ, if there is one. A line is
 /// compared with its LF.
 pub fn first_difference(given: &[u8], expected: &[u8]) -> Option<String> {

@@ -1,12 +1,14 @@
-//! Random texts, the same ones for the same seed.
+//! Random texts and headers, the same ones for the same seed.
 
 mod damage;
 mod frames;
+mod headers;
 mod long;
 mod rng;
 mod values;
 
 pub use frames::{frames, Mix, MIXES};
+pub use headers::header_file;
 pub use long::long_text;
 pub use rng::Rng;
 

@@ -3,7 +3,9 @@
 //!
 //! - [`plain`]: a plain solver, `plain::run_text` for a whole text, and a plain
 //!   importer, `plain::import` for a whole file.
-//! - [`generate`]: random texts from a seed, `generate::text`.
+//! - [`generate`]: random texts from a seed, `generate::text`, and headers,
+//!   `generate::header_file`.
+//! - [`header`]: headers of the European Data Format, for the import.
 //! - [`shrink`]: the search for a shorter text, `shrink::shorten`.
 //! - [`worked`]: texts with their whole outputs, worked out by hand.
 //! - [`program`]: the run program, `PANEL.run` for a whole text, and the import
@@ -13,6 +15,7 @@
 
 pub mod compare;
 pub mod generate;
+pub mod header;
 pub mod plain;
 pub mod program;
 pub mod shrink;

@@ -1,9 +1,11 @@
 //! Texts with their whole outputs, worked out by hand from documents 01 and 02.
-//! The plain solver and the run program are both held to them.
+//! The plain solver and the run program are both held to them. The headers of
+//! request 3 have theirs too, for the plain importer and the import program.
 
 use crate::plain::hex;
 
 pub mod edges;
+pub mod headers;
 pub mod items;
 pub mod offsets;
 pub mod panels;
@@ -12,7 +14,7 @@ pub mod values;
 /// Lines with their replies.
 pub type Lines = Vec<(String, String)>;
 
-/// A text and the whole output that the documents give it.
+/// A text, or a file, and the whole output that the documents give it.
 pub struct Worked {
     pub name: String,
     pub text: Vec<u8>,

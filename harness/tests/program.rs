@@ -1,7 +1,7 @@
 //! The run program, `target/bin/run`: texts worked out by hand, every short
 //! frame, damaged texts, and how it treats its input and output.
 
-use harness::compare::{compared, first_difference};
+use harness::compare::{check_output, compared};
 use harness::generate;
 use harness::plain::{hex, run_text};
 use harness::program::{run_closing_output, Program, PANEL};
@@ -9,13 +9,6 @@ use harness::worked::items::ONE_RUN_IN_FULL;
 use harness::worked::panels::{longest_output, plan_of_stays};
 use harness::worked::values::ratios::sample;
 use harness::worked::{self, tally_line, Worked};
-
-/// Compares whole outputs; only the first difference is shown.
-fn check_output(name: &str, given: &[u8], expected: &[u8]) {
-    if let Some(difference) = first_difference(given, expected) {
-        panic!("{name}: {difference}");
-    }
-}
 
 /// Compares the program's outputs with those worked out.
 fn check(texts: &[Worked]) {
