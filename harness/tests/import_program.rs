@@ -129,18 +129,13 @@ fn every_byte_of_a_count() {
 #[test]
 fn every_byte_of_a_length() {
     let header = Header::new(&["L/s"]);
-    for length in [&b"512     "[..], b"0000512 "] {
-        let file = header.clone().length(length).file();
-        assert_eq!(every_byte(&file, LENGTH_PLACE, 8), 8);
-    }
+    assert_eq!(every_byte(&header.file(), LENGTH_PLACE, 8), 8);
 }
 
 #[test]
 fn every_byte_of_a_unit() {
-    for unit in ["L/min", "L/s"] {
-        let file = Header::new(&["uV", unit]).file();
-        assert_eq!(every_byte(&file, unit_place(2, 1), 8), 8);
-    }
+    let file = Header::new(&["uV", "L/min"]).file();
+    assert_eq!(every_byte(&file, unit_place(2, 1), 8), 8);
 }
 
 /// The kind of an output: the refusal, or the number of flows.

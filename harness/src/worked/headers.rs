@@ -413,6 +413,12 @@ fn places() -> Vec<Worked> {
         headers.push(worked("unit in another place", no_flow, FLOW_COUNT));
         headers.push(worked("unclear in another place", flow, &one_flow()));
     }
+    // Nothing of the other fields is checked, not even the version.
+    for place in [0, 88, 168, 192, 236, 244] {
+        let mut file = one.file();
+        put(&mut file, place, b"\xFFBIOSEMI");
+        headers.push(worked("another field", file, &one_flow()));
+    }
     let mut first = none.file();
     put(&mut first, unit_place(2, 0), b"L/min   ");
     headers.push(worked("unit in its place", first, &one_flow()));
