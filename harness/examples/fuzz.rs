@@ -23,7 +23,7 @@ fn drawn_mix(rng: &mut Rng) -> Mix {
     Mix {
         fields: (rng.between(1, fields), fields),
         ids: rng.between(1, 128),
-        levels: *rng.pick(&LEVELS),
+        levels: LEVELS[rng.below(LEVELS.len())],
         covered: (rng.between(1, covered), covered),
         output_percent: rng.between(0, 100),
         weights: std::array::from_fn(|_| rng.between(1, 40)),

@@ -60,7 +60,7 @@ impl Header {
         put(&mut file, 244, b"30");
         put(&mut file, COUNT_PLACE, &self.count);
         for (signal, unit) in self.units.iter().enumerate() {
-            put(&mut file, 256 + 16 * signal, b"Resp");
+            put(&mut file, 256 + 16 * signal, label(unit));
             put(&mut file, 256 + 16 * signals + 80 * signal, b"Pneumotach");
             put(&mut file, unit_place(signals, signal), unit);
             put(&mut file, 256 + 104 * signals + 8 * signal, b"-120");
@@ -71,6 +71,14 @@ impl Header {
             put(&mut file, 256 + 216 * signals + 8 * signal, b"750");
         }
         file
+    }
+}
+
+/// The label of a signal; one without a unit has the annotations of EDF+.
+fn label(unit: &[u8]) -> &'static [u8] {
+    match unit.is_empty() {
+        true => b"EDF Annotations",
+        false => b"Resp",
     }
 }
 

@@ -4,7 +4,7 @@ use super::rng::Rng;
 use crate::header::{put, Header, COUNT_PLACE, LENGTH_PLACE};
 use crate::worked::headers::{FLOW_UNITS, OTHER_UNITS, UNCLEAR_UNITS};
 
-/// The file of a seed. Half of the files are well formed, with bytes behind the
+/// The file of a seed. About half of the files are well formed, with bytes behind the
 /// header or without; of the others a number, the length or single bytes are
 /// damaged.
 pub fn header_file(seed: u64) -> Vec<u8> {
@@ -26,8 +26,8 @@ pub fn header_file(seed: u64) -> Vec<u8> {
     file
 }
 
-/// Units with none, one, some, 31, 32, 33 or very many flows at any places among
-/// others. Some have unclear ones.
+/// Units with none, one, some, 31, 32 or 33 flows at any places among others. Now
+/// and then one of them is unclear.
 fn units(rng: &mut Rng) -> Vec<Vec<u8>> {
     let some = rng.between(2, 30);
     let flows = *rng.pick(&[0, 1, 1, 2, some, some, 31, 32, 32, 33]);

@@ -198,7 +198,12 @@ fn worked(name: &str, file: Vec<u8>, output: &[u8]) -> Worked {
     }
 }
 
-/// The same of a header.
+/// A name with the text that it is about.
+fn about(name: &str, text: &[u8]) -> String {
+    format!("{name} '{}'", text.escape_ascii())
+}
+
+/// A header with its output.
 fn of(name: &str, header: &Header, output: &[u8]) -> Worked {
     worked(name, header.file(), output)
 }
@@ -244,8 +249,8 @@ fn flows() -> Vec<Worked> {
         (32, &frames("0140", 32)),
         (33, FLOW_COUNT),
         (64, FLOW_COUNT),
-        (254, FLOW_COUNT),
         (128, FLOW_COUNT),
+        (254, FLOW_COUNT),
     ];
     for (flows, output) in many {
         for unit in FLOW_UNITS {
@@ -282,14 +287,16 @@ fn among_254() -> Vec<Worked> {
 fn units() -> Vec<Worked> {
     let mut headers = Vec::new();
     for unit in UNCLEAR_UNITS {
+        let name = about("unclear unit", unit);
         for units in [vec![unit], vec![b"L/min", unit], vec![unit, b"L/s"]] {
-            headers.push(of("unclear unit", &Header::new(&units), UNCLEAR_UNIT));
+            headers.push(of(&name, &Header::new(&units), UNCLEAR_UNIT));
         }
     }
     for unit in OTHER_UNITS {
-        headers.push(of("no flow", &Header::new(&[unit]), FLOW_COUNT));
+        let name = about("another unit", unit);
+        headers.push(of(&name, &Header::new(&[unit]), FLOW_COUNT));
         for units in [[b"L/min", unit], [unit, b"L/s"]] {
-            headers.push(of("another unit", &Header::new(&units), &one_flow()));
+            headers.push(of(&name, &Header::new(&units), &one_flow()));
         }
     }
     headers
@@ -319,11 +326,13 @@ fn counts() -> Vec<Worked> {
         (&most, "254", &one_flow),
         (&most, "0254", &one_flow),
     ] {
-        let header = header.clone().count(count.as_bytes());
-        headers.push(of("good count", &header, output));
+        let count = count.as_bytes();
+        let name = about("good count", count);
+        headers.push(of(&name, &header.clone().count(count), output));
     }
     for count in BAD_COUNTS {
-        headers.push(of("bad count", &one.clone().count(count), BAD_HEADER));
+        let name = about("bad count", count);
+        headers.push(of(&name, &one.clone().count(count), BAD_HEADER));
     }
     headers
 }
@@ -334,15 +343,18 @@ fn lengths() -> Vec<Worked> {
     let two = Header::new(&FLOW_UNITS);
     let mut headers = Vec::new();
     for length in ["512", "0512", "00512", "000512", "0000512", "00000512"] {
+        let name = about("good length", length.as_bytes());
         let header = one.clone().length(length.as_bytes());
-        headers.push(of("good length", &header, &one_flow()));
+        headers.push(of(&name, &header, &one_flow()));
     }
     for length in BAD_LENGTHS {
-        headers.push(of("bad length", &one.clone().length(length), BAD_HEADER));
+        let name = about("bad length", length);
+        headers.push(of(&name, &one.clone().length(length), BAD_HEADER));
     }
     for length in ["256", "512", "1024", "770", "767"] {
+        let name = about("bad length of two signals", length.as_bytes());
         let header = two.clone().length(length.as_bytes());
-        headers.push(of("length of two", &header, BAD_HEADER));
+        headers.push(of(&name, &header, BAD_HEADER));
     }
     let fewer = two.clone().count(b"1");
     headers.push(of("count of one, length of two", &fewer, BAD_HEADER));
@@ -357,18 +369,10 @@ fn sizes() -> Vec<Worked> {
     let most = Header::new(&[equal(253, b"uV"), equal(1, b"L/s")].concat()).file();
     let mut headers = Vec::new();
     for file in [&one, &most] {
-        for length in [
-            0,
-            1,
-            184,
-            252,
-            255,
-            256,
-            257,
-            file.len() - 256,
-            file.len() - 1,
-        ] {
-            headers.push(worked("cut", file[..length].to_vec(), BAD_HEADER));
+        let whole = file.len();
+        for length in [0, 1, 184, 252, 255, 256, 257, whole - 256, whole - 1] {
+            let name = format!("{whole} bytes cut to {length}");
+            headers.push(worked(&name, file[..length].to_vec(), BAD_HEADER));
         }
         let behind: [&[u8]; 5] = [b"\0", b"l/min   ", &[b' '; 256], &[0xFF; 300], &one];
         for behind in behind {
@@ -410,14 +414,15 @@ fn places() -> Vec<Worked> {
         let (mut no_flow, mut flow) = (none.file(), one.file());
         put(&mut no_flow, place, b"L/min   ");
         put(&mut flow, place, b"l/min   ");
-        headers.push(worked("unit in another place", no_flow, FLOW_COUNT));
-        headers.push(worked("unclear in another place", flow, &one_flow()));
+        let name = format!("unit at {place}");
+        headers.push(worked(&name, no_flow, FLOW_COUNT));
+        headers.push(worked(&name, flow, &one_flow()));
     }
     // Nothing of the other fields is checked, not even the version.
     for place in [0, 88, 168, 192, 236, 244] {
         let mut file = one.file();
         put(&mut file, place, b"\xFFBIOSEMI");
-        headers.push(worked("another field", file, &one_flow()));
+        headers.push(worked(&format!("text at {place}"), file, &one_flow()));
     }
     let mut first = none.file();
     put(&mut first, unit_place(2, 0), b"L/min   ");
