@@ -25,7 +25,7 @@ use Rattle.lines.specs.Lines.{linesOf}
 use Rattle.tally.specs.Tallies.{noTally, tallyBytes}
 use Rattle.frames.specs.Texts.{LineAnswer, stateAfter, replies, tallyAfter, isTooLong}
 use Rattle.frames.specs.Frames.{lineAnswer, sheetAfter, panelOutput}
-use Rattle.items.specs.Characters.{characters}
+use Rattle.hex.specs.Characters.{characters}
 use Rattle.acceptance.specs.Lines.{repliesTo, commandsOf}
 use Rattle.acceptance.specs.Replies.{Form, IsReply, Each, Replied}
 use Rattle.acceptance.specs.Offsets.{IsBadHex, IsWrong, WrongAt, TellsOffset, TellsAtMost}

@@ -12,7 +12,7 @@ use Rattle.hex.specs.Hex.{lf, charOf, hexOf, lineOf}
 use Rattle.lines.specs.Lines.{linesOf}
 use Rattle.frames.specs.Texts.{replies, written, output, isTooLong, outputOf}
 use Rattle.frames.specs.Frames.{panelOutput}
-use Rattle.items.specs.Characters.{characters}
+use Rattle.hex.specs.Characters.{characters}
 use Rattle.acceptance.specs.Lines.{OneReplyEach, repliesTo, tallyTo, OutputLines, OutputTooLong}
 
 pub one-reply-each : OneReplyEach

@@ -18,7 +18,7 @@ use Rattle.fieldset.proofs.Tests.{and-left}
 use Rattle.fieldset.proofs.Lists.{Whole}
 use Rattle.panel.specs.declared.Panel.{Panel}
 use Rattle.panel.specs.declared.Refusal.{Refusal}
-use Rattle.panel.specs.declared.Refusal.the-variants.{BadHex, BadFrame, AlreadyOpen, NotOpen, BadSize, BadLink, NoSuchField, LinkTaken, NoSuchLink, Conflict, Loop, TextTooLong, OutOfRange, FieldDriven, BadFormula}
+use Rattle.panel.specs.declared.Refusal.the-variants.{BadHex, BadFrame, AlreadyOpen, NotOpen, BadSize, BadLink, NoSuchField, LinkTaken, NoSuchLink, Conflict, Loop, TextTooLong, OutOfRange, FieldDriven, BadFormula, BadHeader, UnclearUnit, FlowCount}
 use Rattle.panel.specs.Items.{Item, link, stay, inForce}
 use Rattle.panel.specs.Answers.{Answer, refusalBytes}
 use Rattle.panel.specs.Panels.{opened, moved}
@@ -67,6 +67,9 @@ refusal-reply kind TextTooLong m l = absurd (omega arith)
 refusal-reply kind OutOfRange m l = absurd (omega arith)
 refusal-reply kind FieldDriven m l = absurd (omega arith)
 refusal-reply kind BadFormula m l = absurd (omega arith)
+refusal-reply kind BadHeader m l = absurd (omega arith)
+refusal-reply kind UnclearUnit m l = absurd (omega arith)
+refusal-reply kind FlowCount m l = absurd (omega arith)
 
 bad-hex-reply : (offset : ℕ) → offset ≤ 0xFFFF → IsReply 0xFF (0xFF ∷ refusalBytes (BadHex offset))
 bad-hex-reply offset h = record { form = Form.badHex offset refl; bytes = (omega arith, (omega arith, (omega arith, (omega arith, tt)))) }

@@ -21,7 +21,7 @@ use Rattle.hex.specs.Hex.{isDigit, digitOf, charOf, areDigits, isHex, bytesOf, 
 use Rattle.lines.specs.Lines.{linesOf}
 use Rattle.frames.specs.Texts.{replies, written, output, outputOf}
 use Rattle.frames.specs.Frames.{fitsFormula, fitsKind, isFrame, checkedFrame, frameOf, commandOf, lineAnswer}
-use Rattle.items.specs.Characters.{characters}
+use Rattle.hex.specs.Characters.{characters}
 use Rattle.acceptance.specs.ShamPanels.{refusesAll, repliesZeros, keepsSetters, solvesFirstLinkOnly, inventsMoved, shamPanels, ShamPanelsDiffer}
 
 -- outputs with another character at a place

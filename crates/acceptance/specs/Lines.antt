@@ -18,7 +18,7 @@ use Rattle.lines.specs.Lines.{linesOf}
 use Rattle.tally.specs.Tallies.{noTally, tallyBytes}
 use Rattle.frames.specs.Texts.{LineAnswer, replies, tallyAfter, isTooLong}
 use Rattle.frames.specs.Frames.{frameOf, commandOf, lineAnswer, sheetAfter, panelOutput}
-use Rattle.items.specs.Characters.{characters}
+use Rattle.hex.specs.Characters.{characters}
 
 -- ---- one reply for each line
 

@@ -19,7 +19,7 @@ use Rattle.sheet.specs.Sheets.{sheetOf, unopened}
 use Rattle.fieldset.specs.Lists.{All}
 use Rattle.frames.specs.Texts.{LineAnswer, outputOf}
 use Rattle.frames.specs.Frames.{frameOf, lineAnswer, panelOutput}
-use Rattle.items.specs.Characters.{characters}
+use Rattle.hex.specs.Characters.{characters}
 
 -- ---- "Five sham panels"
 

@@ -15,7 +15,7 @@ unfolding tallyAfter
 tally-append [] ss t = refl
 tally-append (r ∷ rs) ss t = tally-append rs ss (tallied t (refusalOf r))
 
-written-append : (rs ss : List (List ℕ)) → written (rs ++ ss) ≡ written rs ++ written ss
+pub written-append : (rs ss : List (List ℕ)) → written (rs ++ ss) ≡ written rs ++ written ss
 unfolding written
 written-append [] ss = refl
 written-append (r ∷ rs) ss = ap (λ (w : List ℕ). lineOf r ++ w) (written-append rs ss) ∙ sym (append-assoc (lineOf r) (written rs) (written ss))

@@ -23,7 +23,7 @@ use Rattle.lines.specs.Lines.{linesOf}
 use Rattle.tally.specs.Tallies.{more, tallied, threeBytes, tallyBytes}
 use Rattle.frames.specs.Texts.{refusalOf, stateAfter, replies, tallyAfter, written, output, outputOf}
 use Rattle.frames.specs.Frames.{fitsFormula, fitsKind, isFrame, checkedFrame, frameOf, commandOf, lineAnswer}
-use Rattle.items.specs.Characters.{characters}
+use Rattle.hex.specs.Characters.{characters}
 use Rattle.items.specs.Items.{Hold, items, itemCount}
 use Rattle.items.specs.Further.{further}
 use Rattle.items.specs.Values.{HoldValues, worked}

@@ -1,4 +1,3 @@
-pub mod Characters
 pub mod Items
 pub mod Further
 pub mod Values

@@ -7,7 +7,7 @@ use lib.ListN.{length, take}
 use Rattle.sheet.specs.Sheets.{unopened}
 use Rattle.lines.specs.Lines.{linesOf}
 use Rattle.frames.specs.Frames.{sheetAfter}
-use Rattle.items.specs.Characters.{characters}
+use Rattle.hex.specs.Characters.{characters}
 
 pub record Valued : Type 0 where
   pub text : String

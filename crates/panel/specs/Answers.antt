@@ -6,7 +6,7 @@ use lib.Dec.{eqb}
 use lib.ListN.{getD}
 use Rattle.panel.specs.declared.Panel.{Panel}
 use Rattle.panel.specs.declared.Refusal.{Refusal}
-use Rattle.panel.specs.declared.Refusal.the-variants.{BadHex, BadFrame, AlreadyOpen, NotOpen, BadSize, BadLink, NoSuchField, LinkTaken, NoSuchLink, Conflict, Loop, TextTooLong, OutOfRange, FieldDriven, BadFormula}
+use Rattle.panel.specs.declared.Refusal.the-variants.{BadHex, BadFrame, AlreadyOpen, NotOpen, BadSize, BadLink, NoSuchField, LinkTaken, NoSuchLink, Conflict, Loop, TextTooLong, OutOfRange, FieldDriven, BadFormula, BadHeader, UnclearUnit, FlowCount}
 use Rattle.panel.specs.declared.Reply.{Reply}
 use Rattle.panel.specs.declared.Reply.the-variants.{Accepted, Refused}
 
@@ -32,6 +32,9 @@ refusalBytes TextTooLong = 12 ∷ []
 refusalBytes OutOfRange = 13 ∷ []
 refusalBytes FieldDriven = 14 ∷ []
 refusalBytes BadFormula = 15 ∷ []
+refusalBytes BadHeader = 16 ∷ []
+refusalBytes UnclearUnit = 17 ∷ []
+refusalBytes FlowCount = 18 ∷ []
 
 -- "Replies: 00 m (m the moved count); for a plan 00 n, ..; for a refusal FF and its number", with its values
 abbrev pub replyBytes : Reply → List ℕ

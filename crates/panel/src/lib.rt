@@ -44,7 +44,7 @@ pub struct Panel {
     pub setter: [u8; 64],
 }
 
-// Why a line or a text is refused.
+// Why a line, a text or a file is refused.
 pub enum Refusal {
     // the offset in the line where it is wrong
     BadHex(u16),
@@ -65,6 +65,12 @@ pub enum Refusal {
     FieldDriven,
     // a formula that does not fit its link
     BadFormula,
+    // a file that does not begin with a header
+    BadHeader,
+    // a unit of airflow but for letter case
+    UnclearUnit,
+    // no signal of airflow, or more than a panel has fields for
+    FlowCount,
 }
 
 // The reply to a command. An accepted one has a count: the fields whose setter changed, or, for a plan, the fields listed.

@@ -68,6 +68,9 @@ fn refusal_bytes(r: Refusal) -> RefusalBytes
         Refusal::OutOfRange => number_alone(13),
         Refusal::FieldDriven => number_alone(14),
         Refusal::BadFormula => number_alone(15),
+        Refusal::BadHeader => number_alone(16),
+        Refusal::UnclearUnit => number_alone(17),
+        Refusal::FlowCount => number_alone(18),
     }
 }
 

@@ -1,10 +1,9 @@
 // The program: reads a text on standard input, and writes one reply a line, then the tally.
-use libc::STDIN_FILENO;
 use libc::STDOUT_FILENO;
 use tally::Tally;
 ghost use mathlib.Core.Path.{_≡_};
 ghost use mathlib.Core.Bool.{true};
-ghost use Prim.Native.Nat.{_+_, _^_, _≤_, _<_};
+ghost use Prim.Native.Nat.{_+_, _^_, _<_};
 ghost use lib.ListN.{length};
 ghost use Rattle.frames.specs.Frames.{panelOutput};
 ghost use Rattle.run.specs.Parts.{PartOf};
@@ -63,39 +62,10 @@ fn answer(text: &[u8]) -> Output
     send(text, sent, &out[..n])
 }
 
-// What was read: how many bytes stand in the buffer, and whether that is all of it, or fills the buffer.
-struct Input {
-    len: usize,
-    whole: bool,
-}
-
-// Reads until the input ends, a read fails or the buffer is full. A failed read is not taken for the end: what follows it is not known.
-fn read_text(text: &mut [u8]) -> Input
-    ensures { λ r. ⌜ (length (now (text .exit)) ≡ length (now (text .entry))) × (r .len ≤ length (now (text .entry))) ⌝ }
-{
-    let mut len = 0;
-    while len < text.len() {
-        let got = libc::read(STDIN_FILENO, &mut text[len..]);
-        let n = io::count(got, &text[len..]);
-        if n == 0 {
-            let ended = got == 0;
-            return Input {
-                len: len,
-                whole: ended,
-            };
-        }
-        len += n;
-    }
-    Input {
-        len: len,
-        whole: true,
-    }
-}
-
 // Where a read fails nothing is written. Of a text that is too long only as much is read as shows it.
 fn main() {
     let mut text = io::large_buffer();
-    let input = read_text(&mut text);
+    let input = input::read_input(&mut text);
     if !input.whole {
         return;
     }

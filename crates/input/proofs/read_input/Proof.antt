@@ -1,20 +1,20 @@
--- `run::read_text` meets its contract. The loop's invariant: the text keeps its length, and no more is read than it holds; the measure is the room
+-- `input::read_input` meets its contract. The loop's invariant: the buffer keeps its length, and no more is read than it holds; the measure is the room
 -- that is left, and a round that reads nothing ends the loop. The needs are found by search. Assumes nothing.
 use borrow.Author.Needs.{needs}
 use mathlib.Core.Path.{_≡_}
 use Prim.Native.Nat.{_-_, _≤_}
 use lib.ListN.{length}
-use Rattle.run.proofs.read_text.Statement.{statement}
-use Rattle.run.proofs.read_text.Tie as tie
+use Rattle.input.proofs.read_input.Statement.{statement}
+use Rattle.input.proofs.read_input.Tie as tie
 
 abbrev Inv-loop : tie.InvT-loop
-Inv-loop text₀ len₀ text len = (length text ≡ length text₀) × (len ≤ length text₀)
+Inv-loop buffer₀ len₀ buffer len = (length buffer ≡ length buffer₀) × (len ≤ length buffer₀)
 
 abbrev μ-loop : tie.MeasureT-loop
-μ-loop text₀ len₀ text len = length text₀ - len
+μ-loop buffer₀ len₀ buffer len = length buffer₀ - len
 
-pub read-text-spec : {M : Type 1} → statement M
-read-text-spec =
+pub read-input-spec : {M : Type 1} → statement M
+read-input-spec =
     tie.close
     (tie.spec
     Inv-loop

@@ -1,0 +1,1 @@
+// Theorems about the import: the panel accepts every line of it. No code.
