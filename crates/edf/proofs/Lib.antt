@@ -3,3 +3,4 @@ pub mod Numbers
 pub mod Letters
 pub mod Counting
 pub mod Checks
+pub mod Behind

@@ -1,17 +1,23 @@
 // The import program: reads a file of the European Data Format on standard input, and writes the lines of a panel for its airflow signals.
 use libc::STDOUT_FILENO;
 ghost use mathlib.Core.Path.{_≡_};
+ghost use lib.ListN.{length};
 ghost use Rattle.importing.specs.Imports.{importOutput};
 
-// Passes on the output for a file, as the definition has it.
-fn send(file: &[u8], output: &[u8]) -> bool
+// Passes on the output for a file; how many bytes it has.
+fn send(file: &[u8], output: &[u8]) -> usize
     requires { ⌜ now output ≡ importOutput (now file) ⌝ }
+    ensures { λ r. ⌜ r ≡ length (now (output .entry)) ⌝ }
 {
-    io::write_all(STDOUT_FILENO, output)
+    io::write_all(STDOUT_FILENO, output);
+    output.len()
 }
 
-// Passes on the output for the start of a file that stands in the buffer.
-fn answer(file: &[u8]) -> bool {
+// Passes on the output for a file; how many bytes it has.
+// The contract rules out, for instance, a part of the output and another line in its place (must-fail: first_line_only, line_of_another_refusal).
+fn answer(file: &[u8]) -> usize
+    ensures { λ r. ⌜ r ≡ length (importOutput (now (file .entry))) ⌝ }
+{
     let mut out = [0u8; importing::LONGEST];
     let n = importing::import(file, &mut out);
     send(file, &out[..n])

@@ -2,7 +2,7 @@
 -- so two sets with the same members are equal (`ext-member`) and the other laws compare members.
 use Prim.Native.Nat.{ℕ, zero, suc, _+_, _*_, _/_, _%_, _^_, _≤_, _<_}
 use mathlib.Core.Path.{_≡_, refl, sym, ap, _∙_}
-use mathlib.Core.Bool.{Bool, true, false, not, _&&_, _||_, cond, and-false, or-true, or-false}
+use mathlib.Core.Bool.{Bool, true, false, not, _&&_, _||_, cond, and-false, and-not-self, or-true, or-false}
 use mathlib.Core.Logic.{_⊎_, inl, inr, _≢_}
 use native.Mathlib.Nat.{le-refl, not-suc-le-zero, zero-div, div-eq-of-lt, mod-one, mod-eq-of-lt, lt-of-lt-of-le, lt-of-not-le}
 use native.Mathlib.Numerals.{one-add, add-one}
@@ -311,3 +311,9 @@ within-member a b i w l e = go (member b i) refl
     go true f = refl
     go false f =
         absurd (clash w (ap not (any-here (λ j. member a j && not (member b j)) 64 i l (rw (e, f) refl))))
+
+-- one field without itself
+pub without-only : (f : ℕ) → without (only f) f ≡ 0
+without-only f =
+    empty-of-none 64 (without (only f) f) (without-lt (only f) f)
+    (λ j l. member-without (only f) f j l ∙ rw (member-only f j l) (and-not-self (eqb j f)))

@@ -2,6 +2,7 @@
 use Prim.Native.Nat.{ℕ, zero, suc, _+_, _-_, _<_}
 use mathlib.Core.Path.{_≡_, refl, sym, ap, _∙_}
 use mathlib.Core.Bool.{cond}
+use mathlib.Core.Logic.{_≢_}
 use mathlib.Core.List.{List, [], _∷_, _++_}
 use native.Mathlib.Nat.{not-suc-le-zero, add-zero, add-suc, suc-add}
 use native.Mathlib.Numerals.{add-one}
@@ -9,8 +10,8 @@ use native.Mathlib.Decide.{ℕ-discrete, decLt}
 use native.Mathlib.Omega.{arith}
 use borrow.Author.Tests.{lt-ltb, le-ltb}
 use lib.Dec.{ltb}
-use lib.ListN.{length, getD, set, drop, length-append, List·getD-append}
-use lib.Seq.{getD-at, getD-append-add, getD-drop, sets, set-at, drop-cons, append-snoc}
+use lib.ListN.{length, getD, set, drop, length-append, length-set, List·getD-append}
+use lib.Seq.{ext-getD, getD-at, getD-append-add, getD-drop, getD-set-same, getD-set-other, sets, set-at, drop-cons, append-snoc}
 use Rattle.fieldset.specs.Tables.{tabulate}
 
 module _ {ℓ} {A : Type ℓ} (f : ℕ → A) where
@@ -56,3 +57,16 @@ pub store-next : (before xs : List ℕ) (k x : ℕ) → length xs ≡ k → k < 
 store-next before xs k x e l =
     rw (add-one k, drop-cons before k 0 l)
     (set-at xs (getD before k 0) (drop (suc k) before) x k e ∙ sym (append-snoc xs x (drop (suc k) before)))
+
+-- a table with another entry is that of a function that differs there alone
+pub set-table : {A : Type 0} (d : A) (f g : ℕ → A) (n i : ℕ) (x : A) → i < n → x ≡ g i → ((j : ℕ) → j ≢ i → f j ≡ g j)
+    → set (tabulate f n) i x ≡ tabulate g n
+set-table d f g n i x l here there =
+    ext-getD d (set (tabulate f n) i x) (tabulate g n) (length-set (tabulate f n) i x ∙ length-tabulate f n ∙ sym (length-tabulate g n))
+    (λ j h.
+    let k : j < n = omega (arith, length-set (tabulate f n) i x, length-tabulate f n) in
+    go j k (ℕ-discrete j i) ∙ sym (getD-tabulate g n j d k))
+  where
+    go : (j : ℕ) → j < n → Dec (j ≡ i) → getD (set (tabulate f n) i x) j d ≡ g j
+    go j k (yes e) = rw e (getD-set-same (tabulate f n) i x d (rw (length-tabulate f n) l) ∙ here)
+    go j k (no e) = getD-set-other (tabulate f n) i j x d e ∙ getD-tabulate f n j d k ∙ there j e

@@ -1,11 +1,13 @@
 -- The answers to lines that stand one after the other: state, replies, tally and output of `ls ++ ms` are those of `ls` and then of `ms` from where
 -- `ls` leaves off. By induction on `ls`, whatever answers the lines; one line more is the case of a single one. Assumes nothing.
 use mathlib.Core.Path.{_≡_, refl, sym, ap, ap₂, _∙_}
-use mathlib.Core.List.{List, [], _∷_, _++_, append-assoc, append-nil}
+use mathlib.Core.List.{List, [], _∷_, _++_, map, append-assoc, append-nil}
 use Prim.Native.Nat.{ℕ}
 use Rattle.tally.specs.declared.Tally.{Tally}
 use Rattle.tally.specs.Tallies.{tallied, tallyBytes}
-use Rattle.hex.specs.Hex.{lineOf}
+use Rattle.hex.specs.Hex.{hexOf, lineOf}
+use Rattle.lines.specs.Lines.{linesOf}
+use Rattle.lines.proofs.Lines.{lines-none, lines-line}
 use Rattle.frames.specs.Texts.{LineAnswer, refusalOf, stateAfter, replies, tallyAfter, written, output}
 
 -- ---- replies
@@ -19,6 +21,19 @@ pub written-append : (rs ss : List (List ℕ)) → written (rs ++ ss) ≡ writte
 unfolding written
 written-append [] ss = refl
 written-append (r ∷ rs) ss = ap (λ (w : List ℕ). lineOf r ++ w) (written-append rs ss) ∙ sym (append-assoc (lineOf r) (written rs) (written ss))
+
+-- the text of replies has a line for each
+pub lines-written : (rs : List (List ℕ)) (rest : List ℕ) → linesOf (written rs ++ rest) ≡ map hexOf rs ++ linesOf rest
+unfolding written
+lines-written [] rest = refl
+lines-written (r ∷ rs) rest =
+    ap linesOf (append-assoc (lineOf r) (written rs) rest) ∙ lines-line r (written rs ++ rest)
+    ∙ ap (λ (ls : List (List ℕ)). hexOf r ∷ ls) (lines-written rs rest)
+
+pub lines-all : (rs : List (List ℕ)) → linesOf (written rs) ≡ map hexOf rs
+lines-all rs =
+    ap linesOf (sym (append-nil (written rs))) ∙ lines-written rs [] ∙ ap (λ (ls : List (List ℕ)). map hexOf rs ++ ls) lines-none
+    ∙ append-nil (map hexOf rs)
 
 -- one reply more
 pub tally-more : (rs : List (List ℕ)) (r : List ℕ) (t : Tally) → tallyAfter t (rs ++ (r ∷ [])) ≡ tallied (tallyAfter t rs) (refusalOf r)

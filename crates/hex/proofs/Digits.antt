@@ -2,14 +2,15 @@
 use mathlib.Core.Path.{_≡_, refl, sym, _∙_}
 use mathlib.Core.Bool.{Bool, true, false, _&&_, _||_, cond, true≢false}
 use mathlib.Core.List.{List, [], _∷_}
-use Prim.Native.Nat.{ℕ, zero, suc, _-_, _≤_, _<_}
+use Prim.Native.Nat.{ℕ, zero, suc, _+_, _-_, _≤_, _<_}
 use native.Mathlib.Nat.{not-suc-le-zero, le-of-suc-le-suc}
+use native.Mathlib.Decide.{decLt}
 use native.Mathlib.Omega.{arith}
-use lib.Dec.{leb}
+use lib.Dec.{leb, ltb, eqb}
 use lib.ListN.{length, getD}
-use borrow.Author.Tests.{le-leb, lt-leb, leb-true}
+use borrow.Author.Tests.{lt-ltb, le-ltb, le-leb, lt-leb, leb-true, ne-eqb}
 use Rattle.fieldset.proofs.Tests.{and-left, and-right}
-use Rattle.hex.specs.Hex.{isDigit, digitOf, areDigits}
+use Rattle.hex.specs.Hex.{isDigit, digitOf, charOf, areDigits, lf}
 use Rattle.hex.specs.Answers.{digitRead}
 
 -- what each character is
@@ -81,3 +82,37 @@ other-digits s i h e = go (areDigits s) refl where
   go : (b : Bool) → areDigits s ≡ b → b ≡ false
   go true d = absurd (true≢false (sym (digits-at s i d h) ∙ e))
   go false d = refl
+
+-- the digit of a value tells it
+module _ (x : ℕ) where
+  pub digit-char : digitOf (charOf x) ≡ x
+  unfolding digitOf charOf
+  digit-char = go (decLt x 10)
+    where
+      go : Dec (x < 10) → digitOf (charOf x) ≡ x
+      go (yes l) = rw (lt-ltb x 10 l, le-leb (x + 48) 57 (omega arith)) (omega arith)
+      go (no l) = rw (le-ltb x 10 (omega arith), lt-leb (x + 55) 57 (omega arith)) (omega arith)
+
+  -- it is a digit, and no LF
+  pub char-digit : x < 16 → isDigit (charOf x) ≡ true
+  unfolding isDigit charOf
+  char-digit h = go (decLt x 10)
+    where
+      go : Dec (x < 10) → isDigit (charOf x) ≡ true
+      go (yes l) = simp (lt-ltb x 10 l, le-leb 48 (x + 48) (omega arith), le-leb (x + 48) 57 (omega arith))
+      go (no l) =
+          simp (
+            le-ltb x 10 (omega arith),
+            le-leb 48 (x + 55) (omega arith),
+            lt-leb (x + 55) 57 (omega arith),
+            le-leb 65 (x + 55) (omega arith),
+            le-leb (x + 55) 70 (omega arith),
+          )
+
+  pub char-no-lf : eqb (charOf x) lf ≡ false
+  unfolding charOf
+  char-no-lf = go (ltb x 10)
+    where
+      go : (b : Bool) → eqb (cond b (x + 48) (x + 55)) lf ≡ false
+      go true = ne-eqb (x + 48) lf (omega arith)
+      go false = ne-eqb (x + 55) lf (omega arith)

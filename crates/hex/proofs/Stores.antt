@@ -1,12 +1,12 @@
--- Runs of stores: those past the end change nothing, so only as many count as fit; and a run with one store more. By induction on what is stored.
--- Assumes nothing.
+-- Runs of stores: those past the end change nothing, so only as many count as fit; a run with one store more; what stands at the start of a buffer. By
+-- induction on what is stored. Assumes nothing.
 use mathlib.Core.Path.{_≡_, refl, sym, ap, _∙_}
 use mathlib.Core.List.{List, [], _∷_}
 use Prim.Native.Nat.{ℕ, zero, suc, _+_, _≤_, _<_}
 use native.Mathlib.Numerals.{add-one}
 use native.Mathlib.Omega.{arith}
-use lib.ListN.{length, getD, take, set, length-take, length-set}
-use lib.Seq.{sets, set-out, take-suc}
+use lib.ListN.{length, getD, take, drop, set, length-take, length-set}
+use lib.Seq.{sets, sets-eq, set-out, take-suc, take-at, length-sets}
 use Rattle.fieldset.proofs.Tables.{sets-append}
 
 -- stores past the end change nothing
@@ -28,3 +28,11 @@ sets-more l n vs h =
     let e : n ≡ 0 + length (take n vs) = omega (arith, length-take n vs) in
     ap (λ (k : ℕ). set (sets l 0 (take n vs)) k (getD vs n 0)) e ∙ sets-append l 0 (take n vs) (getD vs n 0 ∷ [])
     ∙ ap (sets l 0) (sym (take-suc vs n 0 h)) ∙ ap (λ (k : ℕ). sets l 0 (take k vs)) (sym (add-one n))
+
+-- what fits and was stored at the start of a buffer stands there
+module _ (l after vs : List ℕ) (n : ℕ) (short : length vs ≤ length l) (put : after ≡ sets l 0 vs) (size : n ≡ length vs) where
+  pub start-fits : n ≤ length after
+  start-fits = omega (arith, ap length put, length-sets l 0 vs)
+
+  pub start-is : take n after ≡ vs
+  start-is = ap (take n) (put ∙ sets-eq vs l 0 (omega arith)) ∙ take-at vs (drop (0 + length vs) l) n (omega arith)

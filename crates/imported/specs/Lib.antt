@@ -1,1 +1,2 @@
 pub mod Imported
+pub mod Headers

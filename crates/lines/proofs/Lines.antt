@@ -2,7 +2,7 @@
 -- line is what stands before the first LF, and the other lines are those of the text behind it (`lines-on`).
 use mathlib.Core.Path.{_≡_, refl, sym, ap, ap₂, _∙_}
 use mathlib.Core.Bool.{Bool, true, false, cond}
-use mathlib.Core.List.{List, [], _∷_}
+use mathlib.Core.List.{List, [], _∷_, _++_, append-assoc}
 use Prim.Native.Nat.{ℕ, suc, _+_, _-_, _≤_, _<_}
 use native.Mathlib.Nat.{not-suc-le-zero}
 use native.Mathlib.Numerals.{add-one}
@@ -11,7 +11,8 @@ use lib.Dec.{ltb, eqb}
 use lib.ListN.{length, getD, take, drop, drop-of-length-le, length-drop}
 use lib.Seq.{drop-cons, drop-drop}
 use borrow.Author.Tests.{ltb-true, ltb-false, eq-eqb, ne-eqb}
-use Rattle.hex.specs.Hex.{lf}
+use Rattle.hex.specs.Hex.{lf, hexOf, lineOf}
+use Rattle.hex.proofs.Digits.{char-no-lf}
 use Rattle.lines.specs.Lines.{before, linesOf, lineLength, behindOf}
 
 -- ---- where a line ends
@@ -114,3 +115,15 @@ module _ (text : List ℕ) (from end : ℕ) (h : from < length text) (e : end �
 -- at the end of a text there is no further line
 pub lines-end : (text : List ℕ) (from : ℕ) → length text ≤ from → linesOf (drop from text) ≡ []
 lines-end text from h = ap linesOf (drop-of-length-le text h) ∙ lines-none
+
+-- ---- lines of bytes
+
+-- digits, an LF, and what follows
+lines-hex : (bytes rest : List ℕ) → linesOf (hexOf bytes ++ (lf ∷ rest)) ≡ hexOf bytes ∷ linesOf rest
+unfolding linesOf hexOf
+lines-hex [] rest = refl
+lines-hex (b ∷ bs) rest = simp (char-no-lf, lines-hex bs rest)
+
+pub lines-line : (bytes rest : List ℕ) → linesOf (lineOf bytes ++ rest) ≡ hexOf bytes ∷ linesOf rest
+unfolding lineOf
+lines-line bytes rest = ap linesOf (append-assoc (hexOf bytes) (lf ∷ []) rest) ∙ lines-hex bytes rest

@@ -42,12 +42,6 @@ checked-answer P p (c ∷ cs) step a h = go (c .applies) refl (λ e. checked-ans
     go true e ih = rw e (a .0)
     go false e ih = rw e (ih e)
 
--- where no check applies the step is carried out
-pub checked-step : (p : Panel) (cs : List Check) (step : Answer) → Passes cs → checked p cs step ≡ step
-unfolding checked
-checked-step p [] step n = refl
-checked-step p (c ∷ cs) step n = rw (n .0) (checked-step p cs step (n .1))
-
 -- ---- outcomes
 
 -- a refusal that R allows and that leaves the panel, or a panel and a reply, 00 and bytes, that T allows

@@ -28,6 +28,18 @@ use Rattle.panel.proofs.Answers.{replies-apart}
 
 -- ---- checks in turn
 
+-- where no check applies the step is carried out
+pub checked-step : (p : Panel) (cs : List Check) (step : Answer) → Passes cs → checked p cs step ≡ step
+unfolding checked
+checked-step p [] step n = refl
+checked-step p (c ∷ cs) step n = rw (n .0) (checked-step p cs step (n .1))
+
+-- where no check applies the reply is 00 00
+pub passes-reply : (cs : List Check) → Passes cs → checkReply cs ≡ 0x00 ∷ 0 ∷ []
+unfolding checkReply
+passes-reply [] n = refl
+passes-reply (c ∷ cs) n = rw (n .0) (passes-reply cs (n .1))
+
 -- what holds of the panel before, and of that after the step where no check applies, holds of that after the command
 pub checked-panel : (P : Panel → Type 0) (p : Panel) (cs : List Check) (step : Answer) → P p → (Passes cs → P (step .panel))
     → P (checked p cs step .panel)

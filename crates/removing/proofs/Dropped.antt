@@ -17,6 +17,7 @@ use Rattle.fieldset.specs.Numbers.{any}
 use Rattle.fieldset.specs.Tables.{at}
 use Rattle.fieldset.specs.Fields.{member, without}
 use Rattle.fieldset.proofs.Numbers.{clash, any-cong}
+use Rattle.fieldset.proofs.Fields.{without-only}
 use Rattle.panel.specs.declared.Standing.the-variants.{Holding}
 use Rattle.panel.specs.declared.Link.{Link}
 use Rattle.panel.specs.declared.Panel.{Panel}
@@ -33,7 +34,7 @@ use Rattle.panel.proofs.Reversal.{blocking}
 use Rattle.panel.proofs.Performed.{least-passes}
 use Rattle.panel.proofs.Changes.{legal-dropped}
 use Rattle.tables.specs.Tables.{Tabled}
-use Rattle.tables.proofs.Settings.{stay-others, same-setting, tabled-set}
+use Rattle.tables.proofs.Settings.{same-setting, tabled-set}
 use Rattle.tables.proofs.Tables.{strength-same}
 use Rattle.scanning.specs.declared.Blocked.{Blocked}
 use Rattle.scanning.specs.declared.Blocked.the-variants.{Nothing, Link as ALink, Stay as AStay}
@@ -130,7 +131,7 @@ module _ {p : Panel} {id v : ℕ} {levels others reads : List ℕ} (x : Held p i
       let other : setterOf (p .setter) f ≢ link id = λ e. unset f l (same ∙ e) in
       let d = setterOf (p .setter) f in
       (l, same-setting p rest f d refl same (level-kept d other) (outputs-kept d other) (reads-there (p .links) id f noLink d other)))
-      (record { level-is = rw stay-sets refl; others-are = rw stay-sets (sym (stay-others v)); reads-are = rw stay-sets refl }) (x .tabled)
+      (record { level-is = rw stay-sets refl; others-are = rw stay-sets (sym (without-only v)); reads-are = rw stay-sets refl }) (x .tabled)
 
   -- the link sets nothing and is not blocked: strengths and what is blocked are the same
   pub strength-kept : (f : ℕ) → f < 64 → strengthOf stepped f ≡ strengthOf rest f

@@ -14,7 +14,7 @@ use lib.Seq.{getD-set-same, getD-set-other}
 use Rattle.fieldset.specs.Tables.{at}
 use Rattle.fieldset.specs.Lists.{All, Distinct}
 use Rattle.fieldset.specs.Fields.{member, with, without, only, below}
-use Rattle.fieldset.proofs.Fields.{ext-member, member-only, member-below, member-with, member-with-same, member-with-other, member-without-other, only-lt, with-lt}
+use Rattle.fieldset.proofs.Fields.{ext-member, member-only, member-below, member-with, member-with-same, member-with-other, member-without-other, only-lt, with-lt, without-only}
 use Rattle.strength.specs.Filling.{Within}
 use Rattle.ordering.specs.Walks.{Among}
 use Rattle.ordering.proofs.Sets.{or-cases, without-cases}
@@ -22,7 +22,6 @@ use Rattle.panel.specs.declared.Link.{Link}
 use Rattle.panel.specs.Items.{Item, link, stay, linkAt, outputsOf, readsOf}
 use Rattle.panel.proofs.Reversed.{put, put-here, put-there, reversedSetters}
 use Rattle.panel.proofs.Reversal.{Leads, leads-put}
-use Rattle.tables.proofs.Settings.{stay-others}
 use Rattle.reversal.specs.Reversals.{reversedReads}
 
 -- the covered fields of an item
@@ -50,8 +49,8 @@ pub cover-stay : (links : List Link) (g v : ℕ) → v < 64 → member (only g) 
 cover-stay links g v l e =
     let same : v ≡ g = eqb-true v g (sym (member-only g v l) ∙ e) in
     rw same (record {
-      drops = stay-others g;
-      adds = ap (λ (x : ℕ). with x g) (sym (stay-others g)) ∙ with-without (only g) g (only-lt g) (rw same at l) (rw same at e);
+      drops = without-only g;
+      adds = ap (λ (x : ℕ). with x g) (sym (without-only g)) ∙ with-without (only g) g (only-lt g) (rw same at l) (rw same at e);
     })
 
 -- ---- the reversal of a path, over setters as a function

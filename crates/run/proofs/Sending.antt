@@ -8,11 +8,12 @@ use Prim.Native.Nat.{ℕ, _+_, _*_, _≤_}
 use native.Mathlib.Omega.{arith}
 use borrow.Author.Tests.{ltb-false}
 use lib.ListN.{length, take, drop, length-append, length-take}
-use lib.Seq.{sets, sets-eq, length-sets, length-take-le, take-at, drop-at, drop-drop}
+use lib.Seq.{sets, length-sets, length-take-le, take-at, drop-at, drop-drop}
 use Rattle.panel.specs.declared.Refusal.the-variants.{TextTooLong}
 use Rattle.panel.specs.Answers.{refusalBytes}
 use Rattle.hex.specs.Hex.{lineOf}
 use Rattle.hex.proofs.Bytes.{length-line}
+use Rattle.hex.proofs.Stores.{start-fits, start-is}
 use Rattle.lines.specs.Lines.{linesOf}
 use Rattle.lines.proofs.Lines.{lines-end}
 use Rattle.tally.specs.declared.Tally.{Tally}
@@ -35,14 +36,12 @@ part-of whole sent part rest e = sym (ap (take (length part)) e ∙ take-at part
 module _ (out after line : List ℕ) (n : ℕ) (full : length out ≡ bufferLength) (short : length line ≤ bufferLength) (put : after ≡ sets out 0 line)
     (size : n ≡ 0 + length line) where
   pub put-fits : n ≤ length after
-  put-fits = omega (arith, ap length put, length-sets out 0 line)
-
-  put-line : take n after ≡ line
-  put-line = ap (take n) (put ∙ sets-eq line out 0 (omega arith)) ∙ take-at line (drop (0 + length line) out) n (omega arith)
+  put-fits = start-fits out after line n (omega arith) put (omega arith)
 
   -- it is the rest of an output
   pub put-part : (whole : List ℕ) (sent : ℕ) → drop sent whole ≡ line → PartOf whole sent (take n after)
-  put-part whole sent e = part-of whole sent (take n after) [] (e ∙ sym (append-nil (take n after) ∙ put-line))
+  put-part whole sent e =
+      part-of whole sent (take n after) [] (e ∙ sym (append-nil (take n after) ∙ start-is out after line n (omega arith) put (omega arith)))
 
 pub from-zero : (m n : ℕ) → m ≡ n → m ≡ 0 + n
 from-zero m n e = omega arith

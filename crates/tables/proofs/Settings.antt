@@ -14,7 +14,7 @@ use lib.ListN.{set, length-set}
 use lib.Seq.{getD-set-same, getD-set-other}
 use Rattle.fieldset.specs.Tables.{at}
 use Rattle.fieldset.specs.Fields.{only, without}
-use Rattle.fieldset.proofs.Fields.{empty-of-none, without-lt, member-without, member-only}
+use Rattle.fieldset.proofs.Fields.{without-only}
 use Rattle.panel.specs.declared.Link.{Link}
 use Rattle.panel.specs.declared.Panel.{Panel}
 use Rattle.panel.specs.Items.{Item, link, linkAt, setterOf, levelOf, outputsOf, readsOf, itemOf}
@@ -22,12 +22,6 @@ use Rattle.panel.specs.Legal.{Legal}
 use Rattle.panel.proofs.Reversed.{setter-link, setter-stay}
 use Rattle.tables.specs.declared.Entry.{Entry}
 use Rattle.tables.specs.Tables.{EntryOf, Setting, TabledTo, Tabled, Places, levelWith}
-
--- a stay has no other output
-pub stay-others : (f : ℕ) → without (only f) f ≡ 0
-stay-others f =
-    empty-of-none 64 (without (only f) f) (without-lt (only f) f)
-    (λ j l. member-without (only f) f j l ∙ rw (member-only f j l) (and-not-self (eqb j f)))
 
 -- every stay's place is below 64
 pub places : (p : Panel) → Legal p → Places (p .place)
@@ -58,7 +52,7 @@ entry-setting p f c l place e ec el ep is =
 
     others : (b : Bool) → ltb c 128 ≡ b → cond b (without (linkAt (p .links) (c % 128) .outputs) f) 0 ≡ without (outputsOf (p .links) (itemOf c f)) f
     others true t = rw (t, number t)
-    others false t = rw t (sym (stay-others f))
+    others false t = rw t (sym (without-only f))
 
     reads : (b : Bool) → ltb c 128 ≡ b → cond b (without (linkAt (p .links) (c % 128) .covered) f) 0 ≡ readsOf (p .links) (itemOf c f) f
     reads true t = rw (t, number t)

@@ -1,41 +1,47 @@
+-- `edf_import::answer` meets its contract: the output fits the buffer (`output-short`), so what is passed on is all of it (`start-is`). Assumes nothing.
+use mathlib.Core.Path.{_≡_, sym, ap, _∙_}
+use mathlib.Core.List.{List}
+use Prim.Native.Nat.{ℕ, _≤_}
 use borrow.Author.Needs.{needs}
+use lib.ListN.{length, take, replicate}
+use Rattle.hex.proofs.Stores.{start-fits, start-is}
+use Rattle.importing.specs.Imports.{importOutput}
+use Rattle.importing.proofs.Flows.{output-short}
 use Rattle.edf_import.proofs.answer.Statement.{statement}
 use Rattle.edf_import.proofs.answer.Tie as tie
-use Rattle.edf_import.proofs.answer.Reads as reads
-use Rattle.edf_import.proofs.answer.Lts as lts
-use Rattle.edf_import.proofs.send.Reads as send-reads
-use Rattle.importing.proofs.import.Reads as import-reads
 
--- src/main.rt:16:37
-slice-aggregate-import : tie.Need-slice-aggregate-import
-slice-aggregate-import c = search needs
+-- ---- the place: the output is put
 
--- src/main.rt:16:9
-import-requires : tie.Need-import-requires
-import-requires c κs = search needs
+abbrev file-of : tie.After-import → List ℕ
+file-of c = c .before .before .before .args .file .now
 
--- src/main.rt:17:16
+-- the buffer before it
+abbrev zeros : List ℕ
+zeros = replicate 837 0
+
+is-output : (c : tie.After-import) → take (c .import .result) (c .import .last .1 .0) ≡ importOutput (file-of c)
+is-output c = start-is zeros _ (importOutput (file-of c)) _ (output-short (file-of c)) (c .import .ensures .0) (c .import .ensures .1)
+
+-- ---- the needs
+
 array-share-prefix-out : tie.Need-array-share-prefix-out
-array-share-prefix-out c = ?
+array-share-prefix-out c = let m = c .before in start-fits zeros _ (importOutput (file-of m)) _ (output-short (file-of m)) (m .import .ensures .0) (m .import .ensures .1)
 
--- src/main.rt:17:16
 slice-aggregate-send : tie.Need-slice-aggregate-send
-slice-aggregate-send c = ?
+slice-aggregate-send c = let m = c .before .before in m .import .ensures .1 ∙ sym (ap length (is-output m))
 
--- src/main.rt:17:5
 send-requires : tie.Need-send-requires
-send-requires c κs = ?
+send-requires c κs = is-output (c .before .before)
 
--- src/main.rt:14:1
 returns : tie.Need-returns
-returns c = search needs
+returns c = c .send .ensures ∙ ap length (is-output (c .before .before .before))
 
 pub answer-spec : {M : Type 1} → statement M
 answer-spec =
     tie.close
     (tie.spec
-    slice-aggregate-import
-    import-requires
+    (λ c. search needs)
+    (λ c κs. search needs)
     array-share-prefix-out
     slice-aggregate-send
     send-requires

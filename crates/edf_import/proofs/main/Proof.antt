@@ -1,53 +1,28 @@
+-- `edf_import::main` is safe: the part of the buffer that goes to `answer` is there, since no more is read than the buffer holds (`read_input`'s contract).
+-- Assumes nothing.
+use mathlib.Core.Path.{sym}
+use native.Mathlib.Omega.{arith}
+use lib.Seq.{length-take-le}
 use borrow.Author.Needs.{needs}
 use Rattle.edf_import.proofs.main.Statement.{statement}
 use Rattle.edf_import.proofs.main.Tie as tie
-use Rattle.edf_import.proofs.main.Reads as reads
-use Rattle.edf_import.proofs.main.Lts as lts
-use Rattle.edf_import.proofs.answer.Reads as answer-reads
-use Rattle.input.proofs.read_input.Reads as read-input-reads
-use Rattle.io.proofs.large_buffer.Reads as large-buffer-reads
 
--- src/main.rt:22:20
-large-buffer-requires : tie.Need-large-buffer-requires
-large-buffer-requires c κs = search needs
+-- the input is read
+abbrev input : tie.After-file3 → tie.After-read-input
+input c = c .before .before .before .before
 
--- src/main.rt:23:35
-slice-aggregate-read-input : tie.Need-slice-aggregate-read-input
-slice-aggregate-read-input c = search needs
-
--- src/main.rt:23:9
-read-input-requires : tie.Need-read-input-requires
-read-input-requires c κs = search needs
-
--- src/main.rt:25:9
-returns : tie.Need-returns
-returns c = search needs
-
--- src/main.rt:28:12
-array-share-prefix-file : tie.Need-array-share-prefix-file
-array-share-prefix-file c = search needs
-
--- src/main.rt:28:12
 slice-aggregate-answer : tie.Need-slice-aggregate-answer
-slice-aggregate-answer c = ?
-
--- src/main.rt:28:5
-answer-requires : tie.Need-answer-requires
-answer-requires c κs = search needs
-
--- src/main.rt:21:1
-returns-2 : tie.Need-returns-2
-returns-2 c = search needs
+slice-aggregate-answer c = let r = input c .read-input .ensures in sym (length-take-le _ _ (omega (arith, r .0, r .1)))
 
 pub main-spec : {M : Type 1} → statement M
 main-spec =
     tie.close
     (tie.spec
-    large-buffer-requires
-    slice-aggregate-read-input
-    read-input-requires
-    returns
-    array-share-prefix-file
+    (λ c κs. search needs)
+    (λ c. search needs)
+    (λ c κs. search needs)
+    (λ c. search needs)
+    (λ c. search needs)
     slice-aggregate-answer
-    answer-requires
-    returns-2)
+    (λ c κs. search needs)
+    (λ c. search needs))
