@@ -290,6 +290,16 @@ fn failed_read_is_not_answered() {
     assert_eq!(PANEL.run_on_file("/"), b"");
 }
 
+/// The same where the read fails after a part of the text was there.
+#[test]
+fn failed_read_behind_lines_is_not_answered() {
+    let text = one_run().text;
+    for length in [1, 5, text.len()] {
+        let output = PANEL.run_before_a_failed_read(&text[..length]);
+        check_output("failed read", &output, b"");
+    }
+}
+
 /// What is read of the output before it is closed is right, and the program
 /// ends (this comes back), whether the signal of a closed pipe ends it or it
 /// gets an error from each write.

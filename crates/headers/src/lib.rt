@@ -1,0 +1,1 @@
+// Worked headers, held to the definition of the import. No code.
