@@ -234,6 +234,7 @@ fn signals(file: &[u8]) -> Number
 }
 
 // How many signals of a file are airflow, or why it is refused.
+// The contract rules out, for instance, a 33rd flow and a unit with a space before it (must-fail: flow_33_taken, leading_spaces_dropped).
 pub fn read_header(file: &[u8]) -> Header
     ensures { λ r. ⌜ headerBytes r ≡ headerRead (refusalFor (now (file .entry))) (flowsOf (now (file .entry))) ⌝ }
 {

@@ -14,7 +14,8 @@ fn send(file: &[u8], output: &[u8]) -> usize
 }
 
 // Passes on the output for a file; how many bytes it has.
-// The contract rules out, for instance, a part of the output and another line in its place (must-fail: first_line_only, line_of_another_refusal).
+// The contract rules out, for instance, a part of the output and a buffer that the longest one does not fit (must-fail: first_line_only,
+// buffer_one_byte_short).
 fn answer(file: &[u8]) -> usize
     ensures { λ r. ⌜ r ≡ length (importOutput (now (file .entry))) ⌝ }
 {

@@ -12,4 +12,4 @@ use Rattle.headers.specs.Worked.{filled, each, same, header, HoldHeaders
 pub headers-hold : HoldHeaders headers
 unfolding characters headers header same each filled importOutput flowFrames refusalFor hasUnclear isBadHeader flowsOf unitText countText lengthText isUnclear
     lower isFlow isText isPlain numberFrom digitsOf isDecimal areSpaces written lineOf hexOf charOf count any
-headers-hold = (refl, (refl, (refl, (refl, (refl, (refl, (refl, (refl, (refl, (refl, (refl, (refl, (refl, (refl, (refl, (refl, (refl, (refl, (refl, (refl, (refl, (refl, (refl, (refl, (refl, (refl, (refl, (refl, tt))))))))))))))))))))))))))))
+headers-hold = (refl, (refl, (refl, (refl, (refl, (refl, (refl, (refl, (refl, (refl, (refl, (refl, (refl, (refl, (refl, (refl, (refl, (refl, (refl, (refl, (refl, (refl, (refl, (refl, (refl, (refl, (refl, tt)))))))))))))))))))))))))))

@@ -77,7 +77,6 @@ headers =
     ∷ headed (header "512.0" "1" ("L/min" ∷ [])) "FF10\n"
     -- "from 1 to 254"
     ∷ headed (header "256" "0" []) "FF10\n"
-    ∷ headed (header "65536" "255" (replicate 255 "L/min")) "FF10\n"
     -- "header length not the plain number 256 × (count + 1)"
     ∷ headed (header "513" "1" ("L/min" ∷ [])) "FF10\n"
     ∷ headed (header "256" "1" ("L/min" ∷ [])) "FF10\n"
