@@ -7,7 +7,6 @@ use mathlib.Core.List.{List, [], _∷_, _++_, map}
 use mathlib.Core.Logic.{_≢_, ⊎-elim}
 use native.Mathlib.Decide.{decLt}
 use native.Mathlib.Omega.{arith}
-use borrow.Author.Tests.{lt-ltb, le-ltb, le-leb, lt-leb}
 use lib.ListN.{length}
 use Rattle.fieldset.specs.Tables.{at}
 use Rattle.fieldset.specs.Lists.{All}
@@ -20,7 +19,8 @@ use Rattle.sheet.specs.Sheets.{unopened}
 use Rattle.sheet.specs.Commands.{solving, performed}
 use Rattle.exactness.specs.Values.{EnteredExactly}
 use Rattle.exactness.specs.Lists.{sheets, start}
-use Rattle.hex.specs.Hex.{digitOf, charOf, bytesOf, hexOf}
+use Rattle.hex.specs.Hex.{charOf, bytesOf, hexOf}
+use Rattle.hex.proofs.Bytes.{bytes-hex}
 use Rattle.lines.specs.Lines.{linesOf}
 use Rattle.tally.specs.Tallies.{noTally, tallyBytes}
 use Rattle.frames.specs.Texts.{LineAnswer, stateAfter, replies, tallyAfter, isTooLong}

@@ -1,7 +1,7 @@
 -- The lines of the output: one reply for each line, then the tally. The output splits into lines where they were written (`lines-written`). Assumes
 -- nothing.
 use mathlib.Core.Path.{_≡_, refl, sym, ap, _∙_}
-use mathlib.Core.Bool.{true, false}
+use mathlib.Core.Bool.{false}
 use mathlib.Core.List.{List, [], _∷_, _++_, map, append-nil}
 use Prim.Native.Nat.{ℕ, suc}
 use native.Mathlib.Omega.{arith}

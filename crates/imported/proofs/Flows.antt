@@ -10,7 +10,7 @@ use native.Mathlib.Omega.{arith}
 use borrow.Author.Tests.{lt-ltb, le-ltb, eq-eqb, ne-eqb, eqb-true}
 use lib.Dec.{eqb, ltb}
 use lib.ListN.{length}
-use Rattle.fieldset.specs.Tables.{at, tabulate}
+use Rattle.fieldset.specs.Tables.{at}
 use Rattle.fieldset.specs.Fields.{member, only, without, size}
 use Rattle.fieldset.proofs.Tests.{and-left, and-right}
 use Rattle.fieldset.proofs.Numbers.{clash, ltb-suc}

@@ -1,10 +1,9 @@
 -- A header's texts, exactly: by induction on the text. The bytes behind a header: the output goes by the refusal and the flows, and these by the header
 -- (`behind-refusal`, `behind-flows`); a count over 254 is bad, however long the file is. Assumes nothing.
 use mathlib.Core.Path.{_≡_, refl, sym, ap, ap₂, subst, _∙_}
-use mathlib.Core.Bool.{Bool, true, false, _&&_, cond}
+use mathlib.Core.Bool.{Bool, true, false, cond}
 use mathlib.Core.List.{List, [], _∷_, _++_}
-use mathlib.Core.Logic.{_≢_}
-use mathlib.Core.Option.{Option, none, some}
+use mathlib.Core.Option.{Option, some}
 use Prim.Native.Nat.{ℕ, zero, suc, _+_, _≤_, _<_}
 use native.Mathlib.Decide.{decLe}
 use native.Mathlib.Omega.{arith}
@@ -16,9 +15,9 @@ use Rattle.fieldset.specs.Lists.{All}
 use Rattle.fieldset.proofs.Tests.{and-left, and-right, and-both}
 use Rattle.fieldset.proofs.Numbers.{clash}
 use Rattle.panel.specs.declared.Refusal.{Refusal}
-use Rattle.panel.specs.declared.Refusal.the-variants.{BadHeader, UnclearUnit, FlowCount}
+use Rattle.panel.specs.declared.Refusal.the-variants.{BadHeader}
 use Rattle.edf.specs.Texts.{areSpaces, isDecimal, digitsOf, numberFrom, isPlain, numberOf, isText}
-use Rattle.edf.specs.Header.{countOf, headerLength, flowsOf, isBadHeader, hasUnclear, isBadCount, refusalFor}
+use Rattle.edf.specs.Header.{countOf, headerLength, flowsOf, isBadHeader, refusalFor}
 use Rattle.edf.proofs.Checks.{too-many, no-header, header-fits}
 use Rattle.edf.proofs.Behind.{count-behind, behind-flows, behind-refusal}
 use Rattle.importing.specs.Imports.{linesFor, importOutput}

@@ -7,7 +7,7 @@ use mathlib.Core.List.{List, [], _∷_, _++_, append-nil}
 use Prim.Native.Nat.{ℕ, _+_, _*_, _≤_}
 use native.Mathlib.Omega.{arith}
 use borrow.Author.Tests.{ltb-false}
-use lib.ListN.{length, take, drop, length-append, length-take}
+use lib.ListN.{length, take, drop, length-append}
 use lib.Seq.{sets, length-sets, length-take-le, take-at, drop-at, drop-drop}
 use Rattle.panel.specs.declared.Refusal.the-variants.{TextTooLong}
 use Rattle.panel.specs.Answers.{refusalBytes}
@@ -21,7 +21,6 @@ use Rattle.tally.specs.Tallies.{noTally, threeBytes, tallyBytes}
 use Rattle.frames.specs.Texts.{LineAnswer, replies, tallyAfter, written, output, textLimit, isTooLong, outputOf}
 use Rattle.replies.specs.Replies.{longest}
 use Rattle.answering.specs.Runs.{Reached, Ran, Resumed}
-use Rattle.text.specs.Outcomes.{tallyLength}
 use Rattle.run.specs.Parts.{PartOf}
 
 -- the length of io's large buffer

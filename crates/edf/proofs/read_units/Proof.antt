@@ -1,13 +1,12 @@
 -- `edf::read_units` meets its contract. The loop's invariant is `Counted`: the flows and the unclear units of the signals before `j`; the measure is how
 -- many signals are left. Each unit stands within the header. Assumes nothing.
-use mathlib.Core.Path.{_≡_, refl, sym, ap, _∙_}
+use mathlib.Core.Path.{_≡_, ap}
 use mathlib.Core.Logic.{⊎-elim}
 use mathlib.Core.List.{List}
-use Prim.Native.Nat.{ℕ, _+_, _-_, _*_, _≤_, _<_}
+use Prim.Native.Nat.{ℕ, _+_, _-_, _*_, _≤_}
 use native.Mathlib.Omega.{arith}
 use borrow.Author.Needs.{needs}
 use lib.ListN.{length, take, drop, length-take, length-drop}
-use lib.Seq.{length-take-le}
 use Rattle.edf.specs.Header.{unitText}
 use Rattle.edf.specs.declared.Unit.the-variants.{Flow, Unclear, Other}
 use Rattle.edf.proofs.Counting.{Counted, counted-none, counted-more, counted-all}

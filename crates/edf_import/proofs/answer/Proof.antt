@@ -1,7 +1,7 @@
 -- `edf_import::answer` meets its contract: the output fits the buffer (`output-short`), so what is passed on is all of it (`start-is`). Assumes nothing.
 use mathlib.Core.Path.{_≡_, sym, ap, _∙_}
 use mathlib.Core.List.{List}
-use Prim.Native.Nat.{ℕ, _≤_}
+use Prim.Native.Nat.{ℕ}
 use borrow.Author.Needs.{needs}
 use lib.ListN.{length, take, replicate}
 use Rattle.hex.proofs.Stores.{start-fits, start-is}

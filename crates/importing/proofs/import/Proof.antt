@@ -7,7 +7,6 @@ use native.Mathlib.Omega.{arith}
 use borrow.Author.Needs.{needs}
 use lib.ListN.{length}
 use lib.Seq.{sets}
-use Rattle.panel.specs.declared.Refusal.{Refusal}
 use Rattle.panel.specs.Answers.{refusalBytes}
 use Rattle.panel.proofs.Answers.{refusal-length}
 use Rattle.hex.proofs.Bytes.{length-line}
