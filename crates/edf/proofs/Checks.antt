@@ -9,8 +9,9 @@ use Prim.Native.Nat.{ℕ, zero, suc, _+_, _*_, _≤_, _<_}
 use native.Mathlib.Omega.{arith}
 use lib.Dec.{leb, ltb, eqb, eqb·suc-zero}
 use lib.ListN.{length, drop}
-use borrow.Author.Tests.{lt-ltb, le-ltb, le-leb, lt-leb, eq-eqb, ne-eqb, ltb-false}
+use borrow.Author.Tests.{leb-true, not-false, lt-ltb, le-ltb, le-leb, lt-leb, eq-eqb, ne-eqb, ltb-false}
 use Rattle.edf.specs.Texts.{isPlain, numberOf}
+use Rattle.fieldset.proofs.Tests.{and-left, and-right}
 use Rattle.panel.specs.declared.Refusal.{Refusal}
 use Rattle.panel.specs.declared.Refusal.the-variants.{BadHeader, UnclearUnit, FlowCount}
 use Rattle.panel.specs.Answers.{refusalBytes}
@@ -45,6 +46,11 @@ pub no-number : (s : List ℕ) (m : ℕ) → [] ≡ numberRead s → false ≡ (
 no-number s m e = rw (other-read s e) refl
 
 -- ---- BadHeader
+
+-- neither of two
+or-none : (a b : Bool) → (a || b) ≡ false → (a ≡ false) × (b ≡ false)
+or-none false b e = (refl, e)
+or-none true b e = absurd (true≢false e)
 
 -- some check applies
 bad : (file : List ℕ) → isBadHeader file ≡ true → [] ≡ signalsRead file
@@ -86,11 +92,45 @@ module _ (file : List ℕ) where
       bad file (rw e (or-true (short || not (isPlain (countText file) && leb 1 (countOf file) && leb (countOf file) 254))))
 
   -- no check applies
-  pub all-right : headerLength (countOf file) ≤ length file → isPlain (countText file) ≡ true → 1 ≤ countOf file → countOf file ≤ 254
-      → (isPlain (lengthText file) && eqb (numberOf (lengthText file)) (256 * (countOf file + 1))) ≡ true → countOf file ∷ [] ≡ signalsRead file
-  unfolding isBadHeader signalsRead
-  all-right h p l u e =
-      rw (le-ltb (length file) (headerLength (countOf file)) h, p, le-leb 1 (countOf file) l, le-leb (countOf file) 254 u, e) refl
+  pub record Right : Type 0 where
+    pub long : headerLength (countOf file) ≤ length file
+    pub plain : isPlain (countText file) ≡ true
+    pub some-signal : 1 ≤ countOf file
+    pub few-signals : countOf file ≤ 254
+    pub bytes : (isPlain (lengthText file) && eqb (numberOf (lengthText file)) (256 * (countOf file + 1))) ≡ true
+
+  pub right-header : Right → isBadHeader file ≡ false
+  unfolding isBadHeader
+  right-header r =
+      rw (
+        le-ltb (length file) (headerLength (countOf file)) (r .long),
+        r .plain,
+        le-leb 1 (countOf file) (r .some-signal),
+        le-leb (countOf file) 254 (r .few-signals),
+        r .bytes,
+      )
+      refl
+
+  pub header-right : isBadHeader file ≡ false → Right
+  unfolding isBadHeader
+  header-right e =
+      let counted : Bool = isPlain (countText file) && leb 1 (countOf file) && leb (countOf file) 254 in
+      let whole : Bool = isPlain (lengthText file) && eqb (numberOf (lengthText file)) (256 * (countOf file + 1)) in
+      let (first, third) = or-none (short || not counted) (not whole) e in
+      let (one, two) = or-none short (not counted) first in
+      let both = not-false counted two in
+      let plain-some = and-left (isPlain (countText file) && leb 1 (countOf file)) (leb (countOf file) 254) both in
+      record {
+        long = ltb-false (length file) (headerLength (countOf file)) one;
+        plain = and-left (isPlain (countText file)) (leb 1 (countOf file)) plain-some;
+        some-signal = leb-true 1 (countOf file) (and-right (isPlain (countText file)) (leb 1 (countOf file)) plain-some);
+        few-signals = leb-true (countOf file) 254 (and-right (isPlain (countText file) && leb 1 (countOf file)) (leb (countOf file) 254) both);
+        bytes = not-false whole third;
+      }
+
+  pub all-right : Right → countOf file ∷ [] ≡ signalsRead file
+  unfolding signalsRead
+  all-right r = rw (right-header r) refl
 
   -- what the number of signals says
   pub no-header : [] ≡ signalsRead file → isBadHeader file ≡ true
@@ -106,15 +146,6 @@ module _ (file : List ℕ) where
     go : (b : Bool) → n ∷ [] ≡ cond b [] (countOf file ∷ []) → (b ≡ false) × (n ≡ countOf file)
     go true h = let z : _≡_ {A = ℕ} 0 1 = cc in absurd (omega arith)
     go false h = (refl, cc)
-
-  -- a header is not longer than its file
-  pub header-fits : isBadHeader file ≡ false → headerLength (countOf file) ≤ length file
-  unfolding isBadHeader
-  header-fits e = go short refl e where
-    go : (b : Bool) → short ≡ b → (b || not (isPlain (countText file) && leb 1 (countOf file) && leb (countOf file) 254) || other) ≡ false
-        → headerLength (countOf file) ≤ length file
-    go true t h = let z : _≡_ {A = ℕ} 0 1 = cc in absurd (omega arith)
-    go false t h = ltb-false (length file) (headerLength (countOf file)) t
 
   -- ---- what a header gives
 
@@ -145,16 +176,23 @@ module _ (file : List ℕ) where
       unfolding refusalFor
       some-flows h l = rw (good, clear, sym flows, ne-eqb k 0 h, le-ltb 32 k l) refl
 
-  -- a file that is not refused has 1 to 32 flows
-  pub flow-count : refusalFor file ≡ none → (1 ≤ flowsOf file) × (flowsOf file ≤ 32)
+  -- a file that is not refused passes every check
+  pub passes-all : refusalFor file ≡ none → (isBadHeader file ≡ false) × (hasUnclear file ≡ false) × (isBadCount (flowsOf file) ≡ false)
   unfolding refusalFor
-  flow-count h = counted (flowsOf file) (passed (isBadHeader file) (hasUnclear file) (isBadCount (flowsOf file)) h) where
-    passed : (a b c : Bool) → cond a (some BadHeader) (cond b (some UnclearUnit) (cond c (some FlowCount) none)) ≡ none → c ≡ false
-    passed true b c e = let z : _≡_ {A = ℕ} 0 1 = cc in absurd (omega arith)
-    passed false true c e = let z : _≡_ {A = ℕ} 0 1 = cc in absurd (omega arith)
-    passed false false true e = let z : _≡_ {A = ℕ} 0 1 = cc in absurd (omega arith)
-    passed false false false e = refl
+  passes-all h = go (isBadHeader file) (hasUnclear file) (isBadCount (flowsOf file)) h where
+    go : (a b c : Bool) → cond a (some BadHeader) (cond b (some UnclearUnit) (cond c (some FlowCount) none)) ≡ none → (a ≡ false) × (b ≡ false) × (c ≡ false)
+    go true b c e = let z : _≡_ {A = ℕ} 0 1 = cc in absurd (omega arith)
+    go false true c e = let z : _≡_ {A = ℕ} 0 1 = cc in absurd (omega arith)
+    go false false true e = let z : _≡_ {A = ℕ} 0 1 = cc in absurd (omega arith)
+    go false false false e = (refl, refl, refl)
 
+  pub all-passed : isBadHeader file ≡ false → hasUnclear file ≡ false → 1 ≤ flowsOf file → flowsOf file ≤ 32 → refusalFor file ≡ none
+  unfolding refusalFor
+  all-passed a b l u = rw (a, b, ne-eqb (flowsOf file) 0 (λ e. omega arith), le-ltb 32 (flowsOf file) u) refl
+
+  -- it has 1 to 32 flows
+  pub flow-count : refusalFor file ≡ none → (1 ≤ flowsOf file) × (flowsOf file ≤ 32)
+  flow-count h = counted (flowsOf file) (passes-all h .2) where
     counted : (k : ℕ) → isBadCount k ≡ false → (1 ≤ k) × (k ≤ 32)
     counted zero e = absurd (true≢false e)
     counted (suc k) e = (omega arith, ltb-false 32 (suc k) (rw (eqb·suc-zero k) at e))

@@ -35,16 +35,50 @@ header bytes signals units =
 
 -- ---- worked ones
 
+-- a file, and the lines of its output
 pub record Headed : Type 0 where
   pub file : List ℕ
-  pub output : String
+  pub lines : List String
 
-abbrev pub headed : List ℕ → String → Headed
-headed f o = record { file = f; output = o }
+abbrev pub headed : List ℕ → List String → Headed
+headed f ls = record { file = f; lines = ls }
+
+-- "every line written from here on ends in LF"
+unfoldable pub textOf : List String → List ℕ
+textOf [] = []
+textOf (l ∷ ls) = characters l ++ characters "\n" ++ textOf ls
 
 -- the definitions give each file its output
 abbrev pub HoldHeaders : List Headed → Type 0
-HoldHeaders = All (λ h. importOutput (h .file) ≡ characters (h .output))
+HoldHeaders = All (λ h. importOutput (h .file) ≡ textOf (h .lines))
+
+-- the output for one flow, and a refusal's
+abbrev pub oneFlow : List String
+oneFlow = "0102" ∷ "0200008081" ∷ "0800010001003C" ∷ []
+
+abbrev pub refused : String → List String
+refused line = line ∷ []
+
+-- the output for 32 flows
+unfoldable pub flows32 : List String
+flows32 =
+    "0140"
+    ∷ "0200008081" ∷ "0800010001003C" ∷ "0201008283" ∷ "0801010001003C"
+    ∷ "0202008485" ∷ "0802010001003C" ∷ "0203008687" ∷ "0803010001003C"
+    ∷ "0204008889" ∷ "0804010001003C" ∷ "0205008A8B" ∷ "0805010001003C"
+    ∷ "0206008C8D" ∷ "0806010001003C" ∷ "0207008E8F" ∷ "0807010001003C"
+    ∷ "0208009091" ∷ "0808010001003C" ∷ "0209009293" ∷ "0809010001003C"
+    ∷ "020A009495" ∷ "080A010001003C" ∷ "020B009697" ∷ "080B010001003C"
+    ∷ "020C009899" ∷ "080C010001003C" ∷ "020D009A9B" ∷ "080D010001003C"
+    ∷ "020E009C9D" ∷ "080E010001003C" ∷ "020F009E9F" ∷ "080F010001003C"
+    ∷ "021000A0A1" ∷ "0810010001003C" ∷ "021100A2A3" ∷ "0811010001003C"
+    ∷ "021200A4A5" ∷ "0812010001003C" ∷ "021300A6A7" ∷ "0813010001003C"
+    ∷ "021400A8A9" ∷ "0814010001003C" ∷ "021500AAAB" ∷ "0815010001003C"
+    ∷ "021600ACAD" ∷ "0816010001003C" ∷ "021700AEAF" ∷ "0817010001003C"
+    ∷ "021800B0B1" ∷ "0818010001003C" ∷ "021900B2B3" ∷ "0819010001003C"
+    ∷ "021A00B4B5" ∷ "081A010001003C" ∷ "021B00B6B7" ∷ "081B010001003C"
+    ∷ "021C00B8B9" ∷ "081C010001003C" ∷ "021D00BABB" ∷ "081D010001003C"
+    ∷ "021E00BCBD" ∷ "081E010001003C" ∷ "021F00BEBF" ∷ "081F010001003C" ∷ []
 
 -- a header of one signal
 abbrev pub one : String → List ℕ
@@ -53,39 +87,44 @@ one unit = header "512" "1" (unit ∷ [])
 unfoldable pub headers : List Headed
 headers =
     -- "whose physical dimension, trailing spaces dropped, is L/min or L/s": "the opening, then .. the add and the ratio"
-    headed (one "L/min") "0102\n0200008081\n0800010001003C\n"
-    ∷ headed (one "L/s") "0102\n0200008081\n0800010001003C\n"
+    headed (one "L/min") oneFlow
+    ∷ headed (one "L/s") oneFlow
     -- "i from 0, counting only these"
-    ∷ headed (header "1280" "4" ("uV" ∷ "L/s" ∷ "%" ∷ "L/min" ∷ [])) "0104\n0200008081\n0800010001003C\n0201008283\n0801010001003C\n"
+    ∷ headed (header "1280" "4" ("uV" ∷ "L/s" ∷ "%" ∷ "L/min" ∷ [])) ("0104" ∷ "0200008081" ∷ "0800010001003C" ∷ "0201008283" ∷ "0801010001003C" ∷ [])
     -- "FlowCount (none, or more than 32)": only trailing spaces are dropped, and other units are passed over
-    ∷ headed (one "") "FF12\n"
-    ∷ headed (one " L/min") "FF12\n"
-    ∷ headed (one "L/minute") "FF12\n"
-    ∷ headed (one "mL/min") "FF12\n"
-    ∷ headed (header "8704" "33" (replicate 33 "L/s")) "FF12\n"
+    ∷ headed (one "") (refused "FF12")
+    ∷ headed (one " L/min") (refused "FF12")
+    ∷ headed (one "L/minute") (refused "FF12")
+    ∷ headed (one "mL/min") (refused "FF12")
+    ∷ headed (one "L/s\t") (refused "FF12")
+    ∷ headed (header "8448" "32" (replicate 32 "L/s")) flows32
+    ∷ headed (header "8704" "33" (replicate 33 "L/s")) (refused "FF12")
     -- "UnclearUnit (one of the two texts but for letter case)"
-    ∷ headed (one "l/min") "FF11\n"
-    ∷ headed (one "L/S") "FF11\n"
-    ∷ headed (header "768" "2" ("L/min" ∷ "L/MIN" ∷ [])) "FF11\n"
+    ∷ headed (one "l/min") (refused "FF11")
+    ∷ headed (one "L/S") (refused "FF11")
+    ∷ headed (header "768" "2" ("L/min" ∷ "L/MIN" ∷ [])) (refused "FF11")
     -- "A plain number is one or more decimal digits, then only spaces to the end of its header field"
-    ∷ headed (header "00000512" "0001" ("L/min" ∷ [])) "0102\n0200008081\n0800010001003C\n"
-    ∷ headed (header "512" " 1" ("L/min" ∷ [])) "FF10\n"
-    ∷ headed (header "512" "+1" ("L/min" ∷ [])) "FF10\n"
-    ∷ headed (header "512" "1 1" ("L/min" ∷ [])) "FF10\n"
-    ∷ headed (header "512" "" ("L/min" ∷ [])) "FF10\n"
-    ∷ headed (header " 512" "1" ("L/min" ∷ [])) "FF10\n"
-    ∷ headed (header "512.0" "1" ("L/min" ∷ [])) "FF10\n"
+    ∷ headed (header "00000512" "0001" ("L/min" ∷ [])) oneFlow
+    ∷ headed (header "2560" "9" ("L/min" ∷ replicate 8 "uV")) oneFlow
+    ∷ headed (header "2816" "0:" (replicate 10 "L/min")) (refused "FF10")
+    ∷ headed (header "2816" "1/" (replicate 10 "L/min")) (refused "FF10")
+    ∷ headed (header "512" " 1" ("L/min" ∷ [])) (refused "FF10")
+    ∷ headed (header "512" "+1" ("L/min" ∷ [])) (refused "FF10")
+    ∷ headed (header "512" "1 1" ("L/min" ∷ [])) (refused "FF10")
+    ∷ headed (header "512" "" ("L/min" ∷ [])) (refused "FF10")
+    ∷ headed (header " 512" "1" ("L/min" ∷ [])) (refused "FF10")
+    ∷ headed (header "512.0" "1" ("L/min" ∷ [])) (refused "FF10")
     -- "from 1 to 254"
-    ∷ headed (header "256" "0" []) "FF10\n"
+    ∷ headed (header "256" "0" []) (refused "FF10")
     -- "header length not the plain number 256 × (count + 1)"
-    ∷ headed (header "513" "1" ("L/min" ∷ [])) "FF10\n"
-    ∷ headed (header "256" "1" ("L/min" ∷ [])) "FF10\n"
+    ∷ headed (header "513" "1" ("L/min" ∷ [])) (refused "FF10")
+    ∷ headed (header "256" "1" ("L/min" ∷ [])) (refused "FF10")
     -- "file shorter than its header"; what stands behind it is ignored
-    ∷ headed (take 511 (one "L/min")) "FF10\n"
-    ∷ headed (take 255 (one "L/min")) "FF10\n"
-    ∷ headed [] "FF10\n"
-    ∷ headed (one "L/min" ++ characters "l/min") "0102\n0200008081\n0800010001003C\n"
+    ∷ headed (take 511 (one "L/min")) (refused "FF10")
+    ∷ headed (take 255 (one "L/min")) (refused "FF10")
+    ∷ headed [] (refused "FF10")
+    ∷ headed (one "L/min" ++ characters "l/min") oneFlow
     -- "in that order"
-    ∷ headed (header "513" "1" ("l/min" ∷ [])) "FF10\n"
-    ∷ headed (header "768" "2" ("uV" ∷ "l/s" ∷ [])) "FF11\n"
+    ∷ headed (header "513" "1" ("l/min" ∷ [])) (refused "FF10")
+    ∷ headed (header "768" "2" ("uV" ∷ "l/s" ∷ [])) (refused "FF11")
     ∷ []

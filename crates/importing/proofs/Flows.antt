@@ -42,7 +42,7 @@ unfolding written flowFrames
 flows-length zero = refl
 flows-length (suc i) = omega (arith, ap length (flows-more i), length-append (written (flowFrames i)) (flowLines i), flows-length i, flow-length i)
 
-pub frames-length : (k : ℕ) → length (written (framesFor k)) ≡ 5 + 26 * k
+frames-length : (k : ℕ) → length (written (framesFor k)) ≡ 5 + 26 * k
 unfolding written
 frames-length k = omega (arith, length-append (lineOf (openFrame k)) (written (flowFrames k)), length-line (openFrame k), flows-length k)
 

@@ -41,7 +41,7 @@ fn put_flows(out: &mut [u8], k: u8) -> usize
 
 // The output for a file, as far as it fits; the answer is how long it is.
 // The contract rules out, for instance, the ratio 60 to 1 and the field per second in the place of that per minute (must-fail: ratio_60_to_1,
-// per_second_in_the_field_per_minute).
+// field_per_second_for_per_minute).
 pub fn import(file: &[u8], out: &mut [u8]) -> usize
     ensures { λ r. ⌜ now (out .exit) ≡ sets (now (out .entry)) 0 (importOutput (now (file .entry))) ⌝ }
     ensures { λ r. ⌜ r ≡ length (importOutput (now (file .entry))) ⌝ }

@@ -4,7 +4,7 @@ ghost use mathlib.Core.Path.{_≡_};
 ghost use Prim.Native.Nat.{_≤_};
 ghost use lib.ListN.{length};
 
-// What was read: how many bytes stand in the buffer, and whether that is all of it, or fills the buffer.
+// What was read: how many bytes stand in the buffer, and whether reading ended well, at the end of the input or with the buffer full.
 pub struct Input {
     pub len: usize,
     pub whole: bool,

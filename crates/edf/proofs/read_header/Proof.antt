@@ -9,7 +9,7 @@ use Rattle.fieldset.specs.Numbers.{count, any}
 use Rattle.edf.specs.Texts.{isFlow, isUnclear}
 use Rattle.edf.specs.Header.{countOf, headerLength, unitText, flowsOf, isBadHeader, hasUnclear}
 use Rattle.edf.specs.Answers.{numberValues}
-use Rattle.edf.proofs.Checks.{no-header, some-header, header-fits, bad-header, unclear-unit, no-flow, many-flows, some-flows}
+use Rattle.edf.proofs.Checks.{no-header, some-header, header-right, bad-header, unclear-unit, no-flow, many-flows, some-flows}
 use Rattle.edf.proofs.read_header.Statement.{statement}
 use Rattle.edf.proofs.read_header.Tie as tie
 
@@ -47,7 +47,7 @@ clear c = sym (unclear-is (c .before)) ∙ c .if1 .left
 -- ---- the needs
 
 read-units-requires : tie.Need-read-units-requires
-read-units-requires c κs = let h = header c in subst (λ (n : ℕ). headerLength n ≤ length (file-of (signals c))) (sym (h .1)) (header-fits _ (h .0))
+read-units-requires c κs = let h = header c in subst (λ (n : ℕ). headerLength n ≤ length (file-of (signals c))) (sym (h .1)) (header-right _ (h .0) .long)
 
 returns : tie.Need-returns
 returns c = unclear-unit _ (good (c .before)) (sym (unclear-is (c .before)) ∙ c .if1 .taken)

@@ -61,8 +61,13 @@ returns-5 c =
     let e = r .before .before in
     let n = count-is k in
     ap (λ (x : ℕ). x ∷ []) (n .1)
-    ∙ all-right f (omega (arith, e .if4 .left, n .1)) (n .0) (omega (arith, e .before .before .if2 .left, n .1)) (omega (arith, e .before .if3 .left, n .1))
-    (sym (length-is r) ∙ c .if5 .taken)
+    ∙ all-right f (record {
+      long = omega (arith, e .if4 .left, n .1);
+      plain = n .0;
+      some-signal = omega (arith, e .before .before .if2 .left, n .1);
+      few-signals = omega (arith, e .before .if3 .left, n .1);
+      bytes = sym (length-is r) ∙ c .if5 .taken;
+    })
 
 returns-6 : tie.Need-returns-6
 returns-6 c = wrong-length _ (sym (length-is (c .before)) ∙ c .if5 .left)
