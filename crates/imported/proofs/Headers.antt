@@ -19,11 +19,11 @@ use Rattle.panel.specs.declared.Refusal.{Refusal}
 use Rattle.panel.specs.declared.Refusal.the-variants.{BadHeader}
 use Rattle.hex.specs.Characters.{characters}
 use Rattle.edf.specs.Texts.{areSpaces, isDecimal, digitsOf, numberFrom, isPlain, numberOf, isText, isEither, isFlow, lower, isUnclear}
-use Rattle.edf.specs.Header.{lengthText, countText, countOf, headerLength, unitText, flowsOf, isBadHeader, hasUnclear, isBadCount, refusalFor}
+use Rattle.edf.specs.Header.{lengthText, countText, countOf, headerLength, unitText, flowsOf, isBadHeader, hasUnclear, refusalFor}
 use Rattle.edf.proofs.Checks.{too-many, no-header, right-header, header-right, passes-all, all-passed, flow-count}
 use Rattle.edf.proofs.Behind.{count-behind, behind-flows, behind-refusal}
 use Rattle.importing.specs.Imports.{linesFor, importOutput}
-use Rattle.imported.specs.Headers.{Exactly, dropped, IsFlow, IsUnclear, UnitExactly, UnitsExactly, PlainNumber, NumbersExactly, IsHeader, HeadersExactly, Imports, ImportsExactly, BehindIgnored, StartEnough}
+use Rattle.imported.specs.Headers.{Exactly, dropped, IsFlow, IsUnclear, UnitsExactly, PlainNumber, NumbersExactly, IsHeader, HeadersExactly, Imports, ImportsExactly, BehindIgnored, StartEnough}
 
 -- ---- spaces
 
