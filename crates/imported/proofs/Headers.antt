@@ -181,7 +181,7 @@ plain-number s e =
       digits = ds;
       spaces = k;
       text = digits-first s ∙ ap (λ (x : List ℕ). ds ++ x) is;
-      some-digit = ltb-true 0 (length ds) (and-left (ltb 0 (length ds)) (areSpaces (drop (length ds) s)) e);
+      some-digit = omega (arith, ltb-true 0 (length ds) (and-left (ltb 0 (length ds)) (areSpaces (drop (length ds) s)) e));
       all-digits = all-decimal s;
       value = refl;
     }
@@ -219,7 +219,7 @@ headers-exactly file = (there, λ h. back (h .0) (h .1)) where
         record {
           count = plain-number (countText file) (r .plain);
           some-signal = r .some-signal;
-          few-signals = r .few-signals;
+          few-signals = omega (arith, r .few-signals);
           bytes = says (256 * (countOf file + 1)) (r .bytes);
           long = omega (arith, r .long);
         },
