@@ -33,7 +33,7 @@ unfoldable pub tallyAfter : Tally → List (List ℕ) → Tally
 tallyAfter t [] = t
 tallyAfter t (r ∷ rs) = tallyAfter (tallied t (refusalOf r)) rs
 
--- replies as lines
+-- replies, or frames, as lines
 unfoldable pub written : List (List ℕ) → List ℕ
 written [] = []
 written (r ∷ rs) = lineOf r ++ written rs
