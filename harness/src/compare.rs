@@ -2,6 +2,8 @@
 
 use crate::plain::run_text;
 use crate::shrink::shorten;
+use std::borrow::Borrow;
+use std::collections::BTreeMap;
 
 /// How much of a text or an output a report shows.
 const SHOWN: usize = 6_000;
@@ -57,6 +59,14 @@ fn shortest(text: &[u8], program: impl Fn(&[u8]) -> Given) -> Vec<u8> {
 pub fn check_output(name: &str, given: &[u8], expected: &[u8]) {
     if let Some(difference) = first_difference(given, expected) {
         panic!("{name}: {difference}");
+    }
+}
+
+/// Fails where a kind was met less often than is asked.
+pub fn check_met<K: Borrow<str> + Ord>(met: &BTreeMap<K, usize>, least: &[(&str, usize)]) {
+    for (kind, least) in least {
+        let met = met.get(*kind).copied().unwrap_or(0);
+        assert!(met >= *least, "{kind}: {met} of {least}");
     }
 }
 

@@ -1,7 +1,7 @@
 //! The plain importer (document 02, request 3): headers worked out by hand, files
 //! of other tools, and every header near a good one beside a judge of this file.
 
-use harness::compare::check_output;
+use harness::compare::{check_met, check_output};
 use harness::generate::header_file;
 use harness::header::{put, unit_place, Header, COUNT_PLACE, LENGTH_PLACE};
 use harness::plain::{hex, import, lines, run_text, values_after};
@@ -188,6 +188,13 @@ fn every_byte(file: &[u8], start: usize, width: usize) -> BTreeMap<&'static str,
     met
 }
 
+/// Tries every byte in every place of a field: so many of the files have one flow.
+fn check_flows(name: &str, file: &[u8], start: usize, width: usize, right: usize) {
+    let met = every_byte(file, start, width);
+    let given = met.get("one flow").copied().unwrap_or(0);
+    assert_eq!(given, right, "{name}: {met:?}");
+}
+
 /// A count of one signal with how many of the changes leave or make it right.
 /// "12  " and "0   " become it by a space and by a digit.
 #[test]
@@ -207,9 +214,7 @@ fn every_byte_of_a_count() {
         ("9999", 0),
     ] {
         let file = one.clone().count(count.as_bytes()).file();
-        let met = every_byte(&file, COUNT_PLACE, 4);
-        let given = met.get("one flow").copied().unwrap_or(0);
-        assert_eq!(given, right, "{count}: {met:?}");
+        check_flows(count, &file, COUNT_PLACE, 4, right);
     }
     let most = equal(254, "%").file();
     assert_eq!(every_byte(&most, COUNT_PLACE, 4)["no flow"], 4);
@@ -230,9 +235,7 @@ fn every_byte_of_a_length() {
         ("0000512 ", 8),
     ] {
         let file = one.clone().length(length.as_bytes()).file();
-        let met = every_byte(&file, LENGTH_PLACE, 8);
-        let given = met.get("one flow").copied().unwrap_or(0);
-        assert_eq!(given, right, "{length}: {met:?}");
+        check_flows(length, &file, LENGTH_PLACE, 8, right);
     }
 }
 
@@ -290,10 +293,7 @@ fn random_headers() {
     }
     // Shown with `cargo test -- --nocapture`.
     println!("{met:#?}");
-    for (what, least) in LEAST {
-        let met = met.get(what).copied().unwrap_or(0);
-        assert!(met >= least, "{what}: {met} of {least}");
-    }
+    check_met(&met, &LEAST);
 }
 
 /// "The panel is shown to accept every one": the plain solver does, and a value

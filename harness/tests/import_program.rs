@@ -2,7 +2,7 @@
 //! of other tools, changed and random headers beside the plain importer, and how
 //! it treats its input and output.
 
-use harness::compare::check_output;
+use harness::compare::{check_met, check_output};
 use harness::generate::header_file;
 use harness::header::{put, unit_place, Header, COUNT_PLACE, LENGTH_PLACE};
 use harness::plain::import;
@@ -172,10 +172,7 @@ fn random_headers() {
     }
     // Shown with `cargo test -- --nocapture`.
     println!("{met:#?}");
-    for (kind, least) in LEAST {
-        let met = met.get(kind).copied().unwrap_or(0);
-        assert!(met >= least, "{kind}: {met} of {least}");
-    }
+    check_met(&met, &LEAST);
 }
 
 /// The frames go to the run program as they are, "the panel is shown to accept

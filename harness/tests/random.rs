@@ -4,7 +4,7 @@
 //! The texts go up to the limit, since each costs the start of a process. About
 //! half of them are damaged.
 
-use harness::compare::compared;
+use harness::compare::{check_met, compared};
 use harness::generate::{frames, long_text, text, Mix, Rng, MIXES};
 use harness::plain::{hex, lines, values_after, TEXT_LIMIT};
 use harness::program::PANEL;
@@ -240,10 +240,7 @@ fn compare_texts(seeds: std::ops::Range<u64>) {
     println!("{counts:#?}");
     assert!(counts.by_size.iter().sum::<usize>() >= 800_000);
     assert!(counts.by_size.iter().all(|&lines| lines >= 260_000));
-    for (reply, least) in LEAST {
-        let met = counts.by_reply.get(reply).copied().unwrap_or(0);
-        assert!(met >= least, "{reply}: {met} of {least}");
-    }
+    check_met(&counts.by_reply, &LEAST);
 }
 
 /// The two halves run at the same time.

@@ -14,9 +14,10 @@ ghost use Rattle.edf.specs.Answers.{numberValues, numberRead, signalsRea
 // The width of a unit, and of the number of bytes in the header.
 const WIDTH: usize = 8;
 
-// Where the number of bytes in the header stands, and where the number of signals.
+// Where the number of bytes in the header stands.
 const LENGTH_AT: usize = 184;
 
+// Where the number of signals stands.
 const COUNT_AT: usize = 252;
 
 // The bytes of a header in front of those of the signals, and the bytes of each signal.
@@ -25,9 +26,10 @@ const BLOCK: usize = 256;
 // The bytes of each signal in front of the units of all.
 const BEFORE_UNITS: usize = 96;
 
-// The greatest number of signals, and of flows.
+// The greatest number of signals.
 const SIGNAL_LIMIT: usize = 254;
 
+// The greatest number of flows.
 const FLOW_LIMIT: usize = 32;
 
 // What a header field says: a plain number, or something else.

@@ -3,7 +3,7 @@
 use mathlib.Core.Path.{_≡_, refl, sym, ap, ap₂, subst, _∙_}
 use mathlib.Core.Bool.{Bool, true, false, not, _&&_, _||_, cond, or-true}
 use mathlib.Core.List.{List, [], _∷_, _++_, map}
-use mathlib.Core.Logic.{_⊎_, inl, inr, ⊎-elim}
+use mathlib.Core.Logic.{_⊎_, inl, inr, ⊎-elim, _↔_}
 use mathlib.Core.Option.{Option, none, some}
 use Prim.Native.Nat.{ℕ, zero, suc, _+_, _*_, _≤_, _<_}
 use native.Mathlib.Decide.{decLe}
@@ -23,7 +23,7 @@ use Rattle.edf.specs.Header.{lengthText, countText, countOf, headerLength, unit
 use Rattle.edf.proofs.Checks.{too-many, no-header, right-header, header-right, passes-all, all-passed, flow-count}
 use Rattle.edf.proofs.Behind.{count-behind, behind-flows, behind-refusal}
 use Rattle.importing.specs.Imports.{linesFor, importOutput}
-use Rattle.imported.specs.Headers.{Exactly, dropped, IsFlow, IsUnclear, UnitsExactly, PlainNumber, NumbersExactly, IsHeader, HeadersExactly, Imports, ImportsExactly, BehindIgnored, StartEnough}
+use Rattle.imported.specs.Headers.{dropped, IsFlow, IsUnclear, UnitsExactly, PlainNumber, NumbersExactly, IsHeader, HeadersExactly, Imports, ImportsExactly, BehindIgnored, StartEnough}
 
 -- ---- spaces
 
@@ -72,7 +72,7 @@ then-text [] k = spaces-behind [] k
 then-text (a ∷ t) k = rw (eq-eqb a a refl) (then-text t k)
 
 -- a text that does not end in a space
-text-exactly : (t : List ℕ) → dropped t ≡ t → (s : List ℕ) → Exactly (isText t s ≡ true) (dropped s ≡ t)
+text-exactly : (t : List ℕ) → dropped t ≡ t → (s : List ℕ) → isText t s ≡ true ↔ dropped s ≡ t
 text-exactly t whole s = (there, back) where
   there : isText t s ≡ true → dropped s ≡ t
   there e = let (k, is) = text-then t s e in ap dropped is ∙ dropped-behind t k ∙ whole
@@ -80,7 +80,7 @@ text-exactly t whole s = (there, back) where
   back : dropped s ≡ t → isText t s ≡ true
   back e = let (k, is) = dropped-then s in ap (isText t) (is ∙ ap (λ (x : List ℕ). x ++ replicate k 32) e) ∙ then-text t k
 
-either-exactly : (a b : List ℕ) → dropped a ≡ a → dropped b ≡ b → (s : List ℕ) → Exactly (isEither a b s ≡ true) ((dropped s ≡ a) ⊎ (dropped s ≡ b))
+either-exactly : (a b : List ℕ) → dropped a ≡ a → dropped b ≡ b → (s : List ℕ) → isEither a b s ≡ true ↔ ((dropped s ≡ a) ⊎ (dropped s ≡ b))
 either-exactly a b wa wb s = (go (isText a s) refl, ⊎-elim first second) where
   go : (x : Bool) → isText a s ≡ x → (x || isText b s) ≡ true → (dropped s ≡ a) ⊎ (dropped s ≡ b)
   go true e h = inl (text-exactly a wa s .0 e)
@@ -118,19 +118,19 @@ dropped-lower (c ∷ s) = rw (spaces-lower (c ∷ s), dropped-lower s) (go (areS
 
 -- ---- units
 
-flow-exactly : (s : List ℕ) → Exactly (isFlow s ≡ true) (IsFlow (dropped s))
+flow-exactly : (s : List ℕ) → isFlow s ≡ true ↔ IsFlow (dropped s)
 unfolding isFlow dropped areSpaces characters
 flow-exactly s = either-exactly (characters "L/min") (characters "L/s") refl refl s
 
 lower-exactly : (s : List ℕ) → let u = map lower (dropped s) in
-    Exactly (isEither (characters "l/min") (characters "l/s") (map lower s) ≡ true) ((u ≡ characters "l/min") ⊎ (u ≡ characters "l/s"))
+    isEither (characters "l/min") (characters "l/s") (map lower s) ≡ true ↔ ((u ≡ characters "l/min") ⊎ (u ≡ characters "l/s"))
 unfolding dropped areSpaces characters
 lower-exactly s = rw (sym (dropped-lower s)) (either-exactly (characters "l/min") (characters "l/s") refl refl (map lower s))
 
 pub units-exactly : UnitsExactly
 unfolding isUnclear
 units-exactly s = record { flow = f; unclear = (there (isFlow s) refl, back) } where
-  f : Exactly (isFlow s ≡ true) (IsFlow (dropped s))
+  f : isFlow s ≡ true ↔ IsFlow (dropped s)
   f = flow-exactly s
 
   there : (b : Bool) → isFlow s ≡ b → (not b && isEither (characters "l/min") (characters "l/s") (map lower s)) ≡ true → IsUnclear (dropped s)

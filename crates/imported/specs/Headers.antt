@@ -5,7 +5,7 @@ use Prim.Native.Char.{code}
 use mathlib.Core.Path.{_≡_}
 use mathlib.Core.Bool.{true, false, cond}
 use mathlib.Core.List.{List, [], _∷_, _++_, map}
-use mathlib.Core.Logic.{_≢_, _⊎_}
+use mathlib.Core.Logic.{_≢_, _⊎_, _↔_}
 use mathlib.Core.Option.{none, some}
 use lib.ListN.{length, take, replicate}
 use Rattle.fieldset.specs.Lists.{All}
@@ -14,10 +14,6 @@ use Rattle.hex.specs.Characters.{characters}
 use Rattle.edf.specs.Texts.{areSpaces, isDecimal, numberFrom, isPlain, numberOf, isFlow, lower, isUnclear}
 use Rattle.edf.specs.Header.{lengthText, countText, headerLength, unitText, flowsOf, isBadHeader, refusalFor}
 use Rattle.importing.specs.Imports.{importOutput}
-
--- both ways
-abbrev pub Exactly : Type 0 → Type 0 → Type 0
-Exactly A B = (A → B) × (B → A)
 
 -- ---- units
 
@@ -35,8 +31,8 @@ abbrev pub IsUnclear : List ℕ → Type 0
 IsUnclear unit = (IsFlow unit → ⊥) × ((map lower unit ≡ characters "l/min") ⊎ (map lower unit ≡ characters "l/s"))
 
 pub record UnitExactly (s : List ℕ) : Type 0 where
-  pub flow : Exactly (isFlow s ≡ true) (IsFlow (dropped s))
-  pub unclear : Exactly (isUnclear s ≡ true) (IsUnclear (dropped s))
+  pub flow : isFlow s ≡ true ↔ IsFlow (dropped s)
+  pub unclear : isUnclear s ≡ true ↔ IsUnclear (dropped s)
 
 abbrev pub UnitsExactly : Type 0
 UnitsExactly = (s : List ℕ) → UnitExactly s
@@ -53,7 +49,7 @@ pub record PlainNumber (s : List ℕ) (n : ℕ) : Type 0 where
   pub value : n ≡ numberFrom 0 digits
 
 abbrev pub NumbersExactly : Type 0
-NumbersExactly = (s : List ℕ) (n : ℕ) → Exactly ((isPlain s ≡ true) × (n ≡ numberOf s)) (PlainNumber s n)
+NumbersExactly = (s : List ℕ) (n : ℕ) → ((isPlain s ≡ true) × (n ≡ numberOf s)) ↔ PlainNumber s n
 
 -- ---- refusals
 
@@ -67,7 +63,7 @@ pub record IsHeader (file : List ℕ) (n : ℕ) : Type 0 where
   pub long : 256 * (n + 1) ≤ length file
 
 abbrev pub HeadersExactly : Type 0
-HeadersExactly = (file : List ℕ) → Exactly (isBadHeader file ≡ false) ((n : ℕ) × IsHeader file n)
+HeadersExactly = (file : List ℕ) → isBadHeader file ≡ false ↔ ((n : ℕ) × IsHeader file n)
 
 -- a file is not refused: it has a header, no unit is unclear, and 1 to 32 signals are flows
 pub record Imports (file : List ℕ) (n : ℕ) : Type 0 where
@@ -77,7 +73,7 @@ pub record Imports (file : List ℕ) (n : ℕ) : Type 0 where
   pub few-flows : flowsOf file ≤ 32
 
 abbrev pub ImportsExactly : Type 0
-ImportsExactly = (file : List ℕ) → Exactly (refusalFor file ≡ none) ((n : ℕ) × Imports file n)
+ImportsExactly = (file : List ℕ) → refusalFor file ≡ none ↔ ((n : ℕ) × Imports file n)
 
 -- ---- bytes behind the header
 
