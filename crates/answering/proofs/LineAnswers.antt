@@ -2,7 +2,7 @@
 -- command; so the step of a line, once it is taken, does what the line asks (`did`). Assumes nothing.
 use mathlib.Core.Path.{_≡_, refl, sym, ap, ap₂, subst, _∙_}
 use mathlib.Core.Bool.{Bool, true, false, cond}
-use mathlib.Core.List.{List, _∷_, append-nil}
+use mathlib.Core.List.{List, [], _∷_, append-nil}
 use Prim.Native.Nat.{ℕ, _%_}
 use native.Mathlib.Nat.{mod-eq-of-lt}
 use native.Mathlib.Omega.{arith}
@@ -32,7 +32,11 @@ use Rattle.frames.specs.Frames.{frameOf, wordOf, formulaIn, commandBytes, comma
 use Rattle.replies.specs.Replies.{wholeReply}
 use Rattle.replies.proofs.Replies.{reply-short}
 use Rattle.deciding.specs.Lines.{formulaAfter, setsFormula, LineStep}
-use Rattle.deciding.proofs.Arms.{formula-kept, given-kept, solved-step}
+use Rattle.deciding.proofs.Arms.{OneOf, not-among, formula-kept, given-kept, solved-step}
+use Rattle.removing.specs.Scans.{scanCount}
+use Rattle.frames.proofs.Command.{the-type}
+use denote.Enum.Declared.{tagOf}
+use Rattle.answering.specs.Scans.{commandScan, lineScan}
 use Rattle.answering.proofs.Going.{Did}
 
 -- what its command is answered is what a line is answered
@@ -48,6 +52,28 @@ line-answer q line k fields read = go k ∙ ap (λ (x : List ℕ). answered q x 
   go (Enter f b) = refl
   go (Relate id form) = refl
   go (Refused r) = refl
+
+-- what its command works out for a scan is what a line does: a removal's scan, and none for another command
+pub removed-scan : (q : Sheet) (line : List ℕ) (k : Command) (fields : List ℕ) → commandBytes k fields ≡ frameOf line → (id : ℕ) → k ≡ Remove id
+    → scanCount (q .panel) id ≡ lineScan q line
+unfolding lineScan commandOf
+removed-scan q line k fields read id e =
+    ap (λ (x : List ℕ). commandScan (q .panel) (commandOf x)) (sym (ap (λ (c : Command). commandBytes c fields) e) ∙ read)
+
+pub no-scan : (q : Sheet) (line : List ℕ) (k : Command) (fields : List ℕ) → commandBytes k fields ≡ frameOf line
+    → OneOf (0 ∷ 1 ∷ 3 ∷ 4 ∷ 5 ∷ 6 ∷ 7 ∷ []) (tagOf the-type k) → 0 ≡ lineScan q line
+unfolding lineScan commandOf
+no-scan q line k fields read h = go k h ∙ ap (λ (x : List ℕ). commandScan (q .panel) (commandOf x)) read
+  where
+    go : (c : Command) → OneOf (0 ∷ 1 ∷ 3 ∷ 4 ∷ 5 ∷ 6 ∷ 7 ∷ []) (tagOf the-type c) → 0 ≡ commandScan (q .panel) (commandOf (commandBytes c fields))
+    go (Open n) h = refl
+    go (Add id level) h = refl
+    go (Remove id) h = absurd (not-among 2 (0 ∷ 1 ∷ 3 ∷ 4 ∷ 5 ∷ 6 ∷ 7 ∷ []) refl h)
+    go (Touch f) h = refl
+    go Plan h = refl
+    go (Enter f b) h = refl
+    go (Relate id form) h = refl
+    go (Refused r) h = refl
 
 pub answer-legal : (q : Sheet) (k : Command) (fields : List ℕ) → LegalSheet q → LegalSheet (commandAnswer q k fields .state)
 answer-legal q (Open n) fields h = legal-sheet q h (solving (opening n))

@@ -12,9 +12,9 @@ use Rattle.frames.specs.Texts.{LineAnswer, stateAfter, replies, written, output
 use Rattle.frames.proofs.Outputs.{output-append}
 use Rattle.answering.specs.Runs.{Reached, Ran, Paced, Resumed}
 
-module _ {S : Type 0} (answer : LineAnswer S) (Legal : S → Type 0) where
+module _ {S : Type 0} (answer : LineAnswer S) (scan : S → List ℕ → ℕ) (Legal : S → Type 0) where
   pub resumed : (text : List ℕ) (from n : ℕ) (s : S) (t : Tally) (before after : List ℕ) (r : Reached S)
-      → Ran answer Legal text (linesOf (drop from text)) n s t before after r → Paced text from (length before) n r → Resumed answer text from s t before after r
+      → Ran answer scan Legal text (linesOf (drop from text)) n s t before after r → Paced text from (length before) n r → Resumed answer text from s t before after r
   resumed text from n s t before after r ran paced =
       let ls : List (List ℕ) = linesOf (drop from text) in
       let bytes : List ℕ = written (replies answer s (take n ls)) in

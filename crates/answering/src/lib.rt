@@ -28,13 +28,16 @@ ghost use Rattle.sheet.specs.Legal.{LegalSheet};
 ghost use Rattle.lines.specs.Lines.{linesOf};
 ghost use Rattle.frames.specs.Frames.{lineAnswer};
 ghost use Rattle.answering.specs.Runs.{reached, fitting, RanFrom, Paced, Resumed};
+ghost use Rattle.answering.specs.Scans.{lineScan};
 
-// Where a run over a text stands: the position of the next line, the sheet, the tally, and how many bytes were written.
+// Where a run over a text stands: the position of the next line, the sheet, the tally, how many bytes were written, and how many strengths were worked
+// out for the scan of the last line that was answered, 0 where it made none.
 pub struct Progress {
     pub next: usize,
     pub sheet: Sheet,
     pub tally: Tally,
     pub written: usize,
+    pub scanned: u8,
 }
 
 // Where a run stands, with the parts of the sheet put together.
@@ -45,8 +48,9 @@ fn progress_of(
     values: [i32; 64],
     tally: Tally,
     written: usize,
+    scanned: u8,
 ) -> Progress
-    ensures { λ r. ⌜ reached r ≡ record { next = next; state = sheetOf panel formulas values; tally = tally; written = written } ⌝ }
+    ensures { λ r. ⌜ reached r ≡ record { next = next; state = sheetOf panel formulas values; tally = tally; written = written; scanned = scanned } ⌝ }
 {
     let sheet = Sheet {
         panel: panel,
@@ -58,6 +62,7 @@ fn progress_of(
         sheet: sheet,
         tally: tally,
         written: written,
+        scanned: scanned,
     }
 }
 
@@ -73,13 +78,14 @@ pub fn answer_lines(
     room: usize,
 ) -> Progress
     requires { ⌜ LegalSheet s × (room < 2 ^ 63) ⌝ }
-    ensures { λ r. ⌜ RanFrom lineAnswer LegalSheet (now (text .entry)) at room s t (now (out .entry)) (now (out .exit)) (reached r) ⌝ }
+    ensures { λ r. ⌜ RanFrom lineAnswer lineScan LegalSheet (now (text .entry)) at room s t (now (out .entry)) (now (out .exit)) (reached r) ⌝ }
     ensures { λ r. ⌜ Paced (now (text .entry)) at room (fitting lineAnswer room s (linesOf (drop at (now (text .entry))))) (reached r) ⌝ }
 {
     let mut q = s.panel;
     let mut formulas = s.formulas;
     let mut values = s.values;
     let mut n: usize = 0;
+    let mut scanned = 0u8;
     let mut rows = [0u8; ROWS];
     let mut path = [0u8; 64];
     let mut levels = [0u8; 64];
@@ -94,8 +100,9 @@ pub fn answer_lines(
         let k = wide(frames::number_of(command));
         let old = q.links[k];
         let step = if let Command::Remove(id) = command {
-            remove(q, old, &levels, &others, &reads, id, &mut path)
+            remove(q, old, &levels, &others, &reads, id, &mut path, &mut scanned)
         } else {
+            scanned = 0;
             let step = decide_line(q, old, &levels, &others, &reads, line, &mut path, &mut rows);
             if let Command::Enter(f, b) = command {
                 let setter = setters(q, step, &path, &levels, &others, &reads, &mut after);
@@ -122,13 +129,13 @@ pub fn answer_lines(
         t = tallied_line(t, refusal_of(reply));
         at = lines::behind(text, end);
     }
-    progress_of(at, q, formulas, values, t, n)
+    progress_of(at, q, formulas, values, t, n, scanned)
 }
 
 // Goes on from a position of a text: answers whole lines while a longest reply, with its LF, still fits the buffer.
 pub fn lines_from(text: &[u8], from: usize, s: Sheet, t: Tally, out: &mut [u8]) -> Progress
     requires { ⌜ LegalSheet s ⌝ }
-    ensures { λ r. ⌜ RanFrom lineAnswer LegalSheet (now (text .entry)) from (length (now (out .entry))) s t (now (out .entry)) (now (out .exit)) (reached r) ⌝ }
+    ensures { λ r. ⌜ RanFrom lineAnswer lineScan LegalSheet (now (text .entry)) from (length (now (out .entry))) s t (now (out .entry)) (now (out .exit)) (reached r) ⌝ }
     ensures { λ r. ⌜ Resumed lineAnswer (now (text .entry)) from s t (now (out .entry)) (now (out .exit)) (reached r) ⌝ }
 {
     let room = out.len();

@@ -69,7 +69,7 @@ isAmong tag [] = false
 isAmong tag (a ∷ cs) = cond (eqb tag a) true (isAmong tag cs)
 
 -- a tag that is none of a list
-not-among : (tag : ℕ) (tags : List ℕ) → isAmong tag tags ≡ false → OneOf tags tag → ⊥
+pub not-among : (tag : ℕ) (tags : List ℕ) → isAmong tag tags ≡ false → OneOf tags tag → ⊥
 not-among tag [] e h = h
 not-among tag (a ∷ []) e h = clash (rw (eq-eqb tag a h) refl) e
 not-among tag (a ∷ b ∷ cs) e (inl h) = clash (rw (eq-eqb tag a h) refl) e

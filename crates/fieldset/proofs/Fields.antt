@@ -13,7 +13,7 @@ use lib.Dec.{eqb, ltb}
 use lib.Pow.{pow-pos, pow-mono, mod-pow-add}
 use Rattle.fieldset.specs.Numbers.{lowest}
 use Rattle.fieldset.specs.Fields.{member, setOf, with, without, union, only, below, lowestOf, filter, size, within, Within}
-use Rattle.fieldset.proofs.Numbers.{clash, ltb-suc, but, but-same, but-other, sum, sum-cong, sum-but, count-cong, count-none, count-but, count-le, count-mono, Lowest, lowest-is, lowest-before, lowest-bound, lowest-lt, lowest-true, any-here, any-none}
+use Rattle.fieldset.proofs.Numbers.{clash, ltb-suc, but, but-same, but-other, sum, sum-cong, sum-but, count-cong, count-none, count-below, count-but, count-le, count-mono, Lowest, lowest-is, lowest-before, lowest-bound, lowest-lt, lowest-true, any-here, any-none}
 
 -- ---- sets by their members
 
@@ -221,6 +221,10 @@ module _ (m : ℕ) where
 pub size-empty : size 0 ≡ 0
 unfolding size
 size-empty = count-none (member 0) 64 (λ i l. member-empty i)
+
+pub size-below : (n : ℕ) → n ≤ 64 → size (below n) ≡ n
+unfolding size
+size-below n h = count-cong (member (below n)) (λ i. ltb i n) 64 (member-below n) ∙ count-below n 64 h
 
 -- a subset is no larger
 pub size-mono : (a b : ℕ) → Within a b → size a ≤ size b

@@ -7,7 +7,7 @@ use mathlib.Core.Logic.{_⊎_, inl, inr, _≢_}
 use native.Mathlib.Nat.{le-refl, le-suc, le-trans, le-antisymm, le-of-suc-le-suc, lt-of-not-le, not-suc-le-zero}
 use native.Mathlib.Decide.{ℕ-discrete, decLt}
 use native.Mathlib.Omega.{arith}
-use borrow.Author.Tests.{lt-ltb, le-ltb, eq-eqb, ne-eqb}
+use borrow.Author.Tests.{lt-ltb, le-ltb, ltb-true, ltb-false, eq-eqb, ne-eqb}
 use lib.Dec.{eqb, ltb}
 use Rattle.fieldset.specs.Numbers.{count, any, lowest}
 
@@ -107,6 +107,18 @@ pub count-all : (n : ℕ) → count (λ i. true) n ≡ n
 unfolding count
 count-all zero = refl
 count-all (suc n) = ap suc (count-all n)
+
+-- the numbers below another
+pub count-below : (n m : ℕ) → n ≤ m → count (λ i. ltb i n) m ≡ n
+unfolding count
+count-below n zero h = omega arith
+count-below n (suc m) h = go (ltb m n) refl (count-below n m)
+  where
+    go : (b : Bool) → ltb m n ≡ b → (n ≤ m → count (λ i. ltb i n) m ≡ n) → cond b (suc (count (λ i. ltb i n) m)) (count (λ i. ltb i n) m) ≡ n
+    go true e ih =
+        let l : m < n = ltb-true m n e in
+        omega (arith, count-cong (λ i. ltb i n) (λ i. true) m (λ i k. lt-ltb i n (omega arith)) ∙ count-all m)
+    go false e ih = ih (ltb-false m n e)
 
 -- one that passes, taken out
 pub count-but : (p : ℕ → Bool) (n i : ℕ) → i < n → p i ≡ true → count p n ≡ suc (count (but p i) n)

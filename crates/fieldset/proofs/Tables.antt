@@ -31,6 +31,11 @@ module _ {ℓ} {A : Type ℓ} (f : ℕ → A) where
           let h : i < length (tabulate f n) = rw (length-tabulate n) (omega arith) in
           List·getD-append (tabulate f n) (f n ∷ []) d i h ∙ ih (omega arith)
 
+pub tabulate-cong : {A : Type 0} (f g : ℕ → A) (n : ℕ) → ((i : ℕ) → i < n → f i ≡ g i) → tabulate f n ≡ tabulate g n
+unfolding tabulate
+tabulate-cong f g zero h = refl
+tabulate-cong f g (suc n) h = rw (tabulate-cong f g n (λ i l. h i (omega arith)), h n (omega arith)) refl
+
 -- a buffer whose first n elements were replaced
 pub getD-tabulated : (f : ℕ → ℕ) (n : ℕ) (before : List ℕ) (i : ℕ) → getD (tabulate f n ++ drop n before) i 0 ≡ cond (ltb i n) (f i) (getD before i 0)
 getD-tabulated f n before i = go (decLt i n)

@@ -1,2 +1,1 @@
-pub mod Dropped
 pub mod Removed

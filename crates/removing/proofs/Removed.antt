@@ -6,17 +6,18 @@ use mathlib.Core.Path.{_≡_, refl, sym, ap, _∙_, subst}
 use mathlib.Core.Logic.{_≢_, _⊎_, inl, inr}
 use mathlib.Core.Bool.{true, not}
 use mathlib.Core.List.{List}
-use mathlib.Core.Option.{some}
+use mathlib.Core.Option.{none, some}
 use Prim.Native.Nat.{ℕ, _+_, _%_, _<_}
 use native.Mathlib.Nat.{mod-eq-of-lt}
+use native.Mathlib.Decide.{decLt}
 use native.Mathlib.Omega.{arith}
-use borrow.Author.Tests.{eqb-true, lt-ltb, ltb-true, ltb-false}
-use lib.ListN.{length, set}
+use borrow.Author.Tests.{eqb-true, lt-ltb, le-ltb, ltb-true, ltb-false}
+use lib.ListN.{length, set, List·getD-eq-default}
 use Rattle.fieldset.specs.Tables.{at}
 use Rattle.fieldset.specs.Fields.{member, below}
 use Rattle.fieldset.proofs.Fields.{member-some, member-below, member-only}
 use Rattle.strength.specs.Strength.{greatest, strength}
-use Rattle.strength.specs.Filling.{Acyclic, Within}
+use Rattle.strength.specs.Filling.{Strengths, Within}
 use Rattle.panel.specs.declared.Standing.{Standing}
 use Rattle.panel.specs.declared.Standing.the-variants.{Waiting, Holding}
 use Rattle.panel.specs.declared.Link.{Link}
@@ -26,31 +27,38 @@ use Rattle.panel.specs.declared.Refusal.the-variants.{Loop}
 use Rattle.panel.specs.declared.Reply.{Reply}
 use Rattle.panel.specs.declared.Reply.the-variants.{Accepted, Refused}
 use Rattle.panel.specs.declared.Step.{Step}
-use Rattle.panel.specs.Items.{Item, link, stay, noLink, linkAt, outputsOf, inForce}
+use Rattle.panel.specs.Items.{Item, link, stay, noLink, linkAt, outputsOf, inForce, itemsOf}
 use Rattle.panel.specs.Answers.{refused, replyBytes}
 use Rattle.panel.specs.Panels.{withLink, freed, dropped}
-use Rattle.panel.specs.Solution.{isBlocked, leastBlocked}
+use Rattle.panel.specs.Solution.{level, isBlocked, leastBlocked}
 use Rattle.panel.specs.Steps.{settled, dropStep, removeStep}
-use Rattle.panel.specs.Commands.{checkReply, removeChecks, removing, performed, checkRemove}
+use Rattle.panel.specs.Commands.{Passes, checkReply, removeChecks, removing, performed, checkRemove}
 use Rattle.panel.specs.Legal.{Legal}
 use Rattle.panel.specs.Outcomes.{unchanged, Decides}
-use Rattle.panel.proofs.InForce.{unused-off}
-use Rattle.panel.proofs.Reversed.{link-here}
+use Rattle.panel.proofs.InForce.{force-used, unused-off}
+use Rattle.panel.proofs.Answers.{replies-apart}
+use Rattle.panel.proofs.Reversed.{numberOf, link-here}
 use Rattle.panel.proofs.Legal.{Filled, LegalBut, force-formed}
 use Rattle.panel.proofs.Setters.{outputs-inside, waits-force}
 use Rattle.panel.proofs.Reversal.{Blocking, blocking, legal-waits}
-use Rattle.panel.proofs.Checks.{Agree, reply-refused, reply-accepted, named-link, removable}
+use Rattle.panel.proofs.Checks.{Agree, passes-reply, reply-refused, reply-accepted, named-link, removable}
 use Rattle.panel.proofs.Outcomes.{decides-unchanged}
-use Rattle.tables.specs.Tables.{Tabled, StrengthsOf}
-use Rattle.fieldset.proofs.Maps.{tableOf}
-use Rattle.tables.proofs.Tables.{greatest-same, panel-acyclic, panel-among, panel-strengths, all-strengths}
+use Rattle.panel.proofs.Performed.{least-passes}
+use Rattle.tables.specs.Tables.{Tabled}
+use Rattle.tables.proofs.Tables.{greatest-same, panel-acyclic, panel-among, all-strengths, table-strengths, table-full}
 use Rattle.reversal.specs.declared.Verdict.{Verdict}
 use Rattle.reversal.specs.declared.Verdict.the-variants.{Free, Looped, Path}
 use Rattle.reversal.specs.Reversals.{Undecided, Decided, stepOf}
 use Rattle.reversal.proofs.ReadFields.{coverOf}
 use Rattle.reversal.proofs.Decision.{found-refused}
 use Rattle.reversal.proofs.Steps.{Change, decides-free, decides-path}
-use Rattle.removing.proofs.Dropped.{sets-holds, field-small, Held, stepped, rest, dropped-rest, legal-rest, tabled-rest, strength-kept, found-blocked, Choice}
+use Rattle.scanning.specs.declared.Blocked.{Blocked}
+use Rattle.scanning.specs.declared.Blocked.the-variants.{Nothing, Link as ALink, Stay as AStay}
+use Rattle.scanning.specs.Scan.{Finds, Scanned}
+use Rattle.scanning.proofs.Dropped.{sets-holds, field-small, Held, rest, dropped-rest, legal-rest, dropped-setter}
+use Rattle.removing.specs.declared.Chosen.{Chosen}
+use Rattle.removing.specs.Choice.{OfField, chosenOf}
+use Rattle.removing.specs.Scans.{countFor, scanCount}
 
 -- ---- the checks
 
@@ -68,8 +76,48 @@ module _ (p : Panel) (id : ℕ) (old : Link) (same : old ≡ linkAt (p .links) (
 
     pub remove-passes : (m : ℕ) → reply ≡ Accepted m → (id < 128) × (performed p (removing id) ≡ removeStep p id)
     remove-passes m e =
-        let (_, none, step) = reply-accepted p (checkRemove (p .size) id (old .used)) (removeChecks p id) (removeStep p id) remove-agree reply checks m e in
-        (removable p id none .number, step)
+        let (_, passed, step) = reply-accepted p (checkRemove (p .size) id (old .used)) (removeChecks p id) (removeStep p id) remove-agree reply checks m e in
+        (removable p id passed .number, step)
+
+-- ---- the count
+
+-- a removal that its checks refuse names no link that sets a field
+module _ (p : Panel) (h : Legal p) (id : ℕ) where
+  held-number : (v : ℕ) → linkAt (p .links) id .standing ≡ Holding v → id < 128
+  held-number v e = go (decLt id 128)
+    where
+      go : Dec (id < 128) → id < 128
+      go (yes l) = l
+      go (no l) =
+          let z : Waiting ≡ Holding v = ap (λ (x : Link). x .standing) (sym (List·getD-eq-default (p .links) noLink (omega (arith, h .links-length)))) ∙ e in
+          let y : _≡_ {A = ℕ} 0 1 = cc in absurd (omega arith)
+
+  held-passes : (v : ℕ) → linkAt (p .links) id .standing ≡ Holding v → Passes (removeChecks p id)
+  held-passes v e =
+      let small : id < 128 = held-number v e in
+      let field : v < p .size = h .holding-field id v small e in
+      let sets : at (p .setter) v ≡ id = h .holding-sets id v small e in
+      let used : linkAt (p .links) id .used ≡ true = force-used _ (rw sets at (h .setter-in-force v (omega (arith, h .few)) (omega arith))) in
+      (ap not (lt-ltb 0 (p .size) (omega arith)), (le-ltb 127 id (omega arith), (ap not used, tt)))
+
+  pub count-refused : (old : Link) → old ≡ linkAt (p .links) (id % 128) → (reply : Reply) → replyBytes reply ≡ checkReply (checkRemove (p .size) id (old .used))
+      → (x : Refusal) → reply ≡ Refused x → scanCount p id ≡ 0
+  unfolding scanCount
+  count-refused old is reply checks x refuses = go (linkAt (p .links) id .standing) refl
+    where
+      go : (s : Standing) → linkAt (p .links) id .standing ≡ s → countFor (p .size) s ≡ 0
+      go Waiting e = refl
+      go (Holding v) e =
+          let named : old ≡ linkAt (p .links) id = named-link (p .links) id old is (held-number v e) in
+          let same : Refused x ≡ Accepted 0 =
+          sym refuses ∙ replies-apart reply (Accepted 0)
+          (checks ∙ ap (λ (l : Link). checkReply (checkRemove (p .size) id (l .used))) named ∙ passes-reply (removeChecks p id) (held-passes v e)) in
+          let z : _≡_ {A = ℕ} 0 1 = cc in absurd (omega arith)
+
+  -- it names a link of this standing
+  pub count-standing : (s : Standing) → linkAt (p .links) id .standing ≡ s → scanCount p id ≡ countFor (p .size) s
+  unfolding scanCount
+  count-standing s e = ap (countFor (p .size)) e
 
 -- ---- the change
 
@@ -110,38 +158,66 @@ cover-inside : (n : ℕ) (links : List Link) → Filled n links → (d : Item) �
 cover-inside n links h (link i) f u l e = force-formed n links h i f .inside u l e
 cover-inside n links h (stay g) f u l e = rw (eqb-true u g (sym (member-only g u l) ∙ e)) (ltb-true g n f)
 
-module _ {p : Panel} {id v : ℕ} {levels others reads : List ℕ} (x : Held p id v levels others reads) where
-  abbrev q : Panel
-  q = rest x
+-- a removal of a link that holds v passes its checks
+pub record Removal (p : Panel) (id v : ℕ) (levels others reads : List ℕ) : Type 0 where
+  pub held : Held p id v levels others reads
+  pub step : performed p (removing id) ≡ removeStep p id
+
+module _ {p : Panel} {id v : ℕ} {levels others reads : List ℕ} (x : Removal p id v levels others reads) where
+  -- the panel without the link
+  abbrev pub q : Panel
+  q = rest (x .held)
 
   legal : Legal q
-  legal = legal-rest x
+  legal = legal-rest (x .held)
 
-  -- the tables, where the stay of v sets it
-  abbrev L : List ℕ
-  L = set levels v (16 + at (p .place) v)
+  found-blocked : (d : Item) → leastBlocked q ≡ some d → isBlocked q d ≡ true
+  unfolding leastBlocked
+  found-blocked d e = least-passes (isBlocked q) (level q) (itemsOf (q .size)) d e
 
-  abbrev O : List ℕ
-  O = set others v 0
+  pub of-field : (b : Blocked) → Finds q b → OfField b
+  of-field Nothing e = tt
+  of-field (ALink i l) e = tt
+  of-field (AStay f) e =
+      let w = blocking q (stay f) (found-blocked (stay f) e) .waits-now in
+      omega (arith, legal .few, ltb-true f (q .size) (waits-force (q .size) (q .links) (q .setter) (stay f) w))
 
-  abbrev R : List ℕ
-  R = set reads v 0
+  -- what is chosen, by its number as a setter, its outputs and covered fields: nothing, or an item
+  abbrev pub Choice : ℕ → ℕ → ℕ → Type 0
+  Choice number outputs covered =
+      ((leastBlocked q ≡ none) × (outputs ≡ 0))
+      ⊎ (d : Item) × (leastBlocked q ≡ some d) × (number ≡ numberOf d) × (outputs ≡ outputsOf (q .links) d) × (covered ≡ coverOf (q .links) d)
 
-  tabled : Tabled q L O R
-  tabled = tabled-rest x
+  pub choice : (w : Chosen) (b : Blocked) → w ≡ chosenOf b → Finds q b → Choice (w .number) (w .outputs) (w .covered)
+  choice w b e finds = subst (λ (w : Chosen). Choice (w .number) (w .outputs) (w .covered)) (sym e) (go b finds)
+    where
+      go : (b : Blocked) → Finds q b → Choice (chosenOf b .number) (chosenOf b .outputs) (chosenOf b .covered)
+      go Nothing e = inl (e, refl)
+      go (ALink i l) (e, is) = inr (link i, e, refl, ap (λ (y : Link). y .outputs) is, ap (λ (y : Link). y .covered) is)
+      go (AStay f) e = inr (stay f, e, refl, refl, refl)
 
-  pub rest-acyclic : Acyclic O (p .size)
-  rest-acyclic = panel-acyclic q legal L O R tabled
+  -- the scan without the link that sets v, and the tables afterwards
+  module _ {L O R before table : List ℕ} {b : Blocked} {worked : ℕ} (full : length before ≡ 64) (looked : Scanned (dropped p (at (p .setter) v)) before table b worked)
+      (filled : Tabled (dropped p (at (p .setter) v)) L O R) where
+    scan : Scanned q before table b worked
+    scan = subst (λ (r : Panel). Scanned r before table b worked) (dropped-setter (x .held)) looked
 
-  module _ (table before : List ℕ) (full : length before ≡ 64) (is : table ≡ tableOf (strength (at L) (at O) (p .size)) (p .size) before) where
-    pub stepped-strengths : StrengthsOf (stepped x) table
-    stepped-strengths f l =
-        panel-strengths q legal L O R tabled table before full is f l ∙ sym (strength-kept x f (omega (arith, x .legal .few)))
+    tabled : Tabled q L O R
+    tabled = subst (λ (r : Panel). Tabled r L O R) (dropped-setter (x .held)) filled
+
+    pub scan-counts : worked ≡ scanCount p id
+    scan-counts = scan .once ∙ sym (count-standing p (x .held .legal) id (Holding v) (x .held .holds))
+
+    pub scan-finds : Finds q b
+    scan-finds = scan .finds
+
+    strong : Strengths L O (p .size) (below (p .size)) table
+    strong = all-strengths q legal L O R tabled table (table-full q table before legal (scan .strengths) full) (table-strengths q table before (scan .strengths))
 
     -- an item is blocked
     module _ (d : Item) (found : leastBlocked q ≡ some d) where
       blocked : isBlocked q d ≡ true
-      blocked = found-blocked x d found
+      blocked = found-blocked d found
 
       block : Blocking q d
       block = blocking q d blocked
@@ -162,18 +238,18 @@ module _ {p : Panel} {id v : ℕ} {levels others reads : List ℕ} (x : Held p i
           → s ≡ greatest (member (outputsOf (q .links) d)) (strength (at L) (at O) (p .size)) 64
       is-greatest s top =
           top ∙ greatest-same (outputsOf (q .links) d) (at table) (strength (at L) (at O) (p .size))
-          (λ u l e. all-strengths q legal L O R tabled table before full is .right u l (outputs-in u l e))
+          (λ u l e. strong .right u l (outputs-in u l e))
 
-    module _ (number outputs covered : ℕ) (choice : Choice x number outputs covered) where
+    module _ (number outputs covered : ℕ) (choice : Choice number outputs covered) where
       pub undecided : (known s : ℕ) (path : List ℕ) → known ≡ below (p .size) → outputs ≢ 0 → s ≡ greatest (member outputs) (at table) 64 → length path ≡ 64
           → Undecided L O table (p .size) known s outputs covered R path
       undecided known s path ek ne top long = go choice
         where
-          go : Choice x number outputs covered → Undecided L O table (p .size) known s outputs covered R path
+          go : Choice number outputs covered → Undecided L O table (p .size) known s outputs covered R path
           go (inl (free, z)) = absurd (ne z)
           go (inr (d, found, en, eo, ec)) = rw (ek, eo, ec) (record {
-            acyclic = rest-acyclic;
-            strengths = all-strengths q legal L O R tabled table before full is;
+            acyclic = panel-acyclic q legal L O R tabled;
+            strengths = strong;
             outputs-known = outputs-in d found;
             some-output = some-output d found;
             outputs-inside = outputs-in d found;
@@ -200,19 +276,19 @@ module _ {p : Panel} {id v : ℕ} {levels others reads : List ℕ} (x : Held p i
 
         step : performed p (removing id) ≡ settled p q (leastBlocked q)
         unfolding removeStep
-        step = x .step ∙ ap (dropStep p (dropped p id)) (x .holds) ∙ ap (λ (r : Panel). settled p r (leastBlocked r)) (dropped-rest x)
+        step = x .step ∙ ap (dropStep p (dropped p id)) (x .held .holds) ∙ ap (λ (r : Panel). settled p r (leastBlocked r)) (dropped-rest (x .held))
 
-        held : Change p id (p .size) (p .place) noLink (Holding v)
-        held = change p (x .legal) id (x .small) (Holding v) (x .holds)
+        change-is : Change p id (p .size) (p .place) noLink (Holding v)
+        change-is = change p (x .held .legal) id (x .held .small) (Holding v) (x .held .holds)
 
         comes : (t : Verdict) → Judged t → Comes t
         comes t judged = go choice t judged
           where
-            go : Choice x number outputs covered → (t : Verdict) → Judged t → Comes t
+            go : Choice number outputs covered → (t : Verdict) → Judged t → Comes t
             go (inl (free, z)) t (inl (ne, s, top, d)) = absurd (ne z)
             go (inl (free, z)) t (inr (_, e, long)) =
                 subst Comes (sym e)
-                (decides-free p id (p .size) (p .place) noLink (Holding v) held (removing id) path long number (step ∙ ap (settled p q) free))
+                (decides-free p id (p .size) (p .place) noLink (Holding v) change-is (removing id) path long number (step ∙ ap (settled p q) free))
             go (inr (d, found, en, eo, ec)) t (inr (z, _, _)) = absurd (omega (arith, some-output d found, eo, z))
             go (inr (d, found, en, eo, ec)) Free (inl (ne, s, top, never)) = absurd never
             go (inr (d, found, en, eo, ec)) Looped (inl (ne, s, top, (count, f))) = (
@@ -223,7 +299,7 @@ module _ {p : Panel} {id v : ℕ} {levels others reads : List ℕ} (x : Held p i
             )
             go (inr (d, found, en, eo, ec)) (Path count m) (inl (ne, s, top, (f, em))) =
                 rw en
-                (decides-path p id (p .size) (p .place) noLink (Holding v) held (removing id) path d (but d found .carrying) (legal .loopless) (force d found) L O R
+                (decides-path p id (p .size) (p .place) noLink (Holding v) change-is (removing id) path d (but d found .carrying) (legal .loopless) (force d found) L O R
                 tabled (blocked d found) s count m (is-greatest d found s (rw eo at top)) (rw (eo, ec) at f) em (step ∙ ap (settled p q) found))
 
         -- the reply of a loop, and the step, whose parts are the code's
@@ -236,7 +312,7 @@ module _ {p : Panel} {id v : ℕ} {levels others reads : List ℕ} (x : Held p i
 
           pub remove-reversed : (l : Link) (u : ℕ) → l ≡ noLink → v ≡ u → t ≢ Looped → s ≡ stepOf t (p .size) (p .place) l (Holding u) number
               → Decides p (id % 128) (removing id) path s
-          remove-reversed l u el same ne is = rw (mod-eq-of-lt (x .small), is, el, ← same) (go t (comes t judged) ne)
+          remove-reversed l u el same ne is = rw (mod-eq-of-lt (x .held .small), is, el, ← same) (go t (comes t judged) ne)
             where
               go : (t : Verdict) → Comes t → t ≢ Looped → Decides p id (removing id) path (stepOf t (p .size) (p .place) noLink (Holding v) number)
               go Free d ne = d

@@ -8,7 +8,6 @@ use panel::Panel;
 use panel::Refusal;
 use panel::Reply;
 use panel::STAY;
-use panel::STAY_LEVEL;
 use panel::Standing;
 use panel::Step;
 use panel::no_link;
@@ -17,8 +16,7 @@ use reversal::Verdict;
 use reversal::decide;
 use reversal::step_of;
 use scanning::Blocked;
-use scanning::find_blocked;
-use strength::strengths;
+use scanning::scan_without;
 use strength::top_of;
 ghost use mathlib.Core.Path.{_≡_};
 ghost use Prim.Native.Nat.{_%_};
@@ -30,6 +28,7 @@ ghost use Rattle.panel.specs.Legal.{Legal};
 ghost use Rattle.panel.specs.Outcomes.{Decides};
 ghost use Rattle.tables.specs.Tables.{Tabled};
 ghost use Rattle.removing.specs.Choice.{OfField, chosenOf};
+ghost use Rattle.removing.specs.Scans.{scanCount};
 
 // The reply of the checks of a removal, on a panel of n fields; `used` where the number is in use.
 fn check_remove(n: usize, id: u8, used: bool) -> Reply
@@ -92,10 +91,13 @@ pub fn remove(
     reads: &[u64; 64],
     id: u8,
     path: &mut [u8; 64],
+    scanned: &mut u8,
 ) -> Step
     requires { ⌜ Legal p × Tabled p (now levels) (now others) (now reads) × (old ≡ linkAt (p .links) (id % 128)) × (length (now path) ≡ 64) ⌝ }
     ensures { λ r. ⌜ Decides p (id % 128) (removing id) (now (path .exit)) r ⌝ }
+    ensures { λ r. ⌜ now (scanned .exit) ≡ scanCount p id ⌝ }
 {
+    *scanned = 0;
     let n = p.size;
     let place = p.place;
     let reply = check_remove(n, id, old.used);
@@ -106,19 +108,14 @@ pub fn remove(
     let Standing::Holding(h) = s else {
         return step_of(Verdict::Free, n, &place, no_link(), s, STAY);
     };
-    // its stay sets the field
-    let v = wide(h);
-    let mut setter = p.setter;
     let mut fresh = *levels;
     let mut outs = *others;
     let mut reading = *reads;
-    setter[v] = STAY;
-    fresh[v] = STAY_LEVEL + place[v];
-    outs[v] = 0;
-    reading[v] = 0;
     let mut table = [0u8; 64];
-    strengths(&fresh, &outs, n, &mut table);
-    let b = choose(find_blocked(p, &setter, &table));
+    let found = scan_without(p, wide(h), &mut fresh, &mut outs, &mut reading, &mut table);
+    *scanned = found.worked;
+    let blocked = found.blocked;
+    let b = choose(blocked);
     let mut verdict = Verdict::Free;
     if b.outputs != 0 {
         let top = top_of(&table, b.outputs);

@@ -71,14 +71,14 @@ Recorded links Nothing = Unit {0}
 Recorded links (ALink i l) = l ≡ linkAt links i
 Recorded links (AStay f) = Unit {0}
 
--- a list is scanned: what is found is the first blocked of least level, and low is its level
-pub record Scanned (p : Panel) (xs : List Item) (found : Blocked) (low : ℕ) : Type 0 where
+-- a list is looked over: what is found is the first blocked of least level, and low is its level
+pub record Looked (p : Panel) (xs : List Item) (found : Blocked) (low : ℕ) : Type 0 where
   pub result : least (isBlocked p) (level p) xs ≡ foundOf found
   pub low-is : low ≡ levelOr (level p) (foundOf found)
   pub recorded : Recorded (p .links) found
 
 -- the next is c
-module _ {p : Panel} {xs ys : List Item} {found : Blocked} {low : ℕ} (s : Scanned p xs found low) (c : Item) (e : ys ≡ xs ++ c ∷ []) where
+module _ {p : Panel} {xs ys : List Item} {found : Blocked} {low : ℕ} (s : Looked p xs found low) (c : Item) (e : ys ≡ xs ++ c ∷ []) where
   behind : least (isBlocked p) (level p) ys ≡ joined (isBlocked p) (level p) (foundOf found) (cond (isBlocked p c) (some c) none)
   unfolding least
   behind = rw (e, least-append (isBlocked p) (level p) xs (c ∷ []), s .result)
@@ -86,7 +86,7 @@ module _ {p : Panel} {xs ys : List Item} {found : Blocked} {low : ℕ} (s : Scan
   module _ {found′ : Blocked} {low′ : ℕ} where
     -- it is blocked and has a lesser level
     pub scan-takes : foundOf found′ ≡ some c → Recorded (p .links) found′ → low′ ≡ level p c → isBlocked p c ≡ true → level p c < low
-        → Scanned p ys found′ low′
+        → Looked p ys found′ low′
     scan-takes is r el t h =
         record { result = behind ∙ rw (t, is) (go (foundOf found) (s .low-is)); low-is = el ∙ rw is refl; recorded = r }
       where
@@ -95,7 +95,7 @@ module _ {p : Panel} {xs ys : List Item} {found : Blocked} {low : ℕ} (s : Scan
         go none k = refl
 
     -- it is not blocked
-    pub scan-leaves : found′ ≡ found → low′ ≡ low → isBlocked p c ≡ false → Scanned p ys found′ low′
+    pub scan-leaves : found′ ≡ found → low′ ≡ low → isBlocked p c ≡ false → Looked p ys found′ low′
     scan-leaves ef el t = rw (ef, el) (record { result = behind ∙ rw t (go (foundOf found)); low-is = s .low-is; recorded = s .recorded })
       where
         go : (o : Option Item) → joined (isBlocked p) (level p) o none ≡ o
@@ -103,7 +103,7 @@ module _ {p : Panel} {xs ys : List Item} {found : Blocked} {low : ℕ} (s : Scan
         go none = refl
 
     -- it has no lesser level
-    pub scan-keeps : found′ ≡ found → low′ ≡ low → level p c < 255 → low ≤ level p c → Scanned p ys found′ low′
+    pub scan-keeps : found′ ≡ found → low′ ≡ low → level p c < 255 → low ≤ level p c → Looked p ys found′ low′
     scan-keeps ef el k h = rw (ef, el) (record { result = behind ∙ go (foundOf found) (s .low-is) (isBlocked p c); low-is = s .low-is; recorded = s .recorded })
       where
         go : (o : Option Item) → low ≡ levelOr (level p) o → (t : Bool) → joined (isBlocked p) (level p) o (cond t (some c) none) ≡ o
@@ -129,17 +129,17 @@ unfolding tabulate
 next-stay f = rw (add-one f, map-append stay (tabulate (λ f. f) f) (f ∷ []), append-assoc (firstLinks 128) (map stay (tabulate (λ f. f) f)) (stay f ∷ []))
 
 -- nothing is scanned
-pub scan-none : (p : Panel) → Scanned p (firstLinks 0) Nothing 255
+pub scan-none : (p : Panel) → Looked p (firstLinks 0) Nothing 255
 unfolding least tabulate
 scan-none p = record { result = refl; low-is = refl; recorded = tt }
 
 -- the links are scanned, and no stay
-pub stays-start : {p : Panel} {found : Blocked} {low i : ℕ} → i ≡ 128 → Scanned p (firstLinks i) found low → Scanned p (firstStays 0) found low
+pub stays-start : {p : Panel} {found : Blocked} {low i : ℕ} → i ≡ 128 → Looked p (firstLinks i) found low → Looked p (firstStays 0) found low
 unfolding tabulate
 stays-start {p} {found} {low} e s = rw (append-nil (firstLinks 128)) (rw e at s)
 
 -- all are scanned
-pub scan-done : {p : Panel} {low f : ℕ} (found : Blocked) → f ≡ p .size → Scanned p (firstStays f) found low → Finds p found
+pub scan-done : {p : Panel} {low f : ℕ} (found : Blocked) → f ≡ p .size → Looked p (firstStays f) found low → Finds p found
 unfolding leastBlocked itemsOf
 scan-done Nothing e s = rw e at (s .result)
 scan-done (ALink i l) e s = (rw e at (s .result), s .recorded)

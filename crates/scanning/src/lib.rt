@@ -1,4 +1,4 @@
-// The scan for blocked links and stays, over a table of strengths.
+// The scan for blocked links and stays once a link is dropped: all strengths are worked out first, and it reads only these.
 use fieldset::first;
 use fieldset::without_lowest;
 use panel::Link;
@@ -6,10 +6,15 @@ use panel::Panel;
 use panel::STAY;
 use panel::STAY_LEVEL;
 use panel::Standing;
+use strength::strengths;
 ghost use mathlib.Core.Path.{_≡_};
+ghost use Prim.Native.Nat.{_<_};
+ghost use lib.ListN.{length};
+ghost use Rattle.fieldset.specs.Tables.{at};
+ghost use Rattle.panel.specs.Panels.{dropped};
 ghost use Rattle.panel.specs.Legal.{Legal};
-ghost use Rattle.tables.specs.Tables.{StrengthsOf};
-ghost use Rattle.scanning.specs.Scan.{isOver, isBlockedLink, withSetters, Finds};
+ghost use Rattle.tables.specs.Tables.{Tabled, StrengthsOf};
+ghost use Rattle.scanning.specs.Scan.{isOver, isBlockedLink, withSetters, Finds, Scanned};
 
 // Whether a field of the set has a strength above the level.
 fn is_over(set: u64, level: u8, table: &[u8; 64]) -> bool
@@ -52,7 +57,7 @@ pub enum Blocked {
 
 // The blocked link or stay of least level, the lowest link number among equals, where the fields have these setters, over a table of all strengths.
 // Both scans stand here: a function for each would copy the panel.
-pub fn find_blocked(p: Panel, setter: &[u8; 64], table: &[u8; 64]) -> Blocked
+fn find_blocked(p: Panel, setter: &[u8; 64], table: &[u8; 64]) -> Blocked
     requires { ⌜ Legal p × StrengthsOf (withSetters p (now setter)) (now table) ⌝ }
     ensures { λ r. ⌜ Finds (withSetters p (now (setter .entry))) r ⌝ }
 {
@@ -79,4 +84,36 @@ pub fn find_blocked(p: Panel, setter: &[u8; 64], table: &[u8; 64]) -> Blocked
         f += 1;
     }
     found
+}
+
+// What a scan finds, and how many strengths were worked out for it.
+pub struct Found {
+    pub blocked: Blocked,
+    pub worked: u8,
+}
+
+// The scan without the link that sets v, once it is dropped and v's stay sets v: the tables become those of that panel.
+pub fn scan_without(
+    p: Panel,
+    v: usize,
+    levels: &mut [u8; 64],
+    others: &mut [u64; 64],
+    reads: &mut [u64; 64],
+    table: &mut [u8; 64],
+) -> Found
+    requires { ⌜ Legal p × Tabled p (now levels) (now others) (now reads) × (v < 64) × (at (p .setter) v < 128) × (length (now table) ≡ 64) ⌝ }
+    ensures { λ r. ⌜ Scanned (dropped p (at (p .setter) v)) (now (table .entry)) (now (table .exit)) (r .blocked) (r .worked) ⌝ }
+    ensures { λ r. ⌜ Tabled (dropped p (at (p .setter) v)) (now (levels .exit)) (now (others .exit)) (now (reads .exit)) ⌝ }
+{
+    let mut setter = p.setter;
+    setter[v] = STAY;
+    levels[v] = STAY_LEVEL + p.place[v];
+    others[v] = 0;
+    reads[v] = 0;
+    let worked = strengths(levels, others, p.size, table);
+    let blocked = find_blocked(p, &setter, table);
+    Found {
+        blocked: blocked,
+        worked: worked,
+    }
 }

@@ -17,7 +17,7 @@ use Rattle.fieldset.specs.Fields.{member, setOf, with, without, below, lowestOf
 use Rattle.fieldset.proofs.Tests.{and-left, and-right}
 use Rattle.fieldset.proofs.Numbers.{clash}
 use Rattle.fieldset.proofs.Tables.{length-tabulate, getD-tabulated}
-use Rattle.fieldset.proofs.Fields.{member-filter, member-setOf, member-setOf-lt, member-empty, member-below, member-with-same, member-with-other, with-of, size-empty, size-with}
+use Rattle.fieldset.proofs.Fields.{member-filter, member-setOf, member-setOf-lt, member-empty, member-below, member-with-same, member-with-other, with-of, size-empty, size-below, size-mono, size-with}
 use Rattle.fieldset.proofs.Emptying.{Emptying, empty-start, empty-step, empty-end, taken-in}
 use Rattle.strength.specs.Strength.{greatest, strength}
 use Rattle.strength.specs.Filling.{Acyclic, Strengths, Closed, Fillable, Filled, Topped}
@@ -31,6 +31,30 @@ outside a b u w l e = go (member a u) refl
     go : (x : Bool) → member a u ≡ x → x ≡ false
     go true f = absurd (clash (w u l f) e)
     go false f = refl
+
+-- the strength of v is stored, where what it depends on is known
+module _ {levels others table : List ℕ} {r v : ℕ} (S : Strengths levels others 64 r table) (h : v < 64) where
+  stored : (s : ℕ) → Within (at others v) r → s ≡ strength (at levels) (at others) 64 v → Strengths levels others 64 (with r v) (set table v s)
+  stored s w e = record {
+    full = length-set table v s ∙ S .full;
+    right = λ u l i. right u l i (ℕ-discrete u v);
+    closed = λ x u hx hu i f. with-of r v u hu (closed x u hx hu i f (ℕ-discrete x v));
+  }
+    where
+      right : (u : ℕ) → u < 64 → member (with r v) u ≡ true → Dec (u ≡ v) → at (set table v s) u ≡ strength (at levels) (at others) 64 u
+      right u l i (yes d) = rw d (getD-set-same table v s 0 (omega (arith, S .full)) ∙ e)
+      right u l i (no d) = getD-set-other table v u s 0 d ∙ S .right u l (sym (member-with-other r v u l d) ∙ i)
+
+      closed : (x u : ℕ) → x < 64 → u < 64 → member (with r v) x ≡ true → member (at others x) u ≡ true → Dec (x ≡ v) → member r u ≡ true
+      closed x u hx hu i f (yes d) = w u hu (rw d at f)
+      closed x u hx hu i f (no d) = S .closed x u hx hu (sym (member-with-other r v x hx d) ∙ i) f
+
+  stored-kept : (s u : ℕ) → u < 64 → member (with r v) u ≡ false → at (set table v s) u ≡ at table u
+  stored-kept s u l i = go (ℕ-discrete u v)
+    where
+      go : Dec (u ≡ v) → at (set table v s) u ≡ at table u
+      go (yes d) = absurd (clash (rw d (member-with-same r v h)) i)
+      go (no d) = getD-set-other table v u s 0 d
 
 -- one field is filled in
 pub record FieldFilled (levels others : List ℕ) (known v r count : ℕ) (before after : List ℕ) : Type 0 where
@@ -164,36 +188,19 @@ module _ {levels others : List ℕ} {known wanted depth : ℕ} {before : List �
   pub one-filled : {t r more s : ℕ} {table′ : List ℕ} → member k v ≡ false → Filled levels others k (at others v) t r more table table′ → s ≡ max (at levels v) t
       → FieldFilled levels others k v (with r v) (more + 1) table (set table′ v s)
   one-filled {t} {r} {more} {s} {table′} new F e = record {
-    strengths = record {
-      full = length-set table′ v s ∙ F .strengths .full;
-      right = λ u l i. right u l i (ℕ-discrete u v);
-      closed = λ w u hw hu i f. with-of r v u hu (closed w u hw hu i f (ℕ-discrete w v));
-    };
+    strengths = stored (F .strengths) (U .field) s (F .has)
+        (e ∙ ap (max (at levels v)) (F .is-greatest)
+        ∙ sym (strength-fixed (at levels) (at others) (R .rank) (R .falls) 64 v (U .field) (omega (arith, left-deep, R .few))));
     more = λ u l i. with-of r v u l (F .more u l i);
     has = member-with-same r v (U .field);
     inside = λ m c w h u l i. in-set m c w h u l i (ℕ-discrete u v);
-    kept = λ u l i. kept u l i (ℕ-discrete u v);
+    kept = λ u l i. stored-kept (F .strengths) (U .field) s u l i ∙ F .kept u l (outside r (with r v) u (λ j q f. with-of r v j q f) l i);
     counted = omega (arith, F .counted, size-with r v (U .field) (still-unknown F new));
   }
     where
-      right : (u : ℕ) → u < 64 → member (with r v) u ≡ true → Dec (u ≡ v) → at (set table′ v s) u ≡ strength (at levels) (at others) 64 u
-      right u l i (yes d) =
-          rw d
-          (getD-set-same table′ v s 0 (omega (arith, F .strengths .full, U .field)) ∙ e ∙ ap (max (at levels v)) (F .is-greatest)
-          ∙ sym (strength-fixed (at levels) (at others) (R .rank) (R .falls) 64 v (U .field) (omega (arith, left-deep, R .few))))
-      right u l i (no d) = getD-set-other table′ v u s 0 d ∙ F .strengths .right u l (sym (member-with-other r v u l d) ∙ i)
-
-      closed : (w u : ℕ) → w < 64 → u < 64 → member (with r v) w ≡ true → member (at others w) u ≡ true → Dec (w ≡ v) → member r u ≡ true
-      closed w u hw hu i f (yes d) = F .has u hu (rw d at f)
-      closed w u hw hu i f (no d) = F .strengths .closed w u hw hu (sym (member-with-other r v w hw d) ∙ i) f
-
       in-set : (m : ℕ) → Closed others m → Within k m → member m v ≡ true → (u : ℕ) → u < 64 → member (with r v) u ≡ true → Dec (u ≡ v) → member m u ≡ true
       in-set m c w h u l i (yes d) = rw d h
       in-set m c w h u l i (no d) = F .inside m c w (λ j q f. c v j (U .field) q h f) u l (sym (member-with-other r v u l d) ∙ i)
-
-      kept : (u : ℕ) → u < 64 → member (with r v) u ≡ false → Dec (u ≡ v) → at (set table′ v s) u ≡ at table u
-      kept u l i (yes d) = absurd (clash (rw d (member-with-same r v (U .field))) i)
-      kept u l i (no d) = getD-set-other table′ v u s 0 d ∙ F .kept u l (sym (member-with-other r v u l d) ∙ i)
 
 -- ---- `greatest` and `strengths`: none is known
 
@@ -254,61 +261,79 @@ module _ {levels others : List ℕ} {n : ℕ} (A : Acyclic others n) where
         counted = omega (arith, F .counted, ap size none, size-empty);
       }
 
--- ---- `strengths`: the levels are entered, which are the strengths of the fields whose setters have no other output; the rest is filled in
+-- ---- `strengths`: where a setter has no other output the strength is its level; the rest is filled in
 
--- the setter of v has other outputs
-abbrev some : List ℕ → ℕ → Bool
-some others v = not (eqb (at others v) 0)
+-- of the first v fields some are known; the count is how many
+pub record Begun (levels others before table : List ℕ) (v known count : ℕ) : Type 0 where
+  pub strengths : Strengths levels others 64 known table
+  pub seen : Within known (below v)
+  pub kept : (u : ℕ) → u < 64 → member known u ≡ false → at table u ≡ at before u
+  pub counted : count ≡ size known
 
-module _ (levels before : List ℕ) {others : List ℕ} {n : ℕ} (A : Acyclic others n) {rest known : ℕ} (q : rest ≡ setOf (some others) n)
-    (k : known ≡ minus (below n) rest) (size : length before ≡ 64) {entered : List ℕ} (levelled : entered ≡ tabulate (at levels) n ++ drop n before) where
+module _ {levels others before : List ℕ} where
+  pub none-begun : length before ≡ 64 → Begun levels others before before 0 0 0
+  none-begun full = record { strengths = none-known levels others before full; seen = none-below 0; kept = λ u l e. refl; counted = sym size-empty }
+
+  module _ {table : List ℕ} {v known count : ℕ} (B : Begun levels others before table v known count) where
+    -- one field more is looked at
+    seen-more : Within known (below (v + 1))
+    seen-more u l e = lt-below (v + 1) u l (omega (arith, below-lt v u l (B .seen u l e)))
+
+    pub next-left : Begun levels others before table (v + 1) known count
+    next-left = record { strengths = B .strengths; seen = seen-more; kept = B .kept; counted = B .counted }
+
+    -- its setter has no other output
+    pub next-alone : v < 64 → at others v ≡ 0 → Begun levels others before (set table v (at levels v)) (v + 1) (with known v) (count + 1)
+    next-alone h alone = record {
+      strengths = stored (B .strengths) h (at levels v) (λ u l e. absurd (clash (rw alone at e) (member-empty u)))
+          (sym (strength-alone (at levels) (at others) 64 v (omega arith) alone));
+      seen = λ u l e. seen u l e (ℕ-discrete u v);
+      kept = λ u l e. stored-kept (B .strengths) h (at levels v) u l e ∙ B .kept u l (outside known (with known v) u (λ j q f. with-of known v j q f) l e);
+      counted = omega (arith, B .counted, size-with known v h (outside known (below v) v (B .seen) h (member-below v v h ∙ le-ltb v v (omega arith))));
+    }
+      where
+        seen : (u : ℕ) → u < 64 → member (with known v) u ≡ true → Dec (u ≡ v) → member (below (v + 1)) u ≡ true
+        seen u l e (yes d) = lt-below (v + 1) u l (omega arith)
+        seen u l e (no d) = seen-more u l (sym (member-with-other known v u l d) ∙ e)
+
+module _ {levels others : List ℕ} {n : ℕ} (A : Acyclic others n) {before begun : List ℕ} {known count : ℕ} (B : Begun levels others before begun n known count)
+    {rest : ℕ} (q : rest ≡ minus (below n) known) where
+  -- the others
+  rest-is : (u : ℕ) → u < 64 → member rest u ≡ (member (below n) u && not (member known u))
+  rest-is u l = ap (λ (m : ℕ). member m u) q ∙ member-filter (λ j. not (member known j)) (below n) u l
+
   rest-below : Within rest (below n)
-  rest-below u l e = member-below n u l ∙ and-left (ltb u n) (some others u) (sym (member-setOf (some others) n u) ∙ (rw q at e))
+  rest-below u l e = and-left (member (below n) u) (not (member known u)) (sym (rest-is u l) ∙ e)
 
-  known-is : (u : ℕ) → u < 64 → member known u ≡ (member (below n) u && not (member rest u))
-  known-is u l = ap (λ (m : ℕ). member m u) k ∙ member-filter (λ j. not (member rest j)) (below n) u l
+  pub rest-asks : Fillable levels others known begun rest n
+  rest-asks = fill-below A (B .seen) rest-below (B .strengths)
 
-  known-below : Within known (below n)
-  known-below u l e = and-left (member (below n) u) (not (member rest u)) (sym (known-is u l) ∙ e)
+  module _ {top r more : ℕ} {table : List ℕ} (F : Filled levels others known rest top r more begun table) where
+    inside : Within r (below n)
+    inside = filled-below A (B .seen) rest-below F
 
-  known-alone : (u : ℕ) → u < 64 → member known u ≡ true → at others u ≡ 0
-  known-alone u l e = go (ℕ-discrete (at others u) 0)
-    where
-      go : Dec (at others u ≡ 0) → at others u ≡ 0
-      go (yes z) = z
-      go (no z) =
-          absurd (clash (rw q (member-setOf-lt (some others) n u (below-lt n u l (known-below u l e)) ∙ ap not (ne-eqb (at others u) 0 z)))
-          (not-true (member rest u) (and-right (member (below n) u) (not (member rest u)) (sym (known-is u l) ∙ e))))
+    all : Within (below n) r
+    all u l e = go (member known u) refl
+      where
+        go : (b : Bool) → member known u ≡ b → member r u ≡ true
+        go true k = F .more u l k
+        go false k = F .has u l (rest-is u l ∙ rw (e, k))
 
-  pub listed-asks : Fillable levels others known entered rest n
-  listed-asks = fill-below A known-below rest-below (record {
-    full = ap length levelled ∙ simp (length-append, length-tabulate, length-drop) (omega (arith, A .few));
-    right = λ u l e.
-        ap (λ (t : List ℕ). at t u) levelled ∙ getD-tabulated (at levels) n before u
-        ∙ rw (lt-ltb u n (below-lt n u l (known-below u l e))) (sym (strength-alone (at levels) (at others) 64 u (omega arith) (known-alone u l e)));
-    closed = λ v u hv hu e f. absurd (clash (rw (known-alone v hv e) at f) (member-empty u));
-  })
+    -- each of the n fields was counted once
+    pub all-counted : count + more ≡ n
+    all-counted = omega (arith, B .counted, F .counted, size-mono r (below n) inside, size-mono (below n) r all, size-below n (A .few))
 
-  pub listed : {top r count : ℕ} {table : List ℕ} → Filled levels others known rest top r count entered table
-      → table ≡ tabulate (strength (at levels) (at others) n) n ++ drop n before
-  listed {top} {r} {count} {table} F =
-      ext-getD 0 table (tabulate f n ++ drop n before)
-      (F .strengths .full ∙ simp (length-append, length-tabulate, length-drop) (omega (arith, A .few)))
-      (λ i l. each i (omega (arith, F .strengths .full)) (decLt i n) ∙ sym (getD-tabulated f n before i))
-    where
-      f : ℕ → ℕ
-      f = strength (at levels) (at others) n
+    pub listed : length before ≡ 64 → table ≡ tabulate (strength (at levels) (at others) n) n ++ drop n before
+    listed full =
+        ext-getD 0 table (tabulate f n ++ drop n before)
+        (F .strengths .full ∙ simp (length-append, length-tabulate, length-drop) (omega (arith, A .few)))
+        (λ i l. each i (omega (arith, F .strengths .full)) (decLt i n) ∙ sym (getD-tabulated f n before i))
+      where
+        f : ℕ → ℕ
+        f = strength (at levels) (at others) n
 
-      each : (i : ℕ) → i < 64 → Dec (i < n) → at table i ≡ cond (ltb i n) (f i) (at before i)
-      each i l (yes h) = F .strengths .right i l (has (member rest i) refl) ∙ same-depth A levels i h ∙ rw (lt-ltb i n h)
-        where
-          has : (b : Bool) → member rest i ≡ b → member r i ≡ true
-          has true e = F .has i l e
-          has false e = F .more i l (known-is i l ∙ rw (lt-below n i l h, e))
-      each i l (no h) =
-          F .kept i l (none (member r i) refl) ∙ ap (λ (t : List ℕ). at t i) levelled ∙ getD-tabulated (at levels) n before i
-          ∙ rw (le-ltb i n (omega arith))
-        where
-          none : (b : Bool) → member r i ≡ b → b ≡ false
-          none true e = absurd (h (below-lt n i l (filled-below A known-below rest-below F i l e)))
-          none false e = refl
+        each : (i : ℕ) → i < 64 → Dec (i < n) → at table i ≡ cond (ltb i n) (f i) (at before i)
+        each i l (yes h) = F .strengths .right i l (all i l (lt-below n i l h)) ∙ same-depth A levels i h ∙ rw (lt-ltb i n h)
+        each i l (no h) =
+            let none : member (below n) i ≡ false = member-below n i l ∙ le-ltb i n (omega arith) in
+            F .kept i l (outside r (below n) i inside l none) ∙ B .kept i l (outside known (below n) i (B .seen) l none) ∙ rw (le-ltb i n (omega arith))

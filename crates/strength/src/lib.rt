@@ -5,7 +5,6 @@ use fieldset::first;
 use fieldset::lowest;
 use fieldset::member;
 use fieldset::minus;
-use fieldset::nonempty;
 use fieldset::with;
 use fieldset::within;
 use fieldset::without_lowest;
@@ -92,26 +91,26 @@ pub fn greatest(
     fill(levels, others, 0, table, set, n)
 }
 
-// The levels of the first n fields go to the start of the table.
-fn enter_levels(levels: &[u8; 64], n: usize, table: &mut [u8; 64])
-    requires { ⌜ (n ≤ 64) × (length (now table) ≡ 64) ⌝ }
-    ensures { λ r. ⌜ now (table .exit) ≡ tabulate (at (now (levels .entry))) n ++ drop n (now (table .entry)) ⌝ }
-{
-    let mut v = 0usize;
-    while v < n {
-        table[v] = levels[v];
-        v += 1;
-    }
-}
-
-// The strengths of all fields below n. Where a setter has no other output it is the level, so that only the others are worked out.
-pub fn strengths(levels: &[u8; 64], others: &[u64; 64], n: usize, table: &mut [u8; 64])
+// The strengths of all fields below n, each worked out once: the answer counts them where they are stored. Where a setter has no other output the
+// strength is its level, and these come first.
+pub fn strengths(levels: &[u8; 64], others: &[u64; 64], n: usize, table: &mut [u8; 64]) -> u8
     requires { ⌜ Acyclic (now others) n × (length (now table) ≡ 64) ⌝ }
     ensures { λ r. ⌜ now (table .exit) ≡ tabulate (strength (at (now (levels .entry))) (at (now (others .entry))) n) n ++ drop n (now (table .entry)) ⌝ }
+    ensures { λ r. ⌜ r ≡ n ⌝ }
 {
-    enter_levels(levels, n, table);
-    let rest = nonempty(others, n);
-    fill(levels, others, minus(below(n), rest), table, rest, n);
+    let mut known = 0u64;
+    let mut count = 0u8;
+    let mut v = 0usize;
+    while v < n {
+        if others[v] == 0 {
+            table[v] = levels[v];
+            count += 1;
+            known = with(known, v);
+        }
+        v += 1;
+    }
+    let rest = fill(levels, others, known, table, minus(below(n), known), n);
+    count + rest.count
 }
 
 // The greatest strength of the fields of a set, 0 for the empty set, where the table has the strengths of all of them.

@@ -4,17 +4,18 @@
 use mathlib.Core.Path.{_≡_, refl, sym, ap, ap₂, _∙_}
 use mathlib.Core.Logic.{_≢_}
 use mathlib.Core.Bool.{Bool, true, false, _&&_}
-use mathlib.Core.List.{List, _∷_}
+use mathlib.Core.List.{List, _∷_, _++_}
 use Prim.Native.Nat.{ℕ, zero, suc, _<_, max}
 use native.Mathlib.Nat.{lt-of-lt-of-le}
 use native.Mathlib.Omega.{arith}
 use borrow.Author.Tests.{eqb-false, lt-ltb, ltb-true}
 use lib.Dec.{eqb, ltb}
-use lib.ListN.{length}
+use lib.ListN.{length, drop}
 use Rattle.fieldset.specs.Numbers.{any}
 use Rattle.fieldset.specs.Tables.{at}
 use Rattle.fieldset.specs.Fields.{member, below}
 use Rattle.fieldset.proofs.Numbers.{any-here, any-found}
+use Rattle.fieldset.proofs.Tables.{tabulate-cong}
 use Rattle.fieldset.proofs.Fields.{member-below}
 use Rattle.fieldset.proofs.Tests.{and-left, and-right, and-both}
 use Rattle.strength.specs.Strength.{greatest, strength, lowestAt, path}
@@ -149,19 +150,26 @@ module _ (p : Panel) (h : Legal p) (levels others reads : List ℕ) (t : Tabled 
   pub panel-reads : (f : ℕ) → f < p .size → at reads f ≡ setterReads p f
   panel-reads = reads-at p (stay (p .size)) (whole p h) (h .loopless) levels others reads t
 
-  module _ (table before : List ℕ) (full : length before ≡ 64) (is : table ≡ tableOf (strength (at levels) (at others) (p .size)) (p .size) before) where
-    strength-at : (u : ℕ) → u < p .size → at table u ≡ strength (at levels) (at others) (p .size) u
-    strength-at u l = ap (λ (x : List ℕ). at x u) is ∙ at-table (strength (at levels) (at others) (p .size)) before (p .size) u l
+  -- a table of all strengths by the tables is one of all strengths of the panel
+  pub panel-table : (before : List ℕ)
+      → tableOf (strength (at levels) (at others) (p .size)) (p .size) before ≡ tableOf (strengthOf p) (p .size) before
+  panel-table before =
+      ap (λ (x : List ℕ). x ++ drop (p .size) before)
+      (tabulate-cong (strength (at levels) (at others) (p .size)) (strengthOf p) (p .size) (table-strength p (stay (p .size)) (whole p h) (h .loopless) levels others reads t))
 
-    pub panel-strengths : StrengthsOf p table
-    panel-strengths f l = strength-at f l ∙ table-strength p (stay (p .size)) (whole p h) (h .loopless) levels others reads t f l
+  pub all-strengths : (table : List ℕ) → length table ≡ 64 → StrengthsOf p table → Strengths levels others (p .size) (below (p .size)) table
+  all-strengths table full is = record {
+    full = full;
+    right = λ u l e. is u (inside u l e) ∙ sym (table-strength p (stay (p .size)) (whole p h) (h .loopless) levels others reads t u (inside u l e));
+    closed = λ v u lv lu e m. member-below (p .size) u lu ∙ lt-ltb u (p .size) (panel-acyclic .inside v u (inside v lv e) lu m);
+  }
+    where
+      inside : (u : ℕ) → u < 64 → member (below (p .size)) u ≡ true → u < p .size
+      inside u l e = ltb-true u (p .size) (sym (member-below (p .size) u l) ∙ e)
 
-    pub all-strengths : Strengths levels others (p .size) (below (p .size)) table
-    all-strengths = record {
-      full = ap length is ∙ length-table (strength (at levels) (at others) (p .size)) before (p .size) (omega (arith, h .few)) ∙ full;
-      right = λ u l e. strength-at u (inside u l e);
-      closed = λ v u lv lu e m. member-below (p .size) u lu ∙ lt-ltb u (p .size) (panel-acyclic .inside v u (inside v lv e) lu m);
-    }
-      where
-        inside : (u : ℕ) → u < 64 → member (below (p .size)) u ≡ true → u < p .size
-        inside u l e = ltb-true u (p .size) (sym (member-below (p .size) u l) ∙ e)
+-- its entries
+pub table-strengths : (p : Panel) (table before : List ℕ) → table ≡ tableOf (strengthOf p) (p .size) before → StrengthsOf p table
+table-strengths p table before is f l = ap (λ (x : List ℕ). at x f) is ∙ at-table (strengthOf p) before (p .size) f l
+
+pub table-full : (p : Panel) (table before : List ℕ) → Legal p → table ≡ tableOf (strengthOf p) (p .size) before → length before ≡ 64 → length table ≡ 64
+table-full p table before h is full = ap length is ∙ length-table (strengthOf p) before (p .size) (omega (arith, h .few)) ∙ full

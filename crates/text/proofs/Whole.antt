@@ -26,10 +26,10 @@ pub tally-parts : (b : List ℕ) (t : Tally) → b ≡ tallyBytes t → getD b 0
 unfolding tallyBytes threeBytes
 tally-parts b t e = ap (λ (x : List ℕ). getD x 0 0 ∷ getD x 1 0 ∷ take (length x - 2) (drop 2 x)) e
 
-module _ {S : Type 0} (answer : LineAnswer S) (Legal : S → Type 0) where
+module _ {S : Type 0} (answer : LineAnswer S) {scan : S → List ℕ → ℕ} (Legal : S → Type 0) where
   -- with room for all of the lines none is left
   none-left : (text : List ℕ) (room n : ℕ) (s : S) (t : Tally) (before after : List ℕ) (r : Reached S)
-      → Ran answer Legal text (linesOf text) n s t before after r → Paced text 0 room n r → longest * length (linesOf text) ≤ room → length text ≤ r .next
+      → Ran answer scan Legal text (linesOf text) n s t before after r → Paced text 0 room n r → longest * length (linesOf text) ≤ room → length text ≤ r .next
   none-left text room n s t before after r ran paced h = go (decLt (r .next) (length text)) where
     go : Dec (r .next < length text) → length text ≤ r .next
     go (yes l) =
@@ -38,7 +38,7 @@ module _ {S : Type 0} (answer : LineAnswer S) (Legal : S → Type 0) where
     go (no l) = omega arith
 
   module _ (text before middle : List ℕ) (t : Tally) (n : ℕ) (p s : S) (r : Reached S) (room : ℕ)
-      (starts : p ≡ s) (ran : Ran answer Legal text (linesOf text) n p t before middle r) (paced : Paced text 0 room n r)
+      (starts : p ≡ s) (ran : Ran answer scan Legal text (linesOf text) n p t before middle r) (paced : Paced text 0 room n r)
       (enough : longest * length (linesOf text) ≤ room) where
     all-done : take n (linesOf text) ≡ linesOf text
     all-done =
@@ -50,7 +50,7 @@ module _ {S : Type 0} (answer : LineAnswer S) (Legal : S → Type 0) where
     state-done = ran .state ∙ ap₂ (stateAfter answer) starts all-done
 
   module _ (text before middle after : List ℕ) (t : Tally) (n k : ℕ) (p s : S) (r : Reached S) (room : ℕ)
-      (starts : p ≡ s) (ran : Ran answer Legal text (linesOf text) n p t before middle r) (paced : Paced text 0 room n r)
+      (starts : p ≡ s) (ran : Ran answer scan Legal text (linesOf text) n p t before middle r) (paced : Paced text 0 room n r)
       (enough : longest * length (linesOf text) ≤ room) (put : after ≡ sets middle (r .written) (lineOf (tallyBytes (r .tally))))
       (size : k ≡ r .written + length (lineOf (tallyBytes (r .tally)))) where
     abbrev answers : List (List ℕ)

@@ -15,7 +15,7 @@ fn char_of(x: u8) -> u8
 }
 
 // x at a position, where there is one.
-fn store(out: &mut [u8], at: usize, x: u8)
+pub fn store(out: &mut [u8], at: usize, x: u8)
     ensures { λ _. ⌜ now (out .exit) ≡ set (now (out .entry)) at x ⌝ }
 {
     if at < out.len() {

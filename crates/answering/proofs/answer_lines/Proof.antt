@@ -31,18 +31,19 @@ use Rattle.replies.proofs.Replies.{rows-tell-none, reply-short}
 use Rattle.frames.specs.Reading.{tailOf}
 use Rattle.deciding.specs.Lines.{Framed, formulaAfter, setsFormula, LineStep, TouchStep}
 use Rattle.deciding.proofs.Arms.{framed, entered-touch, decided-step}
-use Rattle.answering.proofs.LineAnswers.{answer-legal, removed-step, touch-taken, touch-setters, entered-step, formulas-same, did}
+use Rattle.answering.specs.Scans.{lineScan}
+use Rattle.answering.proofs.LineAnswers.{removed-scan, no-scan, answer-legal, removed-step, touch-taken, touch-setters, entered-step, formulas-same, did}
 use Rattle.answering.proofs.Going.{Did, Going, start, line-done, finish-end, finish-full}
 use Rattle.answering.proofs.answer_lines.Statement.{statement}
 use Rattle.answering.proofs.answer_lines.Tie as tie
 
 abbrev Inv-loop : tie.InvT-loop
-Inv-loop text at₀ t₀ out₀ room q₀ formulas₀ values₀ n₀ rows₀ path₀ levels₀ others₀ reads₀ after₀ at t out q formulas values n rows path levels others reads after =
+Inv-loop text at₀ t₀ out₀ room q₀ formulas₀ values₀ n₀ scanned₀ rows₀ path₀ levels₀ others₀ reads₀ after₀ at t out q formulas values n scanned rows path levels others reads after =
     (length rows ≡ rowsLength) × (length path ≡ 64) × Tabled q levels others reads
-    × Going lineAnswer LegalSheet text at₀ room (sheetOf q₀ formulas₀ values₀) t₀ out₀ out (record { next = at; state = sheetOf q formulas values; tally = t; written = n })
+    × Going lineAnswer lineScan LegalSheet text at₀ room (sheetOf q₀ formulas₀ values₀) t₀ out₀ out (record { next = at; state = sheetOf q formulas values; tally = t; written = n; scanned = scanned })
 
 abbrev μ-loop : tie.MeasureT-loop
-μ-loop text at₀ t₀ out₀ room q₀ formulas₀ values₀ n₀ rows₀ path₀ levels₀ others₀ reads₀ after₀ at t out q formulas values n rows path levels others reads after =
+μ-loop text at₀ t₀ out₀ room q₀ formulas₀ values₀ n₀ scanned₀ rows₀ path₀ levels₀ others₀ reads₀ after₀ at t out q formulas values n scanned rows path levels others reads after =
     length text - at
 
 -- ---- the places: the line is read, and the link that its command names is known
@@ -91,7 +92,7 @@ fill-tables-requires : tie.Need-fill-tables-requires Inv-loop μ-loop
 fill-tables-requires c κs = (begin c .pre .0 .panel, refl, refl, refl)
 
 loop-holds : tie.Need-loop-holds Inv-loop μ-loop
-loop-holds c = (refl, refl, c .fill-tables .ensures, start _ _ _ _ _ _ _ _ (begin (c .before) .pre .0))
+loop-holds c = (refl, refl, c .fill-tables .ensures, start _ _ _ _ _ _ _ _ _ (begin (c .before) .pre .0))
 
 sub-if1 : tie.Need-sub-if1 Inv-loop μ-loop
 sub-if1 c = c .before .loop .inv .3 .fits
@@ -127,7 +128,7 @@ touches c =
 
 remove-requires : tie.Need-remove-requires Inv-loop μ-loop
 remove-requires c κs =
-    let k = removes (c .before .before .before) in
+    let k = removes (c .before .before .before .before) in
     let n = k .before .before in
     let l = looped n .loop .inv in
     (is-legal n .panel, l .2, named-at n ∙ ap (λ (x : Command). linkAt (looped n .loop .q .links) (numberOf x)) (k .command .given .1), l .1)
@@ -177,7 +178,7 @@ abbrev tail-at : tie.After-old Inv-loop μ-loop → List ℕ
 tail-at c = tailOf (read c .read-line .result)
 
 same-command : (c : tie.At-match-came Inv-loop μ-loop) → c .match .command ≡ command-of (c .before)
-same-command c = ⊎-elim (λ w. w .12 ∙ sym (w .1 .given .1)) (⊎-elim (λ w. w .25 ∙ sym (w .8 .given .1)) (λ w. w .12)) (c .match .came)
+same-command c = ⊎-elim (λ w. w .14 ∙ sym (w .1 .given .1)) (⊎-elim (λ w. w .26 ∙ sym (w .8 .given .1)) (λ w. w .13)) (c .match .came)
 
 stepped : (c : tie.At-match-came Inv-loop μ-loop)
     → let n = c .before in let m = c .match in LineStep (sheet-of n) (n .before .wide .result) (command-of n) (tail-at n) (m .path) (m .rows) (m .values) (m .step)
@@ -188,20 +189,20 @@ stepped c =
     subst (λ (k : ℕ). LineStep (sheet-of n) k (command-of n) (tail-at n) (m .path) (m .rows) (m .values) (m .step)) (sym (number-is n))
     (⊎-elim
     (λ w.
-    let path = w .7 .last .1 .1 .1 .1 .1 .1 .0 in
-    rw (w .8, w .9, w .10, w .13)
-    (subst (λ (x : Command). LineStep (sheet-of n) (numberOf x) x (tail-at n) path (l .rows) (l .values) (w .7 .result)) (sym (w .1 .given .1))
-    (removed-step (sheet-of n) _ _ _ _ (l .inv .0) _ (w .7 .ensures))))
+    let path = w .8 .last .1 .1 .1 .1 .1 .1 .0 in
+    rw (w .9, w .11, w .12, w .15)
+    (subst (λ (x : Command). LineStep (sheet-of n) (numberOf x) x (tail-at n) path (l .rows) (l .values) (w .8 .result)) (sym (w .1 .given .1))
+    (removed-step (sheet-of n) _ _ _ _ (l .inv .0) _ (w .8 .ensures .0))))
     (⊎-elim
     (λ w.
     let path = w .6 .last .1 .1 .1 .1 .1 .1 .0 in
     let rows = w .6 .last .1 .1 .1 .1 .1 .1 .1 .0 in
     let after = w .20 .last .1 .1 .1 .1 .1 .1 .1 .1 .0 in
     let t = entered-touch _ _ (tail-at n) _ _ _ (command-of n) _ _ (w .8 .given .1) (w .6 .ensures) in
-    rw (w .21, w .22, w .23, w .26)
+    rw (w .21, w .23, w .24, w .27)
     (subst (λ (x : Command). LineStep (sheet-of n) (numberOf x) x (tail-at n) path rows after (w .20 .result)) (sym (w .8 .given .1))
     (entered-step (sheet-of n) _ _ (tail-at n) path rows _ (toZ-ofZ (record { sfits = w .16 .ok }) ∙ w .16 .ensures) (t .rows-full) _ (t .decides) after _ (w .20 .ensures))))
-    (λ w. rw (w .8, w .9, w .10, w .13) (decided-step _ _ _ _ _ _ _ (command-of n) (w .0 .keys2) (w .7 .keys2) (w .6 .ensures) (l .formulas) (l .values))))
+    (λ w. rw (w .8, w .10, w .11, w .14) (decided-step _ _ _ _ _ _ _ (command-of n) (w .0 .keys2) (w .7 .keys2) (w .6 .ensures) (l .formulas) (l .values))))
     (m .came))
 
 abbrev after-of : tie.At-match-came Inv-loop μ-loop → Panel
@@ -267,8 +268,8 @@ element-copy-out-rule-after c = number-small (joined (c .before .before) .before
 rule-after-requires : tie.Need-rule-after-requires Inv-loop μ-loop
 rule-after-requires c κs = framed-at (joined (turned c) .before)
 
-mul-t92 : tie.Need-mul-t92 Inv-loop μ-loop
-mul-t92 c = omega (arith, number-small (joined (turned (c .before)) .before .before))
+mul-t94 : tie.Need-mul-t94 Inv-loop μ-loop
+mul-t94 c = omega (arith, number-small (joined (turned (c .before)) .before .before))
 
 element-set-from-formulas : tie.Need-element-set-from-formulas Inv-loop μ-loop
 element-set-from-formulas c = number-small (joined (turned (c .before)) .before .before)
@@ -293,6 +294,15 @@ line-does c =
     let m = joined j in
     let n = m .before in
     did (sheet-of n) (line-of n) _ (tail-at n) (read n .read-line .ensures .bytes) _ _ _ _ _ (stepped m) _ (taken j .panel) _ (rule-is c) (is-legal n)
+
+-- the scan of the line
+scans : (c : tie.At-match-came Inv-loop μ-loop) → c .match .scanned ≡ lineScan (sheet-of (c .before)) (line-of (c .before))
+scans c =
+    let n = c .before in
+    let framed = read n .read-line .ensures .bytes in
+    ⊎-elim (λ w. w .10 ∙ w .8 .ensures .1 ∙ removed-scan (sheet-of n) (line-of n) (command-of n) (tail-at n) framed _ (w .1 .given .1))
+    (⊎-elim (λ w. w .22 ∙ no-scan (sheet-of n) (line-of n) (command-of n) (tail-at n) framed (w .0 .keys2))
+    (λ w. w .9 ∙ no-scan (sheet-of n) (line-of n) (command-of n) (tail-at n) framed (w .0 .keys2))) (c .match .came)
 
 is-written : (j : tie.Joined2 Inv-loop μ-loop) → let m = joined j in wholeReply (m .match .command) (m .match .step .reply) (m .match .rows) ≡ reply-of j
 is-written j = let m = joined j in ap (λ (k : Command). wholeReply k (m .match .step .reply) (m .match .rows)) (same-command m)
@@ -335,10 +345,11 @@ loop-again c =
       stepped m .rows-full,
       stepped m .takes .path-of .full,
       taken j .tabled,
-      line-done _ _ _ _ _ _ _ _ _ _ (l .inv .3) (e .before .before .loop-test .taken) (leb-true _ _ (e .before .if1 .taken)) (e .line-end .result) (e .line-end .ensures)
+      line-done _ _ _ _ _ _ _ _ _ _ _ (l .inv .3) (e .before .before .loop-test .taken) (leb-true _ _ (e .before .if1 .taken)) (e .line-end .result) (e .line-end .ensures)
           (line-of n) refl _ _ (reply-of j) (line-does t)
           (w .0 ∙ ap (λ (b : List ℕ). sets (l .out) (l .n) (lineOf b)) (is-written j)) (w .1 ∙ ap (λ (b : List ℕ). l .n + length (lineOf b)) (is-written j))
-          (c .before .tallied-line .ensures ∙ ap (tallied (l .t)) (c .before .before .refusal-of .ensures ∙ rows-tell-none (command-of n) (m .match .step .reply) (m .match .rows))) (c .behind .ensures),
+          (c .before .tallied-line .ensures ∙ ap (tallied (l .t)) (c .before .before .refusal-of .ensures ∙ rows-tell-none (command-of n) (m .match .step .reply) (m .match .rows))) (c .behind .ensures)
+          (scans m),
     )
 
 same-length : tie.Need-same-length Inv-loop μ-loop
@@ -348,8 +359,8 @@ returns : tie.Need-returns Inv-loop μ-loop
 returns c =
     let l = c .before in
     rw (c .progress-of .ensures)
-    (⊎-elim (λ w. finish-full _ _ _ _ _ _ _ _ _ _ (l .before .loop .inv .3) (omega (arith, leb-false)))
-    (λ w. finish-end _ _ _ _ _ _ _ _ _ _ (l .before .loop .inv .3) (omega arith)) (l .loop-test .came))
+    (⊎-elim (λ w. finish-full _ _ _ _ _ _ _ _ _ _ _ (l .before .loop .inv .3) (omega (arith, leb-false)))
+    (λ w. finish-end _ _ _ _ _ _ _ _ _ _ _ (l .before .loop .inv .3) (omega arith)) (l .loop-test .came))
 
 pub answer-lines-spec : {M : Type 1} → statement M
 answer-lines-spec =
@@ -384,7 +395,7 @@ answer-lines-spec =
     mul-rule-after
     element-copy-out-rule-after
     rule-after-requires
-    mul-t92
+    mul-t94
     element-set-from-formulas
     slice-aggregate-put-reply
     put-reply-requires

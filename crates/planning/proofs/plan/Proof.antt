@@ -7,7 +7,7 @@ use mathlib.Core.List.{List}
 use native.Mathlib.Omega.{arith}
 use borrow.Author.Needs.{needs}
 use Rattle.fieldset.specs.Tables.{at}
-use Rattle.tables.proofs.Tables.{panel-acyclic, panel-among, panel-strengths}
+use Rattle.tables.proofs.Tables.{panel-acyclic, panel-among, panel-table, table-strengths}
 use Rattle.planning.proofs.Rows.{rows, Written, written-full, written-more}
 use Rattle.planning.proofs.Planned.{Listed, plan-listed, plan-closed, plan-done}
 use Rattle.planning.proofs.plan.Statement.{statement}
@@ -94,8 +94,8 @@ loop-again c =
     written-more (loop .loop .inv) _ _ (inside .loop-test .taken) (rw (listing (loop .before) .full) (low inside .0)) (c .before .before .wide .ensures)
     (c .put-row .ensures)
 
-cast-t30 : tie.Need-cast-t30 Inv-loop μ-loop
-cast-t30 c = omega (arith, start (c .before .before) .pre .0 .few)
+cast-t16 : tie.Need-cast-t16 Inv-loop μ-loop
+cast-t16 c = omega (arith, start (c .before .before) .pre .0 .few)
 
 returns-2 : tie.Need-returns-2 Inv-loop μ-loop
 returns-2 c =
@@ -104,7 +104,7 @@ returns-2 c =
     let opened = strong listed .before .before .before in
     let s = start listed in
     plan-done (s .args .p) _ _ _ _ _ (loop .loop .i) (s .pre .0) (omega (arith, opened .if1 .left))
-    (panel-strengths (s .args .p) (s .pre .0) _ _ _ (s .pre .1) _ _ refl (strong listed .strengths .ensures))
+    (table-strengths (s .args .p) _ _ (strong listed .strengths .ensures .0 ∙ panel-table (s .args .p) (s .pre .0) _ _ _ (s .pre .1) _))
     (listing listed) (loop .loop .inv) (c .loop-test .left)
 
 pub plan-spec : {M : Type 1} → statement M
@@ -125,5 +125,5 @@ plan-spec =
     add-i
     loop-less
     loop-again
-    cast-t30
+    cast-t16
     returns-2)

@@ -8,15 +8,16 @@ use lib.ListN.{length}
 use mathlib.Core.Logic.{⊎-elim, inl, inr}
 use native.Mathlib.Omega.{arith}
 use borrow.Author.Needs.{needs}
-use Rattle.panel.specs.declared.Standing.the-variants.{Holding}
+use Rattle.panel.specs.declared.Standing.the-variants.{Waiting, Holding}
 use Rattle.panel.specs.Steps.{removeStep}
 use Rattle.panel.specs.Commands.{removing, performed}
 use Rattle.panel.proofs.Outcomes.{decides-refused}
 use Rattle.tables.proofs.Settings.{places}
 use Rattle.reversal.specs.Reversals.{HeldField}
 use Rattle.reversal.proofs.Verdicts.{no-loop}
-use Rattle.removing.proofs.Dropped.{Held, held-small, of-field, Choice, choice}
-use Rattle.removing.proofs.Removed.{old-standing, remove-refused, remove-passes, remove-waiting, rest-acyclic, stepped-strengths, undecided, Judged, remove-looped, remove-reversed}
+use Rattle.scanning.specs.Scan.{Finds}
+use Rattle.scanning.proofs.Dropped.{held-small}
+use Rattle.removing.proofs.Removed.{old-standing, remove-refused, remove-passes, count-refused, count-standing, remove-waiting, Removal, q, of-field, Choice, choice, scan-counts, scan-finds, undecided, Judged, remove-looped, remove-reversed}
 use Rattle.removing.proofs.remove.Statement.{statement}
 use Rattle.removing.proofs.remove.Tie as tie
 
@@ -30,48 +31,51 @@ passed c =
     let s = start c in
     remove-passes (s .args .p) (s .args .id) (s .args .old) (s .pre .2) _ (c .before .before .check-remove .ensures) _ (c .enum-told2 .given .1)
 
-abbrev begin : tie.After-wide → tie.Start
-begin c = start (c .before .before .before .before)
+-- the field that the link holds is told
+abbrev told : tie.After-wide → tie.After-s
+told c = c .before .before .before .before .before
 
-held : (c : tie.After-wide) → let s = begin c .args in
-    Held (s .p) (s .id) (c .wide .result) (s .levels .now) (s .others .now) (s .reads .now)
-held c =
-    let told = c .before .before in
+abbrev begin : tie.After-wide → tie.Start
+begin c = start (told c .before .before)
+
+removal : (c : tie.After-wide) → let s = begin c .args in
+    Removal (s .p) (s .id) (c .wide .result) (s .levels .now) (s .others .now) (s .reads .now)
+removal c =
     let s = begin c in
-    let (small, step) = passed (told .before .before) in
+    let (small, step) = passed (told c .before .before) in
     record {
-      legal = s .pre .0;
-      tabled = s .pre .1;
-      small = small;
-      holds = old-standing (s .args .p) (s .pre .0) (s .args .id) small _ (s .pre .2) ∙ told .s .given .1 ∙ ap Holding (sym (c .wide .ensures));
+      held = record {
+        legal = s .pre .0;
+        tabled = s .pre .1;
+        small = small;
+        holds = old-standing (s .args .p) (s .pre .0) (s .args .id) small _ (s .pre .2) ∙ told c .s .given .1 ∙ ap Holding (sym (c .wide .ensures));
+      };
       step = step;
     }
 
--- ---- the places: the tables copied, the stay that sets the field, the scan, the verdict on what it finds
+-- ---- the places: the scan, and the verdict on what it finds
 
-abbrev copied : tie.After-reading → tie.After-wide
+abbrev copied : tie.After-table → tie.After-wide
 copied c = c .before .before .before .before
 
-abbrev stay-in : tie.After-strengths → tie.After-wide
-stay-in c = copied (c .before .before .before .before)
-
-abbrev scan : tie.After-struct-known → tie.After-strengths
-scan c = c .before .before .before .before .before
+abbrev scan : tie.After-struct-known → tie.After-scan-without
+scan c = c .before .before
 
 abbrev field : tie.After-struct-known → tie.After-wide
-field c = stay-in (scan c)
+field c = copied (scan c .before)
 
 abbrev blocked : tie.After-top-of → tie.After-struct-known
 blocked c = c .before .before .before
 
-chosen : (c : tie.After-struct-known) → let b = c .before .choose .result in Choice (held (field c)) (b .number) (b .outputs) (b .covered)
-chosen c =
-    let choosing = c .before in
-    let scanned = choosing .before in
-    choice (held (field c)) (choosing .choose .result) (scanned .find-blocked .result) (choosing .choose .ensures) (scanned .find-blocked .ensures)
+-- what the scan finds
+finds : (c : tie.After-scan-without) → Finds (q (removal (copied (c .before)))) (c .scan-without .result .blocked)
+finds c = let e = c .scan-without .ensures in scan-finds (removal (copied (c .before))) refl (e .0) (e .1)
 
-judged : (c : tie.Joined1) → let k = c .before in let b = k .before .choose .result in
-    Judged (held (field k)) _ _ refl (scan k .strengths .ensures) (b .number) (b .outputs) (b .covered) (chosen k) (c .if1 .path) (c .if1 .verdict)
+chosen : (c : tie.After-struct-known) → let b = c .before .choose .result in Choice (removal (field c)) (b .number) (b .outputs) (b .covered)
+chosen c = let k = c .before in choice (removal (field c)) (k .choose .result) (scan c .scan-without .result .blocked) (k .choose .ensures) (finds (scan c))
+
+judged : (c : tie.Joined1) → let k = c .before in let b = k .before .choose .result in let e = scan k .scan-without .ensures in
+    Judged (removal (field k)) refl (e .0) (e .1) (b .number) (b .outputs) (b .covered) (chosen k) (c .if1 .path) (c .if1 .verdict)
 judged c =
     ⊎-elim
     (λ w. let (some, _, top, _, _, _, _, _, _, decided, path-is, verdict-is) = w in
@@ -83,11 +87,14 @@ judged c =
 
 returns : tie.Need-returns
 returns c =
-    let told = c .before .before in
-    let checked = told .before .before in
+    let refuses = c .before .before in
+    let checked = refuses .before .before in
     let s = checked .before .before in
-    decides-refused (s .args .p) _ _ _ (removing (s .args .id)) _ (s .pre .3) _ _ (s .pre .2) (told .enum-told .given .1)
-    (remove-refused (s .args .p) (s .args .id) _ (s .pre .2) _ (checked .check-remove .ensures) _ (told .enum-told .given .1)) (c .unchanged .ensures)
+    let e = refuses .enum-told .given .1 in (
+      decides-refused (s .args .p) _ _ _ (removing (s .args .id)) _ (s .pre .3) _ _ (s .pre .2) e
+          (remove-refused (s .args .p) (s .args .id) _ (s .pre .2) _ (checked .check-remove .ensures) _ e) (c .unchanged .ensures),
+      sym (count-refused (s .args .p) (s .pre .0) (s .args .id) _ (s .pre .2) _ (checked .check-remove .ensures) _ e),
+    )
 
 step-of-requires : tie.Need-step-of-requires
 step-of-requires c κs =
@@ -99,78 +106,64 @@ returns-2 c =
     let waits = c .before .before .before in
     let e = waits .before .before in
     let s = start e in
-    let (small, step) = passed e in
-    remove-waiting (s .args .p) (s .pre .0) (s .args .id) small _ _ _ _ (s .pre .3) (s .pre .2) (c .before .no-link .ensures) (waits .enum-told3 .given .1) step
-    (c .step-of .ensures)
+    let (small, step) = passed e in (
+      remove-waiting (s .args .p) (s .pre .0) (s .args .id) small _ _ _ _ (s .pre .3) (s .pre .2) (c .before .no-link .ensures) (waits .enum-told3 .given .1) step
+          (c .step-of .ensures),
+      sym (count-standing (s .args .p) (s .pre .0) (s .args .id) Waiting (old-standing (s .args .p) (s .pre .0) (s .args .id) small _ (s .pre .2) ∙ waits .enum-told3 .given .1)),
+    )
 
-array-write-setter : tie.Need-array-write-setter
-array-write-setter c = held-small (held (copied c))
-
-array-read-fresh : tie.Need-array-read-fresh
-array-read-fresh c = held-small (held (copied c))
-
-add-fresh : tie.Need-add-fresh
-add-fresh c =
-    let x = held (copied c) in
-    omega (arith, places _ (x .legal) (copied c .wide .result) (held-small x))
-
-array-write-fresh : tie.Need-array-write-fresh
-array-write-fresh c = held-small (held (copied c))
-
-array-write-outs : tie.Need-array-write-outs
-array-write-outs c = held-small (held (copied c))
-
-array-write-reading : tie.Need-array-write-reading
-array-write-reading c = held-small (held (copied c))
-
-strengths-requires : tie.Need-strengths-requires
-strengths-requires c κs = (rest-acyclic (held (copied (c .before .before .before))), refl)
-
-find-blocked-requires : tie.Need-find-blocked-requires
-find-blocked-requires c κs =
-    let strong = c .before .before in
-    let x = held (stay-in strong) in
-    (x .legal, stepped-strengths x _ _ refl (strong .strengths .ensures))
+scan-without-requires : tie.Need-scan-without-requires
+scan-without-requires c κs =
+    let x = removal (copied c) .held in
+    let v = held-small x in
+    (x .legal, x .tabled, v, omega (arith, x .legal .holding-sets _ _ (x .small) (x .holds), x .small), refl)
 
 choose-requires : tie.Need-choose-requires
-choose-requires c κs = of-field (held (stay-in (c .before .before .before))) (c .find-blocked .result) (c .find-blocked .ensures)
+choose-requires c κs = of-field (removal (copied (c .before))) (c .scan-without .result .blocked) (finds c)
 
 below-requires : tie.Need-below-requires
-below-requires c κs = held (field (blocked (c .before .before .before))) .legal .few
+below-requires c κs = removal (field (blocked (c .before .before .before))) .held .legal .few
 
 decide-requires : tie.Need-decide-requires
 decide-requires c κs =
     let all = c .before .before in
     let top = all .before .before .before .before in
     let k = blocked top in
-    undecided (held (field k)) _ _ refl (scan k .strengths .ensures) _ _ _ (chosen k) _ _ _ (all .below .ensures) (top .before .before .if1 .taken)
+    let e = scan k .scan-without .ensures in
+    undecided (removal (field k)) refl (e .0) (e .1) _ _ _ (chosen k) _ _ _ (all .below .ensures) (top .before .before .if1 .taken)
     (top .top-of .ensures) (begin (field k) .pre .3)
 
 unchanged-requires-2 : tie.Need-unchanged-requires-2
-unchanged-requires-2 c κs = held (field (c .before .before .before .before)) .legal .place-length
+unchanged-requires-2 c κs = removal (field (c .before .before .before .before)) .held .legal .place-length
 
 returns-3 : tie.Need-returns-3
 returns-3 c =
-    let told = c .before .before in
-    let j = told .before .before in
+    let refuses = c .before .before in
+    let j = refuses .before .before in
     let k = j .before in
-    remove-looped (held (field k)) _ _ refl (scan k .strengths .ensures) _ _ _ (chosen k) _ _ (judged j) _ _ (begin (field k) .pre .2)
-    (told .enum-told4 .given .1) (c .unchanged2 .ensures)
+    let e = scan k .scan-without .ensures in (
+      remove-looped (removal (field k)) refl (e .0) (e .1) _ _ _ (chosen k) _ _ (judged j) _ _ (begin (field k) .pre .2)
+          (refuses .enum-told4 .given .1) (c .unchanged2 .ensures),
+      scan-counts (removal (field k)) refl (e .0) (e .1),
+    )
 
 step-of-requires-2 : tie.Need-step-of-requires-2
 step-of-requires-2 c κs =
     let w = field (c .before .before .before .before) in
-    (held w .legal .place-length, omega (arith, held-small (held w), w .wide .ensures))
+    (removal w .held .legal .place-length, omega (arith, held-small (removal w .held), w .wide .ensures))
 
 returns-4 : tie.Need-returns-4
 returns-4 c =
     let dropped = c .before in
-    let told = dropped .before .before in
-    let j = told .before in
+    let goes = dropped .before .before in
+    let j = goes .before in
     let k = j .before in
     let w = field k in
-    remove-reversed (held w) _ _ refl (scan k .strengths .ensures) _ _ _ (chosen k) _ _ (judged j) _ _ _ (dropped .no-link2 .ensures) (w .wide .ensures)
-    (no-loop _ (told .match3 .keys2)) (c .step-of2 .ensures)
+    let e = scan k .scan-without .ensures in (
+      remove-reversed (removal w) refl (e .0) (e .1) _ _ _ (chosen k) _ _ (judged j) _ _ _ (dropped .no-link2 .ensures) (w .wide .ensures)
+          (no-loop _ (goes .match3 .keys2)) (c .step-of2 .ensures),
+      scan-counts (removal w) refl (e .0) (e .1),
+    )
 
 pub remove-spec : {M : Type 1} → statement M
 remove-spec =
@@ -187,16 +180,7 @@ remove-spec =
     step-of-requires
     returns-2
     (λ c κs. search needs)
-    array-write-setter
-    array-read-fresh
-    add-fresh
-    array-write-fresh
-    (λ c. search needs)
-    array-write-outs
-    (λ c. search needs)
-    array-write-reading
-    strengths-requires
-    find-blocked-requires
+    scan-without-requires
     choose-requires
     (λ c κs. search needs)
     below-requires

@@ -1,4 +1,4 @@
--- `scanning::find_blocked` meets its contract. Each loop's invariant (`Scanned`): what is found is the first of least level among the blocked items
+-- `scanning::find_blocked` meets its contract. Each loop's invariant (`Looked`): what is found is the first of least level among the blocked items
 -- passed, the links up to i, then all links and the stays up to f, and `least` is its level; the measures are how many are left. An item is taken
 -- (`scan-takes`), left as not blocked (`scan-leaves`) or passed over by its level (`scan-keeps`). In the list the links come before
 -- the stays.
@@ -13,18 +13,18 @@ use Rattle.panel.specs.Items.{link, stay}
 use Rattle.panel.specs.Solution.{level}
 use Rattle.scanning.specs.Scan.{withSetters}
 use Rattle.scanning.proofs.Over.{link-blocked, link-level, stay-over, stay-under, stay-sets}
-use Rattle.scanning.proofs.Scan.{Scanned, scan-none, scan-takes, scan-leaves, scan-keeps, firstLinks, firstStays, next-link, next-stay, stays-start, scan-done}
+use Rattle.scanning.proofs.Scan.{Looked, scan-none, scan-takes, scan-leaves, scan-keeps, firstLinks, firstStays, next-link, next-stay, stays-start, scan-done}
 use Rattle.scanning.proofs.find_blocked.Statement.{statement}
 use Rattle.scanning.proofs.find_blocked.Tie as tie
 
 abbrev Inv-loop : tie.InvT-loop
-Inv-loop setter table p found₀ least₀ i₀ found least i = (i ≤ 128) × Scanned (withSetters p setter) (firstLinks i) found least
+Inv-loop setter table p found₀ least₀ i₀ found least i = (i ≤ 128) × Looked (withSetters p setter) (firstLinks i) found least
 
 abbrev μ-loop : tie.MeasureT-loop
 μ-loop setter table p found₀ least₀ i₀ found least i = 128 - i
 
 abbrev Inv-loop2 : tie.InvT-loop2
-Inv-loop2 setter table p found₀ least₀ i n f₀ found least f = (f ≤ n) × Scanned (withSetters p setter) (firstStays f) found least
+Inv-loop2 setter table p found₀ least₀ i n f₀ found least f = (f ≤ n) × Looked (withSetters p setter) (firstStays f) found least
 
 abbrev μ-loop2 : tie.MeasureT-loop2
 μ-loop2 setter table p found₀ least₀ i n f₀ found least f = n - f

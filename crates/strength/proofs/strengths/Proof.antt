@@ -1,54 +1,86 @@
--- `strength::strengths` meets its contract. Once the levels are entered the table has the strengths of the fields whose setters have no other output:
--- with these known, `fill` is asked for the others (`listed-asks`), and leaves the strengths of all fields below n (`listed`).
-use Prim.Native.Nat.{ℕ}
-use mathlib.Core.Path.{_≡_, ap, _∙_}
+-- `strength::strengths` meets its contract. The loop's invariant is `Begun`: of the fields looked at, those are known whose setters have no other
+-- output; its measure is how many are left. With these known, `fill` is asked for the others (`rest-asks`), and leaves the strengths of all fields
+-- below n (`listed`), each counted once (`all-counted`).
+use Prim.Native.Nat.{ℕ, _+_, _-_, _≤_}
+use mathlib.Core.Path.{_≡_, ap, _∙_, subst}
+use mathlib.Core.Logic.{⊎-elim}
+use native.Mathlib.Omega.{arith}
+use lib.ListN.{length}
 use Rattle.fieldset.specs.Fields.{below, minus}
-use Rattle.strength.proofs.Gather.{listed-asks, listed}
+use Rattle.fieldset.proofs.Fields.{size-le}
+use Rattle.strength.proofs.Gather.{Begun, none-begun, next-left, next-alone, rest-asks, all-counted, listed}
 use Rattle.strength.proofs.strengths.Statement.{statement}
 use Rattle.strength.proofs.strengths.Tie as tie
 
--- ---- the places: the levels are entered, and the fields whose setters have other outputs are found
+abbrev Inv-loop : tie.InvT-loop
+Inv-loop levels others n table₀ known₀ count₀ v₀ table known count v = (v ≤ n) × Begun levels others table₀ table v known count
 
-abbrev found : tie.After-minus → tie.After-nonempty
-found m = m .before .before
+abbrev μ-loop : tie.MeasureT-loop
+μ-loop levels others n table₀ known₀ count₀ v₀ table known count v = n - v
 
-abbrev entered : tie.After-nonempty → tie.After-enter-levels
-entered r = r .before
+loop-holds : tie.Need-loop-holds Inv-loop μ-loop
+loop-holds c = (omega arith, none-begun (c .pre .1))
 
-abbrev start : tie.After-nonempty → tie.Start
-start r = r .before .before .before
+add-count : tie.Need-add-count Inv-loop μ-loop
+add-count c = let l = c .before .before .before .before .loop in omega (arith, l .inv .1 .counted, size-le (l .known))
 
--- the fields whose setters have no other output
-known : (m : tie.After-minus) → let r = found m in m .minus .result ≡ minus (below (start r .args .n)) (r .nonempty .result)
-known m = m .minus .ensures ∙ ap (λ (k : ℕ). minus k (found m .nonempty .result)) (m .before .below .ensures)
+loop-again : tie.Need-loop-again Inv-loop μ-loop
+loop-again c =
+    let l = c .before .before .before .loop in (
+      omega arith,
+      ⊎-elim (λ w. rw (w .3, w .4, w .5, w .2 .ensures) (next-alone (l .inv .1) (omega arith) (w .0 .taken)))
+          (λ w. rw (w .1, w .2, w .3) (next-left (l .inv .1))) (c .if1 .came),
+    )
 
--- ---- the needs
+-- all fields are looked at, and the set of the others is found
+abbrev looked : tie.After-minus Inv-loop μ-loop → tie.At-loop Inv-loop μ-loop
+looked m = m .before .before .before .before
 
-enter-levels-requires : tie.Need-enter-levels-requires
-enter-levels-requires c κs = (c .before .pre .0 .few, c .before .pre .1)
+begun : (m : tie.After-minus Inv-loop μ-loop) → let l = looked m .loop in let a = looked m .before .args in
+    Begun (a .levels .now) (a .others .now) (a .table .now) (l .table) (a .n) (l .known) (l .count)
+begun m =
+    let l = looked m .loop in
+    let a = looked m .before .args in
+    let end : l .v ≡ a .n = omega arith in
+    subst (λ (v : ℕ). Begun (a .levels .now) (a .others .now) (a .table .now) (l .table) v (l .known) (l .count)) end (l .inv .1)
 
-nonempty-requires : tie.Need-nonempty-requires
-nonempty-requires c κs = c .before .before .pre .0 .few
+rest-is : (m : tie.After-minus Inv-loop μ-loop) → m .minus .result ≡ minus (below (looked m .before .args .n)) (looked m .loop .known)
+rest-is m = m .minus .ensures ∙ ap (λ (k : ℕ). minus k (looked m .loop .known)) (m .before .below .ensures)
 
-below-requires : tie.Need-below-requires
-below-requires c κs = start c .pre .0 .few
+fill-requires : tie.Need-fill-requires Inv-loop μ-loop
+fill-requires c κs = rest-asks (looked c .before .pre .0) (begun c) (rest-is c)
 
-minus-requires : tie.Need-minus-requires
-minus-requires c κs = tt
+add-result : tie.Need-add-result Inv-loop μ-loop
+add-result c =
+    let m = c .before .before in
+    let A = looked m .before .pre .0 in
+    omega (arith, all-counted A (begun m) (rest-is m) (c .before .fill .ensures), A .few)
 
-fill-requires : tie.Need-fill-requires
-fill-requires c κs =
-    let m = c .before in
-    let r = found m in
-    let p = start r .pre in
-    listed-asks _ _ (p .0) (r .nonempty .ensures) (known m) (p .1) (entered r .enter-levels .ensures)
-
-returns : tie.Need-returns
+returns : tie.Need-returns Inv-loop μ-loop
 returns c =
     let m = c .before .before in
-    let r = found m in
-    let p = start r .pre in
-    listed _ _ (p .0) (r .nonempty .ensures) (known m) (p .1) (entered r .enter-levels .ensures) (c .fill .ensures)
+    let s = looked m .before in
+    let F = c .before .fill .ensures in
+    (listed (s .pre .0) (begun m) (rest-is m) F (s .pre .1), all-counted (s .pre .0) (begun m) (rest-is m) F)
 
 pub strengths-spec : {M : Type 1} → statement M
-strengths-spec = tie.close (tie.spec enter-levels-requires nonempty-requires below-requires minus-requires fill-requires returns)
+strengths-spec =
+    tie.close
+    (tie.spec
+    Inv-loop
+    μ-loop
+    loop-holds
+    (λ c. omega arith)
+    (λ c. omega arith)
+    (λ c. omega arith)
+    (λ c. omega arith)
+    add-count
+    (λ c κs. omega arith)
+    (λ c. omega arith)
+    (λ c. omega arith)
+    loop-again
+    (λ c κs. c .before .before .before .pre .0 .few)
+    (λ c κs. tt)
+    fill-requires
+    add-result
+    returns)

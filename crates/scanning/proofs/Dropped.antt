@@ -18,14 +18,15 @@ use Rattle.fieldset.specs.Tables.{at}
 use Rattle.fieldset.specs.Fields.{member, without}
 use Rattle.fieldset.proofs.Numbers.{clash, any-cong}
 use Rattle.fieldset.proofs.Fields.{without-only}
+use Rattle.fieldset.proofs.Maps.{tableOf}
+use Rattle.strength.specs.Strength.{strength}
+use Rattle.strength.specs.Filling.{Acyclic}
 use Rattle.panel.specs.declared.Standing.the-variants.{Holding}
 use Rattle.panel.specs.declared.Link.{Link}
 use Rattle.panel.specs.declared.Panel.{Panel}
 use Rattle.panel.specs.Items.{Item, link, stay, noLink, linkAt, itemOf, setterOf, outputsOf, isInForce, isWaiting, itemsOf}
 use Rattle.panel.specs.Panels.{withLink, freed, dropped}
 use Rattle.panel.specs.Solution.{level, setterLevel, setterOthers, strengthOf, isBlocked, lesser, least, leastBlocked}
-use Rattle.panel.specs.Steps.{removeStep}
-use Rattle.panel.specs.Commands.{removing, performed}
 use Rattle.panel.specs.Legal.{Legal}
 use Rattle.panel.proofs.InForce.{unused-off}
 use Rattle.panel.proofs.Reversed.{numberOf, setter-stay, setter-number, link-here, link-there}
@@ -33,15 +34,12 @@ use Rattle.panel.proofs.Setters.{reads-there, waits-force}
 use Rattle.panel.proofs.Reversal.{blocking}
 use Rattle.panel.proofs.Performed.{least-passes}
 use Rattle.panel.proofs.Changes.{legal-dropped}
-use Rattle.tables.specs.Tables.{Tabled}
+use Rattle.tables.specs.Tables.{Tabled, StrengthsOf}
 use Rattle.tables.proofs.Settings.{same-setting, tabled-set}
-use Rattle.tables.proofs.Tables.{strength-same}
+use Rattle.tables.proofs.Tables.{strength-same, panel-acyclic, panel-table, table-strengths}
 use Rattle.scanning.specs.declared.Blocked.{Blocked}
 use Rattle.scanning.specs.declared.Blocked.the-variants.{Nothing, Link as ALink, Stay as AStay}
-use Rattle.scanning.specs.Scan.{withSetters, Finds}
-use Rattle.reversal.proofs.ReadFields.{coverOf}
-use Rattle.removing.specs.declared.Chosen.{Chosen}
-use Rattle.removing.specs.Choice.{OfField, chosenOf}
+use Rattle.scanning.specs.Scan.{withSetters, Finds, Scanned}
 
 -- two levels that agree on the items that pass
 least-same : (q : Item → Bool) (lev lev′ : Item → ℕ) → ((d : Item) → q d ≡ true → lev d ≡ lev′ d) → (cs : List Item) → least q lev cs ≡ least q lev′ cs
@@ -64,13 +62,12 @@ sets-holds p h id f small l e = subst (λ (i : ℕ). linkAt (p .links) i .standi
 pub field-small : (p : Panel) → Legal p → (id v : ℕ) → id < 128 → linkAt (p .links) id .standing ≡ Holding v → v < 64
 field-small p h id v small holds = omega (arith, h .few, h .holding-field id v small holds)
 
--- a removal of a link that holds v passes its checks
+-- the link of a number holds v
 pub record Held (p : Panel) (id v : ℕ) (levels others reads : List ℕ) : Type 0 where
   pub legal : Legal p
   pub tabled : Tabled p levels others reads
   pub small : id < 128
   pub holds : linkAt (p .links) id .standing ≡ Holding v
-  pub step : performed p (removing id) ≡ removeStep p id
 
 module _ {p : Panel} {id v : ℕ} {levels others reads : List ℕ} (x : Held p id v levels others reads) where
   h : Legal p
@@ -177,27 +174,33 @@ module _ {p : Panel} {id v : ℕ} {levels others reads : List ℕ} (x : Held p i
   unfolding leastBlocked
   found-blocked d e = least-passes (isBlocked rest) (level rest) (itemsOf (p .size)) d e
 
-  pub of-field : (b : Blocked) → Finds stepped b → OfField b
-  of-field Nothing e = tt
-  of-field (ALink i l) e = tt
-  of-field (AStay f) e =
-      let w = blocking rest (stay f) (found-blocked (stay f) (sym found-kept ∙ e)) .waits-now in
-      omega (arith, h .few, ltb-true f (p .size) (waits-force (p .size) (rest .links) (rest .setter) (stay f) w))
+  -- what is found in the one is found in the other
+  pub finds-kept : (b : Blocked) → Finds stepped b → Finds rest b
+  finds-kept Nothing e = sym found-kept ∙ e
+  finds-kept (ALink i l) (e, is) =
+      let found : leastBlocked rest ≡ some (link i) = sym found-kept ∙ e in
+      (found, is ∙ sym (link-there (p .links) id i noLink (λ d. blocked-other (link i) (found-blocked (link i) found) (ap link d))))
+  finds-kept (AStay f) e = sym found-kept ∙ e
 
-  -- what is chosen, by its number as a setter, its outputs and covered fields: nothing, or an item
-  abbrev pub Choice : ℕ → ℕ → ℕ → Type 0
-  Choice number outputs covered =
-      ((leastBlocked rest ≡ none) × (outputs ≡ 0))
-      ⊎ (d : Item) × (leastBlocked rest ≡ some d) × (number ≡ numberOf d) × (outputs ≡ outputsOf (rest .links) d) × (covered ≡ coverOf (rest .links) d)
+  -- the tables with the stay of v are those of the panel without the link: its strengths are those that the scan reads
+  pub rest-acyclic : Acyclic (set others v 0) (p .size)
+  rest-acyclic = panel-acyclic rest legal-rest _ _ _ tabled-rest
 
-  pub choice : (w : Chosen) (b : Blocked) → w ≡ chosenOf b → Finds stepped b → Choice (w .number) (w .outputs) (w .covered)
-  choice w b e finds = subst (λ (w : Chosen). Choice (w .number) (w .outputs) (w .covered)) (sym e) (go b finds)
-    where
-      go : (b : Blocked) → Finds stepped b → Choice (chosenOf b .number) (chosenOf b .outputs) (chosenOf b .covered)
-      go Nothing e = inl (sym found-kept ∙ e, refl)
-      go (ALink i l) (e, is) =
-          let found : leastBlocked rest ≡ some (link i) = sym found-kept ∙ e in
-          let same : l ≡ linkAt (rest .links) i =
-          is ∙ sym (link-there (p .links) id i noLink (λ d. blocked-other (link i) (found-blocked (link i) found) (ap link d))) in
-          inr (link i, found, refl, ap (λ (y : Link). y .outputs) same, ap (λ (y : Link). y .covered) same)
-      go (AStay f) e = inr (stay f, sym found-kept ∙ e, refl, refl, refl)
+  module _ (table before : List ℕ)
+      (is : table ≡ tableOf (strength (at (set levels v (16 + at (p .place) v))) (at (set others v 0)) (p .size)) (p .size) before) where
+    rest-table : table ≡ tableOf (strengthOf rest) (p .size) before
+    rest-table = is ∙ panel-table rest legal-rest _ _ _ tabled-rest before
+
+    pub stepped-strengths : StrengthsOf stepped table
+    stepped-strengths f l = table-strengths rest table before rest-table f l ∙ sym (strength-kept f (omega (arith, h .few)))
+
+    pub scanned : (worked : ℕ) → worked ≡ p .size → (b : Blocked) → Finds stepped b → Scanned (dropped p id) before table b worked
+    scanned worked n b finds =
+        subst (λ (q : Panel). Scanned q before table b worked) (sym dropped-rest) (record { strengths = rest-table; once = n; finds = finds-kept b finds })
+
+  pub tabled-dropped : Tabled (dropped p id) (set levels v (16 + at (p .place) v)) (set others v 0) (set reads v 0)
+  tabled-dropped = subst (λ (q : Panel). Tabled q (set levels v (16 + at (p .place) v)) (set others v 0) (set reads v 0)) (sym dropped-rest) tabled-rest
+
+  -- the link is that which sets v
+  pub dropped-setter : dropped p (at (p .setter) v) ≡ rest
+  dropped-setter = ap (dropped p) (h .holding-sets id v (x .small) (x .holds)) ∙ dropped-rest
