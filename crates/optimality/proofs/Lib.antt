@@ -11,7 +11,6 @@ pub mod Held
 pub mod Optimum
 pub mod Paths
 pub mod Agreement
-pub mod Least
 pub mod Answers
 pub mod Steps
 pub mod Removing

@@ -29,10 +29,10 @@ use Rattle.panel.proofs.Setters.{setter-reads-inside}
 use Rattle.panel.proofs.Reversal.{blocking, route-for, route-carrying, legal-waits}
 use Rattle.panel.proofs.Changes.{add-enters, legal-add, legal-dropped, legal-front}
 use Rattle.panel.proofs.Checks.{newLink, addable, removable, touchable, checked-step}
+use Rattle.panel.proofs.Least.{Least, least-blocked}
 use Rattle.optimality.specs.Condition3.{AfterEveryList, panels, start}
 use Rattle.optimality.specs.Refusals.{checksOf, Reversal, reversing, entering, settling, dropping, reversal, reversedPanel, Loops, LoopExactly}
 use Rattle.optimality.proofs.Graphs.{settersOf}
-use Rattle.optimality.proofs.Least.{Least, least-blocked}
 use Rattle.optimality.proofs.Answers.{pick, Outcome, no, yes, Any, Not, not-given}
 use Rattle.optimality.proofs.Runs.{after-sound}
 

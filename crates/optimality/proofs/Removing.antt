@@ -30,6 +30,7 @@ use Rattle.panel.proofs.Legal.{LegalBut}
 use Rattle.panel.proofs.Setters.{waits-idle}
 use Rattle.panel.proofs.Reversal.{blocking, startOf, legal-waits}
 use Rattle.panel.proofs.Changes.{Aside, none-aside, legal-aside}
+use Rattle.panel.proofs.Least.{Least, least-blocked, item-listed}
 use Rattle.optimality.specs.Condition3.{Store, entry}
 use Rattle.optimality.specs.Agreement.{Agrees, Sound}
 use Rattle.optimality.proofs.Setters.{Graph, Waits, Free, Unblocked}
@@ -38,7 +39,6 @@ use Rattle.optimality.proofs.Removal.{struck-potential, removal-unblock
 use Rattle.optimality.proofs.Graphs.{graphOf, settersOf, legal-whole, strength-least, none-unblocked, free-unblocked, unblocked-free, blocked-waits}
 use Rattle.optimality.proofs.Paths.{path-start, path-reversible}
 use Rattle.optimality.proofs.Agreement.{agrees-link}
-use Rattle.optimality.proofs.Least.{Least, least-blocked, item-listed}
 use Rattle.optimality.proofs.Steps.{SoundAfter, reverse-sound, there, link-none}
 
 -- a link is replaced by one that is not in force, of no higher level and no other outputs

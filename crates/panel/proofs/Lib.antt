@@ -7,6 +7,7 @@ pub mod Setters
 pub mod Reversal
 pub mod Changes
 pub mod Checks
+pub mod Least
 pub mod Performed
 pub mod Outcomes
 pub mod Moved

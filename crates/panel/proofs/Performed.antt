@@ -8,7 +8,7 @@ use mathlib.Core.Option.{Option, none, some}
 use mathlib.Core.Logic.{_⊎_, inl, inr}
 use native.Mathlib.Omega.{arith}
 use borrow.Author.Tests.{eqb-false}
-use lib.Dec.{eqb, leb}
+use lib.Dec.{eqb}
 use Rattle.fieldset.proofs.Numbers.{clash}
 use Rattle.panel.specs.declared.Standing.{Standing}
 use Rattle.panel.specs.declared.Standing.the-variants.{Waiting, Holding}
@@ -18,7 +18,7 @@ use Rattle.panel.specs.declared.Refusal.the-variants.{Conflict, Loop}
 use Rattle.panel.specs.Items.{Item, link, stay, linkAt, itemsOf}
 use Rattle.panel.specs.Answers.{Answer, isRefusal, refused}
 use Rattle.panel.specs.Panels.{opened, withLink, dropped, toFront}
-use Rattle.panel.specs.Solution.{level, isBlocked, pathFor, reversed, lesser, least, leastBlocked, isLooped}
+use Rattle.panel.specs.Solution.{level, isBlocked, pathFor, reversed, leastBlocked, isLooped}
 use Rattle.panel.specs.Steps.{accepted, reverseStep, openStep, enterStep, addStep, settled, dropStep, removeStep, touchStep, planStep}
 use Rattle.panel.specs.Commands.{coveredIn, outputsIn, Check, checked, Passes, openChecks, addChecks, removeChecks, touchChecks, planChecks, Command, opening, adding, removing, touching, planning, performed}
 use Rattle.panel.specs.Legal.{Legal}
@@ -27,6 +27,7 @@ use Rattle.panel.proofs.Legal.{LegalBut}
 use Rattle.panel.proofs.Reversal.{blocking, legal-waits, legal-reversed}
 use Rattle.panel.proofs.Changes.{legal-opened, Enters, add-enters, legal-add, legal-but, legal-dropped, legal-front}
 use Rattle.panel.proofs.Checks.{checked-panel, newLink, addable, removable, touchable, openable}
+use Rattle.panel.proofs.Least.{Least, least-blocked}
 
 -- one of two answers
 abbrev pick : Bool → Answer → Answer → Answer
@@ -63,39 +64,12 @@ legal-enter-step p q id l h k a = go (isBlocked r (link id)) refl (eqb (l .level
     go false e true d = h
     go false e false d = legal-but r (link id) new (λ u x. eqb-false (l .level) 0 d (rw here at x))
 
--- ---- the least blocked item
-
-pub lesser-is : (lev : Item → ℕ) (c : Item) (o : Option Item) (d : Item) → lesser lev c o ≡ some d → (c ≡ d) ⊎ (o ≡ some d)
-lesser-is lev c none d e = inl cc
-lesser-is lev c (some b) d e = go (leb (lev c) (lev b)) refl
-  where
-    go : (x : Bool) → leb (lev c) (lev b) ≡ x → (c ≡ d) ⊎ (some b ≡ some d)
-    go true f = let z : some c ≡ some d = rw f at e in inl cc
-    go false f = inr (rw f at e)
-
--- what is found passes the test
-pub least-passes : (q : Item → Bool) (lev : Item → ℕ) (cs : List Item) (d : Item) → least q lev cs ≡ some d → q d ≡ true
-unfolding least
-least-passes q lev [] d e = let z : _≡_ {A = ℕ} 0 1 = cc in absurd (omega arith)
-least-passes q lev (c ∷ cs) d e = go (q c) refl (least-passes q lev cs d)
-  where
-    from : q c ≡ true → (least q lev cs ≡ some d → q d ≡ true) → (c ≡ d) ⊎ (least q lev cs ≡ some d) → q d ≡ true
-    from f ih (inl x) = rw (← x) f
-    from f ih (inr x) = ih x
-
-    go : (x : Bool) → q c ≡ x → (least q lev cs ≡ some d → q d ≡ true) → q d ≡ true
-    go true f ih = from f ih (lesser-is lev c (least q lev cs) d (rw f at e))
-    go false f ih = ih (rw f at e)
-
 pub legal-settled : (p q : Panel) → Legal p → Legal q → Legal (settled p q (leastBlocked q) .panel)
-unfolding leastBlocked
-legal-settled p q h k = go (leastBlocked q) refl
+legal-settled p q h k = go (leastBlocked q) (least-blocked q)
   where
-    go : (o : Option Item) → leastBlocked q ≡ o → Legal (settled p q o .panel)
-    go none e = k
-    go (some c) e =
-        let b : isBlocked q c ≡ true = least-passes (isBlocked q) (level q) (itemsOf (q .size)) c e in
-        legal-reverse p q c h (legal-waits q c k (blocking q c b .waits-now)) b
+    go : (o : Option Item) → Least (isBlocked q) (level q) (itemsOf (q .size)) o → Legal (settled p q o .panel)
+    go none a = k
+    go (some c) a = legal-reverse p q c h (legal-waits q c k (blocking q c (a .0) .waits-now)) (a .0)
 
 pub legal-remove-step : (p : Panel) (id : ℕ) → Legal p → id < 128 → Legal (removeStep p id .panel)
 unfolding removeStep

@@ -32,7 +32,7 @@ use Rattle.panel.proofs.InForce.{unused-off}
 use Rattle.panel.proofs.Reversed.{numberOf, setter-stay, setter-number, link-here, link-there}
 use Rattle.panel.proofs.Setters.{reads-there, waits-force}
 use Rattle.panel.proofs.Reversal.{blocking}
-use Rattle.panel.proofs.Performed.{least-passes}
+use Rattle.panel.proofs.Least.{least-passes}
 use Rattle.panel.proofs.Changes.{legal-dropped}
 use Rattle.tables.specs.Tables.{Tabled, StrengthsOf}
 use Rattle.tables.proofs.Settings.{same-setting, tabled-set}

@@ -1,3 +1,4 @@
 pub mod Over
 pub mod Scan
 pub mod Dropped
+pub mod Exactly

@@ -1,0 +1,33 @@
+-- What the scan for blocked links and stays finds, in the words of document 01: statements.
+use Prim.Native.Nat.{ℕ, _≤_, _<_, max}
+use mathlib.Core.Path.{_≡_}
+use mathlib.Core.Bool.{true, false}
+use mathlib.Core.Logic.{_↔_}
+use mathlib.Core.Option.{none, some}
+use Rattle.fieldset.specs.Fields.{member}
+use Rattle.strength.specs.Strength.{greatest}
+use Rattle.panel.specs.declared.Panel.{Panel}
+use Rattle.panel.specs.Items.{Item, link, outputsOf, waits}
+use Rattle.panel.specs.Solution.{level, setterLevel, setterOthers, strengthOf, isBlocked, leastBlocked}
+use Rattle.panel.specs.Legal.{Legal}
+
+-- "look at all blocked links and stays; if there are any, take the one with the least level (among equals, the lowest link number)": it is blocked,
+-- no blocked one has a lesser level, and a blocked link of a lower number than its own has a greater one
+pub record IsTaken (p : Panel) (c : Item) : Type 0 where
+  pub blocked : isBlocked p c ≡ true
+  pub least : (d : Item) → isBlocked p d ≡ true → level p c ≤ level p d
+  pub lowest : (i j : ℕ) → c ≡ link j → i < j → isBlocked p (link i) ≡ true → level p c < level p (link i)
+
+pub record ScanExactly (p : Panel) : Type 0 where
+  -- "The strength of field v with setter c is the largest of c's level and the strengths of c's other outputs"
+  pub strength : (v : ℕ) → v < p .size → strengthOf p v ≡ max (setterLevel p v) (greatest (member (setterOthers p v)) (strengthOf p) 64)
+  -- "A waiting link or stay is blocked when one of its outputs has strength greater than its level"
+  pub blocked : (c : Item) → isBlocked p c ≡ true
+      ↔ ((waits (p .size) (p .links) (p .setter) c ≡ true) × ((u : ℕ) × (u < 64) × (member (outputsOf (p .links) c) u ≡ true) × (level p c < strengthOf p u)))
+  -- what is found is the one that document 01 takes
+  pub finds : (c : Item) → leastBlocked p ≡ some c ↔ IsTaken p c
+  -- nothing is found exactly when no link and no stay is blocked
+  pub none-blocked : leastBlocked p ≡ none ↔ ((c : Item) → isBlocked p c ≡ false)
+
+abbrev pub ScansExactly : Type 0
+ScansExactly = (p : Panel) → Legal p → ScanExactly p
