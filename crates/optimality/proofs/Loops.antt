@@ -16,7 +16,7 @@ use Rattle.panel.specs.declared.Standing.the-variants.{Waiting, Holding}
 use Rattle.panel.specs.declared.Link.{Link}
 use Rattle.panel.specs.declared.Panel.{Panel}
 use Rattle.panel.specs.declared.Refusal.the-variants.{Conflict, Loop}
-use Rattle.panel.specs.Items.{Item, link, stay, linkAt, itemsOf}
+use Rattle.panel.specs.Items.{Item, link, stay, linkAt}
 use Rattle.panel.specs.Answers.{Answer, refused}
 use Rattle.panel.specs.Panels.{withLink, dropped, toFront}
 use Rattle.panel.specs.Solution.{level, setterReads, isBlocked, isLooped, pathFor, reversed, leastBlocked}
@@ -29,7 +29,7 @@ use Rattle.panel.proofs.Setters.{setter-reads-inside}
 use Rattle.panel.proofs.Reversal.{blocking, route-for, route-carrying, legal-waits}
 use Rattle.panel.proofs.Changes.{add-enters, legal-add, legal-dropped, legal-front}
 use Rattle.panel.proofs.Checks.{newLink, addable, removable, touchable, checked-step}
-use Rattle.panel.proofs.Least.{Least, least-blocked}
+use Rattle.panel.proofs.Least.{LeastBlocked, least-blocked}
 use Rattle.optimality.specs.Condition3.{AfterEveryList, panels, start}
 use Rattle.optimality.specs.Refusals.{checksOf, Reversal, reversing, entering, settling, dropping, reversal, reversedPanel, Loops, LoopExactly}
 use Rattle.optimality.proofs.Graphs.{settersOf}
@@ -103,14 +103,13 @@ module _ (p : Panel) (h : Legal p) where
       go true e = reverse-exactly p q (stay f) (legal-waits q (stay f) (legal-front p f h l) (blocking q (stay f) e .waits-now)) e
       go false e = still p (accepted p q) (yes _ _ tt)
 
-  settled-exactly : (q : Panel) → Legal q → (o : Option Item) → Least (isBlocked q) (level q) (itemsOf (q .size)) o
-      → Exactly p (settled p q o) (settling q o)
+  settled-exactly : (q : Panel) → Legal q → (o : Option Item) → LeastBlocked q o → Exactly p (settled p q o) (settling q o)
   settled-exactly q k none a = still p (accepted p q) (yes _ _ tt)
   settled-exactly q k (some c) a = reverse-exactly p q c (legal-waits q c k (blocking q c (a .0) .waits-now)) (a .0)
 
   drop-exactly : (q : Panel) → Legal q → (s : Standing) → Exactly p (dropStep p q s) (dropping q s)
   drop-exactly q k Waiting = still p (accepted p q) (yes _ _ tt)
-  drop-exactly q k (Holding v) = settled-exactly q k (leastBlocked q) (least-blocked q)
+  drop-exactly q k (Holding v) = settled-exactly q k (leastBlocked q) (least-blocked q k)
 
   pub command-exactly : (c : Command) → Passes (checksOf p c) → Exactly p (performed p c) (reversal p c)
   unfolding removeStep planStep reversal

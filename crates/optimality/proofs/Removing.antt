@@ -10,8 +10,6 @@ use native.Mathlib.Nat.{le-of-eq}
 use native.Mathlib.Omega.{arith}
 use borrow.Author.Tests.{eqb-true}
 use lib.ListN.{set}
-use Rattle.fieldset.specs.Lists.{All}
-use Rattle.fieldset.proofs.Lists.{all-in}
 use Rattle.fieldset.specs.Fields.{member, only}
 use Rattle.fieldset.proofs.Numbers.{clash}
 use Rattle.fieldset.proofs.Fields.{member-only, member-empty}
@@ -19,7 +17,7 @@ use Rattle.panel.specs.declared.Standing.{Standing}
 use Rattle.panel.specs.declared.Standing.the-variants.{Waiting, Holding}
 use Rattle.panel.specs.declared.Link.{Link}
 use Rattle.panel.specs.declared.Panel.{Panel}
-use Rattle.panel.specs.Items.{Item, link, stay, noLink, linkAt, outputsOf, isInForce, inForce, itemsOf}
+use Rattle.panel.specs.Items.{Item, link, stay, noLink, linkAt, outputsOf, isInForce, inForce}
 use Rattle.panel.specs.Panels.{withLink, withSetter, freed, dropped}
 use Rattle.panel.specs.Solution.{level, strengthOf, isBlocked, pathFor, leastBlocked}
 use Rattle.panel.specs.Steps.{settled, dropStep, removeStep}
@@ -30,7 +28,7 @@ use Rattle.panel.proofs.Legal.{LegalBut}
 use Rattle.panel.proofs.Setters.{waits-idle}
 use Rattle.panel.proofs.Reversal.{blocking, startOf, legal-waits}
 use Rattle.panel.proofs.Changes.{Aside, none-aside, legal-aside}
-use Rattle.panel.proofs.Least.{Least, least-blocked, item-listed}
+use Rattle.panel.proofs.Least.{LeastBlocked, least-blocked}
 use Rattle.optimality.specs.Condition3.{Store, entry}
 use Rattle.optimality.specs.Agreement.{Agrees, Sound}
 use Rattle.optimality.proofs.Setters.{Graph, Waits, Free, Unblocked}
@@ -138,7 +136,7 @@ module _ (b : Store) (p : Panel) (x : Sound b p) (id : ℕ) (lt : id < 128) (use
 
     -- ---- the least blocked item goes in
 
-    module _ (d : Item) (blocked : isBlocked q d ≡ true) (least : All (λ c. isBlocked q c ≡ true → level q d ≤ level q c) (itemsOf (q .size))) where
+    module _ (d : Item) (blocked : isBlocked q d ≡ true) (least : (c : Item) → isBlocked q c ≡ true → level q d ≤ level q c) where
       kd : LegalBut d q
       kd = legal-waits q d q-legal (blocking q d blocked .waits-now)
 
@@ -146,7 +144,7 @@ module _ (b : Store) (p : Panel) (x : Sound b p) (id : ℕ) (lt : id < 128) (use
       d-least w h = go (isBlocked q w) refl
         where
           go : (t : Bool) → isBlocked q w ≡ t → Free (graphOf q) (strengthOf q) w ⊎ (level q d ≤ level q w)
-          go true e = inr (all-in (λ c. isBlocked q c ≡ true → level q d ≤ level q c) (itemsOf (q .size)) w least (item-listed q q-legal w (h .force)) e)
+          go true e = inr (least w e)
           go false e = inl (unblocked-free k w e h)
 
       some-sound : SoundAfter b b′ (settled p q (some d))
@@ -160,19 +158,13 @@ module _ (b : Store) (p : Panel) (x : Sound b p) (id : ℕ) (lt : id < 128) (use
           d (rw now at (blocked-waits k d blocked)) (rw now at d-least)
           (startOf q d) (path-start kd blocked .small) (path-start kd blocked .output) (pathFor q d) (rw now at (path-reversible kd blocked))))
 
-    none-sound : All (λ c. isBlocked q c ≡ false) (itemsOf (q .size)) → SoundAfter b b′ (settled p q none)
-    none-sound a =
-        record {
-          legal = q-legal;
-          agrees = q-agrees;
-          unblocked = λ w.
-              free-unblocked k w (λ h. unblocked-free k w (all-in (λ c. isBlocked q c ≡ false) (itemsOf (q .size)) w a (item-listed q q-legal w (h .force))) h);
-        }
+    none-sound : ((c : Item) → isBlocked q c ≡ false) → SoundAfter b b′ (settled p q none)
+    none-sound a = record { legal = q-legal; agrees = q-agrees; unblocked = a }
 
     settled-sound : SoundAfter b b′ (settled p q (leastBlocked q))
-    settled-sound = go (leastBlocked q) (least-blocked q)
+    settled-sound = go (leastBlocked q) (least-blocked q q-legal)
       where
-        go : (o : Option Item) → Least (isBlocked q) (level q) (itemsOf (q .size)) o → SoundAfter b b′ (settled p q o)
+        go : (o : Option Item) → LeastBlocked q o → SoundAfter b b′ (settled p q o)
         go none a = none-sound a
         go (some d) a = some-sound d (a .0) (a .1)
 

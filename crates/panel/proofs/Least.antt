@@ -3,7 +3,7 @@
 -- the least blocked one is least among all.
 use Prim.Native.Nat.{ℕ, zero, suc, _+_, _≤_, _<_}
 use mathlib.Core.Path.{_≡_, refl, subst}
-use mathlib.Core.Bool.{Bool, true, false, cond}
+use mathlib.Core.Bool.{Bool, true, false, cond, not-eq-not}
 use mathlib.Core.List.{List, [], _∷_, _++_, map, map-append, append-assoc, append-nil}
 use mathlib.Core.Option.{Option, none, some}
 use native.Mathlib.Nat.{le-refl, le-trans, add-suc}
@@ -11,7 +11,7 @@ use native.Mathlib.Omega.{arith}
 use borrow.Author.Tests.{leb-true, leb-false, ltb-true}
 use lib.Dec.{leb}
 use Rattle.fieldset.specs.Lists.{In, All}
-use Rattle.fieldset.proofs.Lists.{all-map, all-append, in-left, in-right, in-map, in-tabulate}
+use Rattle.fieldset.proofs.Lists.{all-in, all-map, all-append, in-left, in-right, in-map, in-tabulate}
 use Rattle.fieldset.specs.Tables.{tabulate}
 use Rattle.fieldset.proofs.Numbers.{clash}
 use Rattle.panel.specs.declared.Panel.{Panel}
@@ -19,11 +19,13 @@ use Rattle.panel.specs.Items.{Item, link, stay, inForce, itemsOf}
 use Rattle.panel.specs.Solution.{level, isBlocked, lesser, least, leastBlocked}
 use Rattle.panel.specs.Legal.{Legal}
 use Rattle.panel.proofs.Legal.{force-small}
+use Rattle.panel.proofs.Setters.{waits-force}
+use Rattle.panel.proofs.Reversal.{blocking}
 
 -- ---- all items
 
 -- every item in force stands in the list of all items
-pub item-listed : (p : Panel) → Legal p → (c : Item) → inForce (p .size) (p .links) c ≡ true → In c (itemsOf (p .size))
+item-listed : (p : Panel) → Legal p → (c : Item) → inForce (p .size) (p .links) c ≡ true → In c (itemsOf (p .size))
 unfolding itemsOf
 item-listed p h (link i) u =
     in-left (link i) (map link (tabulate (λ i. i) 128)) (map stay (tabulate (λ f. f) (p .size)))
@@ -38,7 +40,7 @@ positionOf (link i) = i
 positionOf (stay f) = 128 + f
 
 -- each entry has a lower position than those behind it
-abbrev pub Rises : List Item → Type 0
+abbrev Rises : List Item → Type 0
 Rises [] = Unit {0}
 Rises (c ∷ cs) = All (λ d. positionOf c < positionOf d) cs × Rises cs
 
@@ -65,19 +67,19 @@ stays-below cs h (suc n) =
     let xs = map stay (tabulate (λ f. f) n) in
     rw (add-suc 128 n, map-append stay (tabulate (λ f. f) n) (n ∷ []), ← append-assoc cs xs (stay n ∷ [])) (below-behind (cs ++ xs) (stay n) (stays-below cs h n))
 
-pub items-rise : (n : ℕ) → Rises (itemsOf n)
+items-rise : (n : ℕ) → Rises (itemsOf n)
 unfolding itemsOf
 items-rise n = stays-below (map link (tabulate (λ i. i) 128)) (links-below 128) n .0
 
 -- ---- the least
 
 -- what is found has the least level of those that pass, and less than those of a lower position; where nothing is found none passes
-abbrev pub Least : (Item → Bool) → (Item → ℕ) → List Item → Option Item → Type 0
+abbrev Least : (Item → Bool) → (Item → ℕ) → List Item → Option Item → Type 0
 Least q lev cs none = All (λ c. q c ≡ false) cs
 Least q lev cs (some d) =
     (q d ≡ true) × All (λ c. q c ≡ true → lev d ≤ lev c) cs × (Rises cs → All (λ c. q c ≡ true → positionOf c < positionOf d → lev d < lev c) cs)
 
-pub least-is : (q : Item → Bool) (lev : Item → ℕ) (cs : List Item) → Least q lev cs (least q lev cs)
+least-is : (q : Item → Bool) (lev : Item → ℕ) (cs : List Item) → Least q lev cs (least q lev cs)
 unfolding least
 least-is q lev [] = tt
 least-is q lev (c ∷ cs) = go (q c) refl (least q lev cs) (least-is q lev cs)
@@ -110,6 +112,29 @@ least-is q lev (c ∷ cs) = go (q c) refl (least q lev cs) (least-is q lev cs)
 pub least-passes : (q : Item → Bool) (lev : Item → ℕ) (cs : List Item) (d : Item) → least q lev cs ≡ some d → q d ≡ true
 least-passes q lev cs d e = subst (Least q lev cs) e (least-is q lev cs) .0
 
-pub least-blocked : (p : Panel) → Least (isBlocked p) (level p) (itemsOf (p .size)) (leastBlocked p)
+-- ---- the least blocked item
+
+pub blocked-force : (p : Panel) (c : Item) → isBlocked p c ≡ true → inForce (p .size) (p .links) c ≡ true
+blocked-force p c b = waits-force (p .size) (p .links) (p .setter) c (blocking p c b .waits-now)
+
+-- the same among all items
+abbrev pub LeastBlocked : Panel → Option Item → Type 0
+LeastBlocked p none = (c : Item) → isBlocked p c ≡ false
+LeastBlocked p (some d) =
+    (isBlocked p d ≡ true) × ((c : Item) → isBlocked p c ≡ true → level p d ≤ level p c)
+    × ((c : Item) → isBlocked p c ≡ true → positionOf c < positionOf d → level p d < level p c)
+
+pub least-blocked : (p : Panel) → Legal p → LeastBlocked p (leastBlocked p)
 unfolding leastBlocked
-least-blocked p = least-is (isBlocked p) (level p) (itemsOf (p .size))
+least-blocked p h = go (leastBlocked p) (least-is (isBlocked p) (level p) (itemsOf (p .size)))
+  where
+    listed : (P : Item → Type 0) → All P (itemsOf (p .size)) → (c : Item) → isBlocked p c ≡ true → P c
+    listed P a c b = all-in P (itemsOf (p .size)) c a (item-listed p h c (blocked-force p c b))
+
+    go : (o : Option Item) → Least (isBlocked p) (level p) (itemsOf (p .size)) o → LeastBlocked p o
+    go none a = λ c. not-eq-not .0 (λ b. clash b (listed (λ c. isBlocked p c ≡ false) a c b))
+    go (some d) (b, low, first) = (
+      b,
+      λ c k. listed (λ c. isBlocked p c ≡ true → level p d ≤ level p c) low c k k,
+      λ c k. listed (λ c. isBlocked p c ≡ true → positionOf c < positionOf d → level p d < level p c) (first (items-rise (p .size))) c k k,
+    )

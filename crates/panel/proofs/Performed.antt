@@ -15,10 +15,10 @@ use Rattle.panel.specs.declared.Standing.the-variants.{Waiting, Holding}
 use Rattle.panel.specs.declared.Link.{Link}
 use Rattle.panel.specs.declared.Panel.{Panel}
 use Rattle.panel.specs.declared.Refusal.the-variants.{Conflict, Loop}
-use Rattle.panel.specs.Items.{Item, link, stay, linkAt, itemsOf}
+use Rattle.panel.specs.Items.{Item, link, stay, linkAt}
 use Rattle.panel.specs.Answers.{Answer, isRefusal, refused}
 use Rattle.panel.specs.Panels.{opened, withLink, dropped, toFront}
-use Rattle.panel.specs.Solution.{level, isBlocked, pathFor, reversed, leastBlocked, isLooped}
+use Rattle.panel.specs.Solution.{isBlocked, pathFor, reversed, leastBlocked, isLooped}
 use Rattle.panel.specs.Steps.{accepted, reverseStep, openStep, enterStep, addStep, settled, dropStep, removeStep, touchStep, planStep}
 use Rattle.panel.specs.Commands.{coveredIn, outputsIn, Check, checked, Passes, openChecks, addChecks, removeChecks, touchChecks, planChecks, Command, opening, adding, removing, touching, planning, performed}
 use Rattle.panel.specs.Legal.{Legal}
@@ -27,7 +27,7 @@ use Rattle.panel.proofs.Legal.{LegalBut}
 use Rattle.panel.proofs.Reversal.{blocking, legal-waits, legal-reversed}
 use Rattle.panel.proofs.Changes.{legal-opened, Enters, add-enters, legal-add, legal-but, legal-dropped, legal-front}
 use Rattle.panel.proofs.Checks.{checked-panel, newLink, addable, removable, touchable, openable}
-use Rattle.panel.proofs.Least.{Least, least-blocked}
+use Rattle.panel.proofs.Least.{LeastBlocked, least-blocked}
 
 -- one of two answers
 abbrev pick : Bool → Answer → Answer → Answer
@@ -65,9 +65,9 @@ legal-enter-step p q id l h k a = go (isBlocked r (link id)) refl (eqb (l .level
     go false e false d = legal-but r (link id) new (λ u x. eqb-false (l .level) 0 d (rw here at x))
 
 pub legal-settled : (p q : Panel) → Legal p → Legal q → Legal (settled p q (leastBlocked q) .panel)
-legal-settled p q h k = go (leastBlocked q) (least-blocked q)
+legal-settled p q h k = go (leastBlocked q) (least-blocked q k)
   where
-    go : (o : Option Item) → Least (isBlocked q) (level q) (itemsOf (q .size)) o → Legal (settled p q o .panel)
+    go : (o : Option Item) → LeastBlocked q o → Legal (settled p q o .panel)
     go none a = k
     go (some c) a = legal-reverse p q c h (legal-waits q c k (blocking q c (a .0) .waits-now)) (a .0)
 

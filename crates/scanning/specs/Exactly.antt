@@ -12,7 +12,7 @@ use Rattle.panel.specs.Solution.{level, setterLevel, setterOthers, strengthOf, 
 use Rattle.panel.specs.Legal.{Legal}
 
 -- "look at all blocked links and stays; if there are any, take the one with the least level (among equals, the lowest link number)": it is blocked,
--- no blocked one has a lesser level, and a blocked link of a lower number than its own has a greater one
+-- no blocked one has a lesser level, and if it is a link, every blocked link of a lower number has a greater level
 pub record IsTaken (p : Panel) (c : Item) : Type 0 where
   pub blocked : isBlocked p c ≡ true
   pub least : (d : Item) → isBlocked p d ≡ true → level p c ≤ level p d
@@ -29,5 +29,6 @@ pub record ScanExactly (p : Panel) : Type 0 where
   -- nothing is found exactly when no link and no stay is blocked
   pub none-blocked : leastBlocked p ≡ none ↔ ((c : Item) → isBlocked p c ≡ false)
 
+-- of every legal panel. What the code finds is `leastBlocked` (`Finds`).
 abbrev pub ScansExactly : Type 0
 ScansExactly = (p : Panel) → Legal p → ScanExactly p
