@@ -34,7 +34,7 @@ item-listed p h (stay f) u =
     in-right (stay f) (map link (tabulate (λ i. i) 128)) (map stay (tabulate (λ f. f) (p .size)))
     (in-map stay f (tabulate (λ f. f) (p .size)) (in-tabulate (p .size) f (ltb-true f (p .size) u)))
 
--- its position there
+-- the position of an item there
 abbrev pub positionOf : Item → ℕ
 positionOf (link i) = i
 positionOf (stay f) = 128 + f
@@ -65,7 +65,8 @@ unfolding tabulate
 stays-below cs h zero = rw (append-nil cs) h
 stays-below cs h (suc n) =
     let xs = map stay (tabulate (λ f. f) n) in
-    rw (add-suc 128 n, map-append stay (tabulate (λ f. f) n) (n ∷ []), ← append-assoc cs xs (stay n ∷ [])) (below-behind (cs ++ xs) (stay n) (stays-below cs h n))
+    rw (add-suc 128 n, map-append stay (tabulate (λ f. f) n) (n ∷ []), ← append-assoc cs xs (stay n ∷ []))
+    (below-behind (cs ++ xs) (stay n) (stays-below cs h n))
 
 items-rise : (n : ℕ) → Rises (itemsOf n)
 unfolding itemsOf

@@ -23,12 +23,13 @@ pub record ScanExactly (p : Panel) : Type 0 where
   pub strength : (v : ℕ) → v < p .size → strengthOf p v ≡ max (setterLevel p v) (greatest (member (setterOthers p v)) (strengthOf p) 64)
   -- "A waiting link or stay is blocked when one of its outputs has strength greater than its level"
   pub blocked : (c : Item) → isBlocked p c ≡ true
-      ↔ ((waits (p .size) (p .links) (p .setter) c ≡ true) × ((u : ℕ) × (u < 64) × (member (outputsOf (p .links) c) u ≡ true) × (level p c < strengthOf p u)))
+      ↔ ((waits (p .size) (p .links) (p .setter) c ≡ true)
+      × ((u : ℕ) × (u < 64) × (member (outputsOf (p .links) c) u ≡ true) × (level p c < strengthOf p u)))
   -- what is found is the one that document 01 takes
   pub finds : (c : Item) → leastBlocked p ≡ some c ↔ IsTaken p c
   -- nothing is found exactly when no link and no stay is blocked
   pub none-blocked : leastBlocked p ≡ none ↔ ((c : Item) → isBlocked p c ≡ false)
 
--- of every legal panel. What the code finds is `leastBlocked` (`Finds`).
+-- of every legal panel, so of the one that a removal leaves without its link
 abbrev pub ScansExactly : Type 0
 ScansExactly = (p : Panel) → Legal p → ScanExactly p
