@@ -67,3 +67,24 @@ pub unsafe extern "C" fn panel_values(
     values[..after.len()].copy_from_slice(&after);
     after.len()
 }
+
+/// See `sides`.
+///
+/// # Safety
+///
+/// Each pair is the pointer and the length of a live slice, and nothing else uses
+/// `counts` meanwhile.
+#[no_mangle]
+pub unsafe extern "C" fn panel_scans(
+    text: *const u8,
+    text_len: usize,
+    counts: *mut u8,
+    counts_len: usize,
+) -> usize {
+    let text = unsafe { std::slice::from_raw_parts(text, text_len) };
+    let counts = unsafe { std::slice::from_raw_parts_mut(counts, counts_len) };
+    let scans = plain::scans_after(text);
+    let fits = scans.len().min(counts.len());
+    counts[..fits].copy_from_slice(&scans[..fits]);
+    scans.len()
+}

@@ -1,7 +1,8 @@
 //! A plain solver, written sentence by sentence from document 01 and from the
 //! change requests of document 02 that have landed: 1, the offset in the reply
-//! to a bad line, and 2, values and formulas. Request 3, the import of airflow
-//! channels from EDF, is a plain importer of its own, `import`.
+//! to a bad line, 2, values and formulas, and 4, a record of the scans for
+//! blocked links and stays. Request 3, the import of airflow channels from EDF,
+//! is a plain importer of its own, `import`.
 //!
 //! It is meant to be read next to the documents, not to be fast. Comments in
 //! quotation marks are sentences of the documents.
@@ -22,4 +23,6 @@ pub use import::import;
 pub use panel::{Item, Link, Panel, Standing};
 pub use refusal::Refusal;
 pub use steps::{new_link, PlanEntry, Reply};
-pub use text::{lines, run_text, run_text_with, values_after, Run, Tally, COUNT_CAP, TEXT_LIMIT};
+pub use text::{
+    lines, run_text, run_text_with, scans_after, values_after, Run, Tally, COUNT_CAP, TEXT_LIMIT,
+};

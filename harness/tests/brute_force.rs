@@ -63,10 +63,11 @@ impl Step {
     }
 }
 
-/// A run without its tally.
+/// A run without its tally and without the scans that it made.
 fn state(run: &Run) -> Run {
     Run {
         tally: Tally::default(),
+        scans: Vec::new(),
         ..run.clone()
     }
 }

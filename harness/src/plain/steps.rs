@@ -141,10 +141,23 @@ impl Panel {
     /// one with the least level (among equals, the lowest link number) and
     /// carry out the walk and the turning of Add for it, once."
     fn after_remove(&self, id: u8) -> Result<Panel, Refusal> {
+        if self.scan_of_remove(id).is_none() {
+            return Ok(self.dropped(id));
+        }
         let panel = self.dropped(id);
         match panel.first_blocked() {
             Some(item) => panel.turned(item),
             None => Ok(panel),
+        }
+    }
+
+    /// Whether the removal of a link looks "at all blocked links and stays", and
+    /// for how many strengths: document 02, request 4, "each field's once", so
+    /// n. Only a link that "sets v" has it look; "if the link waits, drop it".
+    pub fn scan_of_remove(&self, id: u8) -> Option<u8> {
+        match self.links.get(&id)?.standing {
+            Standing::Holding(_) => Some(self.size()),
+            Standing::Waiting => None,
         }
     }
 
