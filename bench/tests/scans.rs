@@ -4,7 +4,7 @@
 //! many scans as document 01 makes, on texts worked out by hand and on random ones.
 
 use harness::generate::{self, MIXES};
-use harness::plain::{self, Run};
+use harness::plain::{self, Item, Run};
 use harness::shrink;
 use harness::worked::{self, Worked};
 use panel_bench::sides::{run_proved, scans_proved, Tally};
@@ -30,15 +30,15 @@ fn scans(text: &[u8]) -> Vec<u8> {
 
 /// The scans of these lines.
 fn scans_of_lines<S: AsRef<str>>(lines: &[S]) -> Vec<u8> {
-    let lines: Vec<&str> = lines.iter().map(AsRef::as_ref).collect();
-    scans((lines.join("\n") + "\n").as_bytes())
+    let lines = lines.iter().map(|line| line.as_ref().to_string() + "\n");
+    scans(lines.collect::<String>().as_bytes())
 }
 
 /// No scan: no removal, or one of a link that waits, or one that is refused before
 /// anything is looked at. Each row but the first three begins with an opening.
 #[test]
 fn no_scan() {
-    let cases: [&[&str]; 20] = [
+    let cases: [&[&str]; 21] = [
         // no line, an empty line, and every kind before the opening
         &[],
         &[""],
@@ -53,8 +53,9 @@ fn no_scan() {
         &["0102", "02000081", "02010081"],
         &["0102", "0200000081", "0201008001"],
         &["0101", "02000580", "02000580"],
-        // touches and plans, turned ones too
+        // touches and plans, turned ones too, and a touch refused with Loop
         &["0103", "0200008081", "05", "0401", "05", "0402", "0400"],
+        &["0103", "020000808102", "0201000082", "0401"],
         // values and formulas
         &["0102", "0200008081", "0800010001003C", "070000007530"],
         &["0102", "0200008081", "0801010001003C", "070100007530"],
@@ -103,28 +104,30 @@ fn scan_for_each_removal() {
     assert_eq!(scans_of_lines(&lines), [3, 3, 3]);
 }
 
-/// A row of links, each over a field and the next one, both outputs: link i first
-/// sets field i + 1, so that each strength depends on the one below it. Once the
-/// last field is touched link i sets field i, and each depends on the one above it.
-/// Each link is removed once both ways, and added again.
+/// Links over two to eight fields in a row, all outputs, one from each field on. Each
+/// sets its last field, so that its strength depends on those below it. Where all
+/// fields are touched before, in their order, each sets its first one, whose strength
+/// depends on those above it. Each link is removed and added again.
 #[test]
-fn rows() {
-    for n in 2..=64 {
-        let link = |i: u8| format!("02{i:02X}05{:02X}{:02X}", 0x80 + i, 0x81 + i);
-        let row: Vec<String> = [format!("01{n:02X}")]
-            .into_iter()
-            .chain((0..n - 1).map(link))
-            .collect();
-        let touch = format!("04{:02X}", n - 1);
-        for removed in 0..n - 1 {
-            let removal = format!("03{removed:02X}");
-            let lines = [
-                &row[..],
-                &[removal.clone(), link(removed), touch.clone(), removal],
-            ]
-            .concat();
-            let text = (lines.join("\n") + "\n").into_bytes();
-            assert_eq!(scans(&text), [n, n], "{lines:?}");
+fn strengths_that_depend_on_others() {
+    for (covered, n) in (2..=8).flat_map(|covered| (covered..=64).map(move |n| (covered, n))) {
+        let links = n - covered + 1;
+        let add = |i: u8| {
+            let fields = (i..i + covered).map(|field| format!("{:02X}", 0x80 + field));
+            format!("02{i:02X}05{}\n", fields.collect::<String>())
+        };
+        let touches: String = (0..n).map(|field| format!("04{field:02X}\n")).collect();
+        let adds: String = (0..links).map(add).collect();
+        let again = (0..links).map(|i| format!("03{i:02X}\n") + &add(i));
+        let again: String = again.collect();
+        for (touches, held) in [("", covered - 1), (&touches, 0)] {
+            let text = format!("01{n:02X}\n{touches}{adds}{again}");
+            assert_eq!(scans(text.as_bytes()), vec![n; links.into()], "{text:?}");
+            let mut run = Run::default();
+            plain::run_text_with(&mut run, text.as_bytes());
+            for i in 0..links {
+                assert_eq!(run.panel.setter(i + held), Item::Link(i), "{text:?}");
+            }
         }
     }
 }
@@ -139,23 +142,14 @@ fn rows() {
 #[test]
 fn refused_with_loop() {
     let text = b"0102\n0200000081\n02010180\n0202028001\n0301";
-    assert_eq!(refused_scans(text), 1);
-    assert_eq!(shrink::shorten(text, |text| refused_scans(text) > 0), text);
+    let refused = |text: &[u8]| plain_scans(text).looped;
+    assert_eq!(refused(text), 1);
+    assert_eq!(shrink::shorten(text, |text| refused(text) > 0), text);
     assert_eq!(scans(text), [2]);
     let again = [&text[..], b"\n0301\n0302\n0301\n"].concat();
     // link 2 waits; without it link 1 goes
-    assert_eq!(refused_scans(&again), 2);
+    assert_eq!(refused(&again), 2);
     assert_eq!(scans(&again), [2, 2, 2]);
-}
-
-/// How many removals of a text the plain solver refuses with Loop.
-fn refused_scans(text: &[u8]) -> usize {
-    let output = plain::run_text(text);
-    let replies = plain::lines(&output);
-    let lines = plain::lines(text).into_iter().zip(replies);
-    lines
-        .filter(|(line, reply)| line.starts_with(b"03") && reply == b"FF0B")
-        .count()
 }
 
 /// As many first counts as fit, and nothing behind the buffer; the answer is the
@@ -216,45 +210,97 @@ fn most_scans() {
     }
 }
 
-/// What the scans of many texts were.
-#[derive(Default)]
+/// The scans of a text, each by its count, and how many of them ended in a removal
+/// that is refused with Loop.
+#[derive(Debug, PartialEq, Eq)]
+struct Scans {
+    counts: Vec<u8>,
+    looped: usize,
+}
+
+/// The plain solver's; each count is the number of fields.
+fn plain_scans(text: &[u8]) -> Scans {
+    let mut run = Run::default();
+    let output = plain::run_text_with(&mut run, text);
+    assert_eq!(run.scans, vec![run.panel.size(); run.scans.len()]);
+    Scans {
+        counts: run.scans,
+        looped: looped(text, &output),
+    }
+}
+
+/// How many removals are refused with Loop.
+fn looped(text: &[u8], output: &[u8]) -> usize {
+    let replies = plain::lines(output);
+    let lines = plain::lines(text).into_iter().zip(replies);
+    lines
+        .filter(|(line, reply)| line.starts_with(b"03") && reply == b"FF0B")
+        .count()
+}
+
+/// The scans as the replies tell them, whatever the plain solver has on record: a
+/// plan goes before each line, and a removal that passes its checks has a scan where
+/// that plan gives its link as a setter. The plan also tells n.
+fn scans_of_replies(text: &[u8]) -> Scans {
+    let lines = plain::lines(text);
+    let planned = lines.iter().flat_map(|line| [b"05\n", *line, b"\n"]);
+    let planned = planned.collect::<Vec<_>>().concat();
+    assert!(planned.len() <= plain::TEXT_LIMIT);
+    let length = run_proved(&planned, &mut [], &mut Tally::default());
+    let mut output = vec![0; length];
+    run_proved(&planned, &mut output, &mut Tally::default());
+    let replies = plain::lines(&output);
+    let mut counts = Vec::new();
+    for (line, replies) in lines.iter().zip(replies.chunks(2)) {
+        let passes = replies[1].starts_with(b"00") || replies[1] == b"FF0B";
+        if line.starts_with(b"03") && passes {
+            let plan = plain::read_hex(replies[0]).expect("digits");
+            let mut setters = plan[2..].chunks(3).map(|entry| entry[1]);
+            let id = plain::read_hex(line).expect("digits")[1];
+            counts.extend(setters.any(|setter| setter == id).then_some(plan[1]));
+        }
+    }
+    Scans {
+        counts,
+        looped: looped(&planned, &output),
+    }
+}
+
+/// What was met in many texts.
+#[derive(Debug, Default)]
 struct Met {
-    /// By the number of fields.
+    /// Scans by the number of fields.
     scans: BTreeMap<u8, usize>,
-    refused_with_loop: usize,
+    looped: usize,
 }
 
 impl Met {
-    /// Compares the counts of a text with n for each scan that the plain solver makes;
-    /// a difference is shown on the shortest text found.
-    fn check(&mut self, text: &[u8]) {
-        let differs = |text: &[u8]| scans(text) != expected(text);
-        if differs(text) {
-            let short = shrink::shorten(text, differs);
+    /// Compares the counts of a text with those of another source; a difference is
+    /// shown on the shortest text found.
+    fn check(&mut self, text: &[u8], source: fn(&[u8]) -> Scans) {
+        let expected = source(text);
+        if scans(text) != expected.counts {
+            let short = shrink::shorten(text, |text| scans(text) != source(text).counts);
             panic!(
                 "scans differ for {:?}: {:?} in place of {:?}",
                 String::from_utf8_lossy(&short),
                 scans(&short),
-                expected(&short)
+                source(&short).counts
             );
         }
-        for n in expected(text) {
+        for n in expected.counts {
             *self.scans.entry(n).or_default() += 1;
         }
-        self.refused_with_loop += refused_scans(text);
+        self.looped += expected.looped;
     }
 
-    fn all(&self) -> usize {
-        self.scans.values().sum()
+    /// So many scans at least, on panels of so many different sizes, so many of them
+    /// in removals that are refused with Loop.
+    fn must_have(&self, scans: usize, sizes: usize, looped: usize) {
+        assert!(self.scans.values().sum::<usize>() >= scans, "{self:?}");
+        assert!(self.scans.len() >= sizes, "{self:?}");
+        assert!(self.looped >= looped, "{self:?}");
     }
-}
-
-/// The plain solver's scans, each of which is n.
-fn expected(text: &[u8]) -> Vec<u8> {
-    let mut run = Run::default();
-    plain::run_text_with(&mut run, text);
-    assert_eq!(run.scans, vec![run.panel.size(); run.scans.len()]);
-    run.scans
 }
 
 /// Every text that is worked out by hand.
@@ -272,9 +318,9 @@ fn worked_texts() {
     .collect();
     let mut met = Met::default();
     for text in texts {
-        met.check(&text.text);
+        met.check(&text.text, plain_scans);
     }
-    println!("{} {:?} {}", met.all(), met.scans, met.refused_with_loop);
+    met.must_have(1_200, 8, 4);
 }
 
 /// Neighbouring seeds take different mixes.
@@ -282,19 +328,32 @@ fn worked_texts() {
 fn random_texts() {
     let mut met = Met::default();
     for seed in 0..1_500 {
-        met.check(&generate::text(seed));
+        met.check(&generate::text(seed), plain_scans);
     }
-    println!("{} {:?} {}", met.all(), met.scans, met.refused_with_loop);
+    met.must_have(12_000, 60, 1_500);
 }
 
-/// Texts up to the limit, several of each mix.
+/// Texts up to the limit, four of each mix.
 #[test]
 fn long_random_texts() {
     let mut met = Met::default();
-    for (place, mix) in MIXES.iter().enumerate() {
-        for seed in 0..4 {
-            met.check(&generate::long_text(4 * place as u64 + seed, mix));
+    for (mix, seeds) in MIXES.iter().zip((0..).step_by(4)) {
+        for seed in seeds..seeds + 4 {
+            met.check(&generate::long_text(seed, mix), plain_scans);
         }
     }
-    println!("{} {:?} {}", met.all(), met.scans, met.refused_with_loop);
+    met.must_have(17_000, 15, 4_000);
+}
+
+/// Texts that leave room for a plan before each line.
+#[test]
+fn scans_seen_from_the_replies() {
+    let mut met = Met::default();
+    for seed in 10_000..11_500 {
+        let text = generate::text(seed);
+        if text.len() <= plain::TEXT_LIMIT / 4 {
+            met.check(&text, scans_of_replies);
+        }
+    }
+    met.must_have(12_000, 60, 1_500);
 }
