@@ -13,7 +13,7 @@ use std::collections::BTreeMap;
 /// What a buffer holds before a call; no count is so large.
 const FILLER: u8 = 0xEE;
 
-/// Room for a removal in each line of a text.
+/// Room for more scans than a text has: a removal takes five bytes.
 const ROOM: usize = plain::TEXT_LIMIT / 5;
 
 /// The counts of the scans of a text. Nothing is written behind them or beside the
@@ -28,49 +28,64 @@ fn scans(text: &[u8]) -> Vec<u8> {
     counts
 }
 
-/// The scans of these lines.
-fn scans_of_lines<S: AsRef<str>>(lines: &[S]) -> Vec<u8> {
-    let lines = lines.iter().map(|line| line.as_ref().to_string() + "\n");
-    scans(lines.collect::<String>().as_bytes())
+/// The output of a text.
+fn output(text: &[u8]) -> Vec<u8> {
+    let mut out = vec![0; run_proved(text, &mut [], &mut Tally::default())];
+    run_proved(text, &mut out, &mut Tally::default());
+    out
 }
 
 /// No scan: no removal, or one of a link that waits, or one that is refused before
-/// anything is looked at. Each row but the first three begins with an opening.
+/// anything is looked at. Each case has the reply to its last line.
 #[test]
 fn no_scan() {
-    let cases: [&[&str]; 21] = [
-        // no line, an empty line, and every kind before the opening
-        &[],
-        &[""],
-        &["0300", "02000080", "0400", "05", "070000000001", "08000201"],
-        // an opening, alone, refused and repeated
-        &["0101"],
-        &["0100", "0141", "0300"],
-        &["0102", "0102"],
-        // adds: held, waiting, turned, Conflict, Loop, LinkTaken
-        &["0102", "0200008081", "02010080"],
-        &["0101", "02000580", "02010580", "02020480"],
-        &["0102", "02000081", "02010081"],
-        &["0102", "0200000081", "0201008001"],
-        &["0101", "02000580", "02000580"],
-        // touches and plans, turned ones too, and a touch refused with Loop
-        &["0103", "0200008081", "05", "0401", "05", "0402", "0400"],
-        &["0103", "020000808102", "0201000082", "0401"],
-        // values and formulas
-        &["0102", "0200008081", "0800010001003C", "070000007530"],
-        &["0102", "0200008081", "0801010001003C", "070100007530"],
+    let cases: [(&[&str], &str); 30] = [
+        // before the opening
+        (&[], "EE00000000000000000000"),
+        (&["0300"], "FF04"),
+        (&["02000080", "0300"], "FF04"),
+        (&["0100", "0141", "0300"], "FF04"),
+        // openings
+        (&["0101"], "0000"),
+        (&["0102", "0102"], "FF03"),
+        // adds, refused ones too
+        (&["0102", "0200008081", "02010080"], "0001"),
+        (&["0101", "02000580", "02010580"], "0000"),
+        (&["0101", "02000580", "02010580", "02020480"], "0001"),
+        (&["0101", "02000580", "02000580"], "FF08"),
+        (&["0102", "02000081", "02010081"], "FF0A"),
+        (&["0102", "0200000081", "0201008001"], "FF0B"),
+        // touches, one that turns and one that is refused, and a plan
+        (&["0101", "0400"], "0000"),
+        (&["0102", "0200008081", "0401"], "0002"),
+        (&["0103", "020000808102", "0201000082", "0401"], "FF0B"),
+        (&["0101", "02000080", "05"], "0001000000"),
+        // formulas and values
+        (&["0102", "0200008081", "0800010001003C"], "0000"),
+        (&["0102", "0200008081", "070000007530"], "0000"),
+        (&["0102", "0200008081", "070100007530"], "0002"),
+        (&["0101", "02000080", "070000007530"], "FF0E"),
         // a link that waits
-        &["0101", "02000580", "02010580", "0301"],
-        &["0101", "02000580", "02020480", "0300"],
+        (&["0101", "02000580", "02010580", "0301"], "0000"),
+        (&["0101", "02000580", "02010480", "0300"], "0000"),
         // BadLink, NoSuchLink
-        &["0101", "02000080", "0380", "03FF"],
-        &["0101", "02000080", "0301", "037F"],
-        // BadHex and BadFrame
-        &["0101", "02000080", "030", "030g", "03", "030000"],
-        &["0101", "02000080", " 0300", "0300 ", "0300\r"],
+        (&["0101", "02000080", "0380"], "FF06"),
+        (&["0101", "02000080", "03FF"], "FF06"),
+        (&["0101", "02000080", "0301"], "FF09"),
+        // BadFrame, BadHex
+        (&["0101", "02000080", "03"], "FF02"),
+        (&["0101", "02000080", "030000"], "FF02"),
+        (&["0101", "02000080", "030"], "FF010003"),
+        (&["0101", "02000080", "0300\r"], "FF010004"),
+        (&["0101", "02000080", ""], "FF010000"),
     ];
-    for lines in cases {
-        assert_eq!(scans_of_lines(lines), [], "{lines:?}");
+    for (lines, reply) in cases {
+        let text: String = lines.iter().map(|line| line.to_string() + "\n").collect();
+        assert_eq!(scans(text.as_bytes()), [], "{lines:?}");
+        let output = output(text.as_bytes());
+        let replies = plain::lines(&output);
+        let last = replies[lines.len().saturating_sub(1)];
+        assert_eq!(String::from_utf8_lossy(last), reply, "{lines:?}");
     }
 }
 
@@ -84,24 +99,20 @@ fn one_scan() {
     assert_eq!(scans(b"0140\n02000080\n0300\n"), [64]);
     for n in 1..=64 {
         for field in [0, n - 1] {
-            let add = format!("027F0F{:02X}", 0x80 + field);
-            let lines = [format!("01{n:02X}"), add, "037F".into()];
-            assert_eq!(scans_of_lines(&lines), [n], "{lines:?}");
+            let text = format!("01{n:02X}\n027F0F{:02X}\n037F\n", 0x80 + field);
+            assert_eq!(scans(text.as_bytes()), [n], "{text:?}");
         }
     }
 }
 
-/// Each removal of a link that sets a field has a scan of its own; the others
-/// between them have none.
+/// Each removal of a link that sets a field has a scan of its own, and no other line
+/// has one. Link 2 waits; link 1 goes, and once it is added again it goes after link
+/// 0; neither goes twice.
 #[test]
 fn scan_for_each_removal() {
-    let lines = [
-        "0103", "02000080", "02010181", "02020281", "0302", "0301", "05", "0301", "02010081",
-        "0400", "0300", "0300", "0301",
-    ];
-    // link 2 waits; then link 1 goes, link 1 is not there, is added anew, links 0
-    // and 1 go, link 0 not twice
-    assert_eq!(scans_of_lines(&lines), [3, 3, 3]);
+    let text = b"0103\n02000080\n02010181\n02020281\n0302\n0301\n05\n0301\n02010081\n\
+        0400\n0300\n0300\n0301\n";
+    assert_eq!(scans(text), [3, 3, 3]);
 }
 
 /// Links over two to eight fields in a row, all outputs, one from each field on. Each
@@ -156,8 +167,7 @@ fn refused_with_loop() {
 /// number of scans.
 #[test]
 fn buffer_too_short() {
-    let text = b"0105\n".to_vec();
-    let text = [text, b"02000084\n0300\n".repeat(6)].concat();
+    let text = [&b"0105\n"[..], &b"02000084\n0300\n".repeat(6)].concat();
     for len in 0..=10 {
         let mut around = [FILLER; 30];
         assert_eq!(scans_proved(&text, &mut around[10..10 + len]), 6);
@@ -246,9 +256,7 @@ fn scans_of_replies(text: &[u8]) -> Scans {
     let planned = lines.iter().flat_map(|line| [b"05\n", *line, b"\n"]);
     let planned = planned.collect::<Vec<_>>().concat();
     assert!(planned.len() <= plain::TEXT_LIMIT);
-    let length = run_proved(&planned, &mut [], &mut Tally::default());
-    let mut output = vec![0; length];
-    run_proved(&planned, &mut output, &mut Tally::default());
+    let output = output(&planned);
     let replies = plain::lines(&output);
     let mut counts = Vec::new();
     for (line, replies) in lines.iter().zip(replies.chunks(2)) {
