@@ -27,10 +27,10 @@ use Rattle.panel.specs.declared.Refusal.the-variants.{Loop}
 use Rattle.panel.specs.declared.Reply.{Reply}
 use Rattle.panel.specs.declared.Reply.the-variants.{Accepted, Refused}
 use Rattle.panel.specs.declared.Step.{Step}
-use Rattle.panel.specs.Items.{Item, link, stay, noLink, linkAt, outputsOf, inForce, itemsOf}
+use Rattle.panel.specs.Items.{Item, link, stay, noLink, linkAt, outputsOf, inForce}
 use Rattle.panel.specs.Answers.{refused, replyBytes}
 use Rattle.panel.specs.Panels.{withLink, freed, dropped}
-use Rattle.panel.specs.Solution.{level, isBlocked, leastBlocked}
+use Rattle.panel.specs.Solution.{isBlocked, leastBlocked}
 use Rattle.panel.specs.Steps.{settled, dropStep, removeStep}
 use Rattle.panel.specs.Commands.{Passes, checkReply, removeChecks, removing, performed, checkRemove}
 use Rattle.panel.specs.Legal.{Legal}
@@ -43,7 +43,6 @@ use Rattle.panel.proofs.Setters.{outputs-inside, waits-force}
 use Rattle.panel.proofs.Reversal.{Blocking, blocking, legal-waits}
 use Rattle.panel.proofs.Checks.{Agree, passes-reply, reply-refused, reply-accepted, named-link, removable}
 use Rattle.panel.proofs.Outcomes.{decides-unchanged}
-use Rattle.panel.proofs.Performed.{least-passes}
 use Rattle.tables.specs.Tables.{Tabled}
 use Rattle.tables.proofs.Tables.{greatest-same, panel-acyclic, panel-among, all-strengths, table-strengths, table-full}
 use Rattle.reversal.specs.declared.Verdict.{Verdict}
@@ -55,7 +54,7 @@ use Rattle.reversal.proofs.Steps.{Change, decides-free, decides-path}
 use Rattle.scanning.specs.declared.Blocked.{Blocked}
 use Rattle.scanning.specs.declared.Blocked.the-variants.{Nothing, Link as ALink, Stay as AStay}
 use Rattle.scanning.specs.Scan.{Finds, Scanned}
-use Rattle.scanning.proofs.Dropped.{sets-holds, field-small, Held, rest, dropped-rest, legal-rest, dropped-setter}
+use Rattle.scanning.proofs.Dropped.{sets-holds, field-small, Held, rest, dropped-rest, legal-rest, found-blocked, dropped-setter}
 use Rattle.removing.specs.declared.Chosen.{Chosen}
 use Rattle.removing.specs.Choice.{OfField, chosenOf}
 use Rattle.removing.specs.Scans.{countFor, scanCount}
@@ -171,15 +170,11 @@ module _ {p : Panel} {id v : ℕ} {levels others reads : List ℕ} (x : Removal 
   legal : Legal q
   legal = legal-rest (x .held)
 
-  found-blocked : (d : Item) → leastBlocked q ≡ some d → isBlocked q d ≡ true
-  unfolding leastBlocked
-  found-blocked d e = least-passes (isBlocked q) (level q) (itemsOf (q .size)) d e
-
   pub of-field : (b : Blocked) → Finds q b → OfField b
   of-field Nothing e = tt
   of-field (ALink i l) e = tt
   of-field (AStay f) e =
-      let w = blocking q (stay f) (found-blocked (stay f) e) .waits-now in
+      let w = blocking q (stay f) (found-blocked (x .held) (stay f) e) .waits-now in
       omega (arith, legal .few, ltb-true f (q .size) (waits-force (q .size) (q .links) (q .setter) (stay f) w))
 
   -- what is chosen, by its number as a setter, its outputs and covered fields: nothing, or an item
@@ -217,7 +212,7 @@ module _ {p : Panel} {id v : ℕ} {levels others reads : List ℕ} (x : Removal 
     -- an item is blocked
     module _ (d : Item) (found : leastBlocked q ≡ some d) where
       blocked : isBlocked q d ≡ true
-      blocked = found-blocked d found
+      blocked = found-blocked (x .held) d found
 
       block : Blocking q d
       block = blocking q d blocked
