@@ -23,7 +23,7 @@ use Rattle.answering.specs.Runs.{Reached, Paced, fitting, lastOf, RanFro
 -- ---- how many lines fit
 
 module _ {S : Type 0} (answer : LineAnswer S) where
-  fitting-line : (room : ℕ) (s : S) (l : List ℕ) (ls : List (List ℕ)) (a : Answered S) → a ≡ answer s l → longest ≤ room
+  pub fitting-line : (room : ℕ) (s : S) (l : List ℕ) (ls : List (List ℕ)) (a : Answered S) → a ≡ answer s l → longest ≤ room
       → fitting answer room s (l ∷ ls) ≡ suc (fitting answer (room - length (lineOf (a .reply))) (a .state) ls)
   unfolding fitting
   fitting-line room s l ls a e h =
@@ -33,7 +33,7 @@ module _ {S : Type 0} (answer : LineAnswer S) where
   unfolding fitting
   fitting-none room s ls e = rw e refl
 
-  fitting-full : (room : ℕ) (s : S) (ls : List (List ℕ)) → room < longest → fitting answer room s ls ≡ 0
+  pub fitting-full : (room : ℕ) (s : S) (ls : List (List ℕ)) → room < longest → fitting answer room s ls ≡ 0
   unfolding fitting
   fitting-full room s [] h = refl
   fitting-full room s (l ∷ ls) h = simp (lt-leb longest room h)

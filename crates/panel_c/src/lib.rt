@@ -5,10 +5,12 @@ use text::Outcome;
 ghost use mathlib.Core.Path.{_≡_};
 ghost use mathlib.Core.Bool.{cond};
 ghost use lib.ListN.{length};
+ghost use lib.Seq.{sets};
 ghost use Rattle.frames.specs.Texts.{isTooLong};
 ghost use Rattle.sheet.specs.Sheets.{unopened};
 ghost use Rattle.frames.specs.Frames.{lineAnswer};
 ghost use Rattle.text.specs.Outcomes.{wholeOutput, bufferAfter, tallyAtEnd, fieldsAfter, valuesAfter};
+ghost use Rattle.counting.specs.Counts.{scansOf};
 ghost use Rattle.panel_c.specs.Lengths.{lengthOf};
 
 // The number that stands for a text's outcome: the length of the whole output, 0 where the text is too long.

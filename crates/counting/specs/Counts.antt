@@ -1,0 +1,22 @@
+-- The counts of the scans that a run makes.
+use Prim.Native.Nat.{ℕ}
+use mathlib.Core.Bool.{cond}
+use mathlib.Core.List.{List, [], _∷_}
+use lib.Dec.{eqb}
+use Rattle.sheet.specs.declared.Sheet.{Sheet}
+use Rattle.sheet.specs.Sheets.{unopened}
+use Rattle.lines.specs.Lines.{linesOf}
+use Rattle.frames.specs.Texts.{isTooLong}
+use Rattle.frames.specs.Frames.{lineAnswer}
+use Rattle.answering.specs.Scans.{lineScan}
+
+-- how many strengths each scan works out, from a sheet on, in the order of the lines; a line that works out none makes no scan
+unfoldable pub scanCounts : Sheet → List (List ℕ) → List ℕ
+scanCounts s [] = []
+scanCounts s (l ∷ ls) =
+    let rest = scanCounts (lineAnswer s l .state) ls in
+    cond (eqb (lineScan s l) 0) rest (lineScan s l ∷ rest)
+
+-- of a text, from an unopened panel on; of one that is too long "No line is treated"
+unfoldable pub scansOf : List ℕ → List ℕ
+scansOf text = cond (isTooLong text) [] (scanCounts unopened (linesOf text))
