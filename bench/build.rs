@@ -5,8 +5,8 @@
 use std::env;
 use std::path::Path;
 
-/// The Rattle crate whose static library has the functions `panel_run_text`,
-/// `panel_values` and `panel_scans`.
+/// The Rattle crate whose static library has the functions `panel_run_text` and
+/// `panel_values`.
 const LIBRARY: &str = "panel_c";
 
 fn main() {

@@ -96,20 +96,10 @@ pub fn values_proved(text: &[u8], values: &mut [i32; 64]) -> usize {
     unsafe { panel_values(text.as_ptr(), text.len(), values) }
 }
 
-/// Runs the proved solver on a text, from an unopened panel, and writes for each scan
-/// for blocked links and stays, in order, how many strengths were worked out for it,
-/// as many as fit. The answer is how many scans there are; 0 for a text that is too
-/// long. The bytes behind are as they were.
-pub fn scans_proved(text: &[u8], counts: &mut [u8]) -> usize {
-    // SAFETY: each pair is the pointer and the length of a live slice, and `counts` is
-    // borrowed by this function alone; the function called asks no more.
-    unsafe { panel_scans(text.as_ptr(), text.len(), counts.as_mut_ptr(), counts.len()) }
-}
-
 // In Rattle: `#[no_mangle] pub extern "C" fn panel_run_text(text: &[u8], out:
-// &mut [u8], tally: &mut Tally) -> usize`, `panel_values(text: &[u8], values:
-// &mut [i32; 64]) -> usize` and `panel_scans(text: &[u8], counts: &mut [u8]) ->
-// usize` (crates/panel_c). A slice is passed as its pointer and then its length.
+// &mut [u8], tally: &mut Tally) -> usize` and `panel_values(text: &[u8], values:
+// &mut [i32; 64]) -> usize` (crates/panel_c). A slice is passed as its pointer and
+// then its length.
 extern "C" {
     fn panel_run_text(
         text: *const u8,
@@ -120,6 +110,4 @@ extern "C" {
     ) -> usize;
 
     fn panel_values(text: *const u8, text_len: usize, values: *mut [i32; 64]) -> usize;
-
-    fn panel_scans(text: *const u8, text_len: usize, counts: *mut u8, counts_len: usize) -> usize;
 }

@@ -68,7 +68,7 @@ pub unsafe extern "C" fn panel_values(
     after.len()
 }
 
-/// See `sides`.
+/// See `tests/scans.rs`.
 ///
 /// # Safety
 ///

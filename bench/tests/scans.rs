@@ -7,7 +7,7 @@ use harness::generate::{self, MIXES};
 use harness::plain::{self, Item, Run};
 use harness::shrink;
 use harness::worked::{self, Worked};
-use panel_bench::sides::{run_proved, scans_proved, Tally};
+use panel_bench::sides::{run_proved, Tally};
 use std::collections::BTreeMap;
 
 /// What a buffer holds before a call; no count is so large.
@@ -15,6 +15,24 @@ const FILLER: u8 = 0xEE;
 
 /// Room for more scans than a text has: a removal takes five bytes.
 const ROOM: usize = plain::TEXT_LIMIT / 5;
+
+// In Rattle: `#[no_mangle] pub extern "C" fn panel_scans(text: &[u8], counts: &mut
+// [u8]) -> usize` (crates/counting), in a library of its own. A slice is passed as
+// its pointer and then its length.
+#[cfg_attr(not(feature = "standin"), link(name = "counting", kind = "static"))]
+extern "C" {
+    fn panel_scans(text: *const u8, text_len: usize, counts: *mut u8, counts_len: usize) -> usize;
+}
+
+/// Runs the proved solver on a text, from an unopened panel, and writes for each scan
+/// for blocked links and stays, in order, how many strengths were worked out for it,
+/// as many as fit. The answer is how many scans there are; 0 for a text that is too
+/// long. The bytes behind are as they were.
+fn scans_proved(text: &[u8], counts: &mut [u8]) -> usize {
+    // SAFETY: each pair is the pointer and the length of a live slice, and `counts` is
+    // borrowed by this function alone; the function called asks no more.
+    unsafe { panel_scans(text.as_ptr(), text.len(), counts.as_mut_ptr(), counts.len()) }
+}
 
 /// The counts of the scans of a text. Nothing is written behind them or beside the
 /// buffer.

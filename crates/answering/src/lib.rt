@@ -100,7 +100,16 @@ pub fn answer_lines(
         let k = wide(frames::number_of(command));
         let old = q.links[k];
         let step = if let Command::Remove(id) = command {
-            remove(q, old, &levels, &others, &reads, id, &mut path, &mut scanned)
+            remove(
+                q,
+                old,
+                &levels,
+                &others,
+                &reads,
+                id,
+                &mut path,
+                &mut scanned,
+            )
         } else {
             scanned = 0;
             let step = decide_line(q, old, &levels, &others, &reads, line, &mut path, &mut rows);

@@ -107,13 +107,13 @@ module _ {text before counts : List ℕ} {at made : ℕ} {s : Sheet} (c : Counte
     line-scans nz counts′ e =
         let place : made ≡ 0 + length (c .done) = omega (arith, c .number) in
         record {
-      done = c .done ++ (r .scanned ∷ []);
-      all = more (r .scanned ∷ []) (rw (ne-eqb (r .scanned) 0 nz) refl);
-      stored =
-          e ∙ ap₂ (λ (l : List ℕ) (i : ℕ). sets l i (r .scanned ∷ [])) (c .stored) place
-          ∙ sets-append before 0 (c .done) (r .scanned ∷ []);
-      number = omega (arith, c .number, length-append (c .done) (r .scanned ∷ []));
-      few = omega (arith, c .few);
-      within = within;
-      legal = ran .legal;
-    }
+          done = c .done ++ (r .scanned ∷ []);
+          all = more (r .scanned ∷ []) (rw (ne-eqb (r .scanned) 0 nz) refl);
+          stored =
+              e ∙ ap₂ (λ (l : List ℕ) (i : ℕ). sets l i (r .scanned ∷ [])) (c .stored) place
+              ∙ sets-append before 0 (c .done) (r .scanned ∷ []);
+          number = omega (arith, c .number, length-append (c .done) (r .scanned ∷ []));
+          few = omega (arith, c .few);
+          within = within;
+          legal = ran .legal;
+        }

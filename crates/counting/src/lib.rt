@@ -1,4 +1,5 @@
-// The counts of the scans that a run over a text makes.
+// The counts of the scans that a run over a text makes, for tests in C or Rust to call: a library of its own, so that the panel's has none of it. A text
+// and a buffer are a pointer and a length each.
 use answering::lines_from;
 use replies::LONGEST;
 use sheet::unopened;
@@ -12,7 +13,10 @@ ghost use Rattle.counting.specs.Counts.{scansOf};
 
 // For each scan for blocked links and stays that a run over a text makes, from an unopened panel on, the number of strengths that were worked out for
 // it: as many as fit the buffer, in order. The answer is how many scans there are. A text that is too long has none.
-pub fn scan_counts(text: &[u8], counts: &mut [u8]) -> usize
+// The contract rules out, for instance, a count stored over the one before and the scan of only the last of several lines (must-fail:
+// count_overwritten, several_lines_at_a_time).
+#[no_mangle]
+pub extern "C" fn panel_scans(text: &[u8], counts: &mut [u8]) -> usize
     ensures { λ r. ⌜ r ≡ length (scansOf (now (text .entry))) ⌝ }
     ensures { λ r. ⌜ now (counts .exit) ≡ sets (now (counts .entry)) 0 (scansOf (now (text .entry))) ⌝ }
 {

@@ -1,16 +1,13 @@
 // The operations on a text for C and Rust to call. A text and a buffer are a pointer and a length each; a tally and the values are lent by their address.
-use counting::scan_counts;
 use tally::Tally;
 use text::Outcome;
 ghost use mathlib.Core.Path.{_≡_};
 ghost use mathlib.Core.Bool.{cond};
 ghost use lib.ListN.{length};
-ghost use lib.Seq.{sets};
 ghost use Rattle.frames.specs.Texts.{isTooLong};
 ghost use Rattle.sheet.specs.Sheets.{unopened};
 ghost use Rattle.frames.specs.Frames.{lineAnswer};
 ghost use Rattle.text.specs.Outcomes.{wholeOutput, bufferAfter, tallyAtEnd, fieldsAfter, valuesAfter};
-ghost use Rattle.counting.specs.Counts.{scansOf};
 ghost use Rattle.panel_c.specs.Lengths.{lengthOf};
 
 // The number that stands for a text's outcome: the length of the whole output, 0 where the text is too long.
@@ -43,14 +40,4 @@ pub extern "C" fn panel_values(text: &[u8], values: &mut [i32; 64]) -> usize
     ensures { λ r. ⌜ now (values .exit) ≡ valuesAfter (now (text .entry)) (now (values .entry)) ⌝ }
 {
     text::values_after(text, values)
-}
-
-// For each scan for blocked links and stays that a text makes, the number of strengths that were worked out for it: as many as fit the buffer, in
-// order. The answer is how many scans there are; 0 where the text is too long.
-#[no_mangle]
-pub extern "C" fn panel_scans(text: &[u8], counts: &mut [u8]) -> usize
-    ensures { λ r. ⌜ r ≡ length (scansOf (now (text .entry))) ⌝ }
-    ensures { λ r. ⌜ now (counts .exit) ≡ sets (now (counts .entry)) 0 (scansOf (now (text .entry))) ⌝ }
-{
-    scan_counts(text, counts)
 }

@@ -80,9 +80,10 @@ fn choose(b: Blocked) -> Chosen
     }
 }
 
-// Decides on removing a link; `old` is the link that stands under its number.
-// The contract rules out, for instance, a field that its stay does not set and a blocked link that does not set (must-fail: stay_does_not_step_in,
-// blocked_link_does_not_set).
+// Decides on removing a link; `old` is the link that stands under its number. `scanned` becomes the number of strengths that were worked out for its
+// scan, 0 where it makes none.
+// The contract rules out, for instance, a blocked link that does not set and a refusal of the checks that counts a strength (must-fail:
+// blocked_link_does_not_set, refusal_counts).
 pub fn remove(
     p: Panel,
     old: Link,

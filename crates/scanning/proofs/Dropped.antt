@@ -2,14 +2,13 @@
 -- were; the link sets nothing then and is not blocked in either panel, so strengths (`strength-kept`), what is blocked (`blocked-kept`) and the least
 -- blocked item (`found-kept`) are the same.
 use mathlib.Core.Path.{_≡_, refl, sym, ap, _∙_, subst, fun-ext}
-use mathlib.Core.Logic.{_≢_, _⊎_, inl, inr}
+use mathlib.Core.Logic.{_≢_}
 use mathlib.Core.Bool.{Bool, true, false, _&&_, and-false, cond}
 use mathlib.Core.List.{List, [], _∷_}
 use mathlib.Core.Option.{Option, none, some}
 use Prim.Native.Nat.{ℕ, _+_, _<_}
 use native.Mathlib.Decide.{ℕ-discrete}
 use native.Mathlib.Omega.{arith}
-use borrow.Author.Tests.{ltb-true}
 use lib.Dec.{ltb}
 use lib.ListN.{set}
 use lib.Seq.{getD-set-same, getD-set-other}
@@ -29,9 +28,8 @@ use Rattle.panel.specs.Panels.{withLink, freed, dropped}
 use Rattle.panel.specs.Solution.{level, setterLevel, setterOthers, strengthOf, isBlocked, lesser, least, leastBlocked}
 use Rattle.panel.specs.Legal.{Legal}
 use Rattle.panel.proofs.InForce.{unused-off}
-use Rattle.panel.proofs.Reversed.{numberOf, setter-stay, setter-number, link-here, link-there}
-use Rattle.panel.proofs.Setters.{reads-there, waits-force}
-use Rattle.panel.proofs.Reversal.{blocking}
+use Rattle.panel.proofs.Reversed.{setter-stay, setter-number, link-here, link-there}
+use Rattle.panel.proofs.Setters.{reads-there}
 use Rattle.panel.proofs.Least.{least-passes}
 use Rattle.panel.proofs.Changes.{legal-dropped}
 use Rattle.tables.specs.Tables.{Tabled, StrengthsOf}

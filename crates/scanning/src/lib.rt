@@ -92,7 +92,10 @@ pub struct Found {
     pub worked: u8,
 }
 
-// The scan without the link that sets v, once it is dropped and v's stay sets v: the tables become those of that panel.
+// The scan without the link that sets v, once it is dropped and v's stay sets v: the tables become those of that panel, each of its strengths is worked
+// out once, and the scan reads only these.
+// The contract rules out, for instance, an entry from before the removal and a scan that stops at the first blocked link (must-fail:
+// entry_from_before_the_removal, stops_at_first_blocked).
 pub fn scan_without(
     p: Panel,
     v: usize,

@@ -8,16 +8,16 @@ use mathlib.Core.Bool.{Bool, true, false, not, _&&_, _||_, cond, false≢true, o
 use mathlib.Core.List.{List, _++_}
 use native.Mathlib.Decide.{ℕ-discrete, decLt}
 use native.Mathlib.Omega.{arith}
-use borrow.Author.Tests.{ltb-true, lt-ltb, le-ltb, ne-eqb, not-true}
-use lib.Dec.{eqb, ltb}
+use borrow.Author.Tests.{ltb-true, lt-ltb, le-ltb}
+use lib.Dec.{ltb}
 use lib.ListN.{length, set, drop, length-set, length-append, length-drop}
 use lib.Seq.{getD-set-same, getD-set-other, ext-getD}
 use Rattle.fieldset.specs.Tables.{at, tabulate}
 use Rattle.fieldset.specs.Fields.{member, setOf, with, without, below, lowestOf, First, minus, size, Within}
-use Rattle.fieldset.proofs.Tests.{and-left, and-right}
+use Rattle.fieldset.proofs.Tests.{and-left}
 use Rattle.fieldset.proofs.Numbers.{clash}
 use Rattle.fieldset.proofs.Tables.{length-tabulate, getD-tabulated}
-use Rattle.fieldset.proofs.Fields.{member-filter, member-setOf, member-setOf-lt, member-empty, member-below, member-with-same, member-with-other, with-of, size-empty, size-below, size-mono, size-with}
+use Rattle.fieldset.proofs.Fields.{member-filter, member-setOf-lt, member-empty, member-below, member-with-same, member-with-other, with-of, size-empty, size-below, size-mono, size-with}
 use Rattle.fieldset.proofs.Emptying.{Emptying, empty-start, empty-step, empty-end, taken-in}
 use Rattle.strength.specs.Strength.{greatest, strength}
 use Rattle.strength.specs.Filling.{Acyclic, Strengths, Closed, Fillable, Filled, Topped}

@@ -12,7 +12,7 @@ ghost use mathlib.Core.Path.{_≡_};
 ghost use mathlib.Core.Bool.{true};
 ghost use lib.Dec.{eqb};
 ghost use mathlib.Core.List.{_++_};
-ghost use Prim.Native.Nat.{_≤_, _<_, max};
+ghost use Prim.Native.Nat.{_<_, max};
 ghost use lib.ListN.{length, drop};
 ghost use Rattle.fieldset.specs.Tables.{at, tabulate};
 ghost use Rattle.fieldset.specs.Fields.{member, below, filter, Within};
@@ -93,6 +93,7 @@ pub fn greatest(
 
 // The strengths of all fields below n, each worked out once: the answer counts them where they are stored. Where a setter has no other output the
 // strength is its level, and these come first.
+// The contract rules out, for instance, a field worked out twice and fields left out (must-fail: alone_worked_out_again, others_left_out).
 pub fn strengths(levels: &[u8; 64], others: &[u64; 64], n: usize, table: &mut [u8; 64]) -> u8
     requires { ⌜ Acyclic (now others) n × (length (now table) ≡ 64) ⌝ }
     ensures { λ r. ⌜ now (table .exit) ≡ tabulate (strength (at (now (levels .entry))) (at (now (others .entry))) n) n ++ drop n (now (table .entry)) ⌝ }

@@ -12,7 +12,6 @@ use Rattle.panel.specs.declared.Standing.the-variants.{Waiting, Holding}
 use Rattle.panel.specs.Steps.{removeStep}
 use Rattle.panel.specs.Commands.{removing, performed}
 use Rattle.panel.proofs.Outcomes.{decides-refused}
-use Rattle.tables.proofs.Settings.{places}
 use Rattle.reversal.specs.Reversals.{HeldField}
 use Rattle.reversal.proofs.Verdicts.{no-loop}
 use Rattle.scanning.specs.Scan.{Finds}

@@ -1,11 +1,10 @@
 -- `strength::strengths` meets its contract. The loop's invariant is `Begun`: of the fields looked at, those are known whose setters have no other
 -- output; its measure is how many are left. With these known, `fill` is asked for the others (`rest-asks`), and leaves the strengths of all fields
 -- below n (`listed`), each counted once (`all-counted`).
-use Prim.Native.Nat.{ℕ, _+_, _-_, _≤_}
+use Prim.Native.Nat.{ℕ, _-_, _≤_}
 use mathlib.Core.Path.{_≡_, ap, _∙_, subst}
 use mathlib.Core.Logic.{⊎-elim}
 use native.Mathlib.Omega.{arith}
-use lib.ListN.{length}
 use Rattle.fieldset.specs.Fields.{below, minus}
 use Rattle.fieldset.proofs.Fields.{size-le}
 use Rattle.strength.proofs.Gather.{Begun, none-begun, next-left, next-alone, rest-asks, all-counted, listed}

@@ -1,4 +1,4 @@
--- `counting::scan_counts` meets its contract. The loop's invariant is `Counted`, with room for one longest reply, so that a round is one line; its measure is what is
+-- `counting::panel_scans` meets its contract. The loop's invariant is `Counted`, with room for one longest reply, so that a round is one line; its measure is what is
 -- left of the text.
 use Prim.Native.Nat.{ℕ, _-_, _≤_, _<_}
 use mathlib.Core.Bool.{false}
@@ -13,8 +13,8 @@ use Rattle.frames.specs.Texts.{textLimit, isTooLong}
 use Rattle.replies.specs.Replies.{longest}
 use Rattle.counting.specs.Counts.{scansOf}
 use Rattle.counting.proofs.Counting.{Counted, none-counted, counted-all, line-still, line-scans}
-use Rattle.counting.proofs.scan_counts.Statement.{statement}
-use Rattle.counting.proofs.scan_counts.Tie as tie
+use Rattle.counting.proofs.panel_scans.Statement.{statement}
+use Rattle.counting.proofs.panel_scans.Tie as tie
 
 abbrev Inv-loop : tie.InvT-loop
 Inv-loop text counts₀ s₀ t₀ out₀ at₀ made₀ counts s t out at made = (length out ≡ longest) × Counted text counts₀ counts at s made
@@ -80,9 +80,11 @@ loop-again : tie.Need-loop-again Inv-loop μ-loop
 loop-again c =
     let t = scanned c in
     let a = answered t in
-    let l = looped a .loop in
-    (still-full a, line-scans (l .inv .1) _ _ (a .lines-from .ensures .0) (l .inv .0) (a .before .before .loop-test .taken) (on a .0) (on a .1)
-    (c .before .before .before .before .if2 .taken) _ (c .before .before .store .ensures))
+    let l = looped a .loop in (
+      still-full a,
+      line-scans (l .inv .1) _ _ (a .lines-from .ensures .0) (l .inv .0) (a .before .before .loop-test .taken) (on a .0) (on a .1)
+          (c .before .before .before .before .if2 .taken) _ (c .before .before .store .ensures),
+    )
 
 loop-less-2 : tie.Need-loop-less-2 Inv-loop μ-loop
 loop-less-2 c = let a = answered (c .before) in omega (arith, on a .0, on a .1)
@@ -99,8 +101,8 @@ same-length c = ap length (c .before .loop .inv .1 .stored) ∙ simp length-sets
 returns-2 : tie.Need-returns-2 Inv-loop μ-loop
 returns-2 c = counted-all (c .before .loop .inv .1) (omega (arith, c .loop-test .left)) (fits (c .before))
 
-pub scan-counts-spec : {M : Type 1} → statement M
-scan-counts-spec =
+pub panel-scans-spec : {M : Type 1} → statement M
+panel-scans-spec =
     tie.close
     (tie.spec
     Inv-loop
