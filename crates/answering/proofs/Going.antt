@@ -18,7 +18,7 @@ use Rattle.lines.proofs.Lines.{behind-within, behind-on, lines-on, lines-end}
 use Rattle.frames.specs.Texts.{Answered, LineAnswer, refusalOf, stateAfter, replies, tallyAfter, written}
 use Rattle.frames.proofs.Outputs.{state-more, replies-more, tally-more, written-more}
 use Rattle.replies.specs.Replies.{longest}
-use Rattle.answering.specs.Runs.{Reached, Paced, fitting, lastOf, RanFrom}
+use Rattle.answering.specs.Runs.{Reached, Paced, fitting, workedAfter, RanFrom}
 
 -- ---- how many lines fit
 
@@ -39,11 +39,11 @@ module _ {S : Type 0} (answer : LineAnswer S) where
   fitting-full room s (l ∷ ls) h = simp (lt-leb longest room h)
 
   -- one line more
-  last-more : (scan : S → List ℕ → ℕ) (done : List (List ℕ)) (l : List ℕ) (other : ℕ) (s : S)
-      → lastOf answer scan other s (done ++ (l ∷ [])) ≡ scan (stateAfter answer s done) l
-  unfolding lastOf stateAfter
-  last-more scan [] l other s = refl
-  last-more scan (d ∷ ds) l other s = last-more scan ds l (scan s d) (answer s d .state)
+  worked-more : (scan : ℕ → S → List ℕ → ℕ) (done : List (List ℕ)) (l : List ℕ) (n : ℕ) (s : S)
+      → workedAfter answer scan n s (done ++ (l ∷ [])) ≡ scan (workedAfter answer scan n s done) (stateAfter answer s done) l
+  unfolding workedAfter stateAfter
+  worked-more scan [] l n s = refl
+  worked-more scan (d ∷ ds) l n s = worked-more scan ds l (scan n s d) (answer s d .state)
 
 -- ---- the loop
 
@@ -54,7 +54,7 @@ module _ {S : Type 0} (answer : LineAnswer S) (Legal : S → Type 0) where
     pub legal : Legal s′
     pub short : length (lineOf reply) ≤ longest
 
-module _ {S : Type 0} (answer : LineAnswer S) (scan : S → List ℕ → ℕ) (Legal : S → Type 0) where
+module _ {S : Type 0} (answer : LineAnswer S) (scan : ℕ → S → List ℕ → ℕ) (Legal : S → Type 0) where
   -- these lines are done: what the code holds is what they are answered, and as many are due as they and the rest give
   pub record Going (text : List ℕ) (from room : ℕ) (s : S) (t : Tally) (before out : List ℕ) (r : Reached S) : Type 0 where
     pub done : List (List ℕ)
@@ -65,15 +65,15 @@ module _ {S : Type 0} (answer : LineAnswer S) (scan : S → List ℕ → ℕ) (L
     pub tally : r .tally ≡ tallyAfter t (replies answer s done)
     pub stored : out ≡ sets before 0 (written (replies answer s done))
     pub count : r .written ≡ length (written (replies answer s done))
-    pub scanned : r .scanned ≡ lastOf answer scan 0 s done
+    pub worked : r .worked ≡ workedAfter answer scan 0 s done
     pub within : r .next ≤ max from (length text)
     pub moved : from + length done ≤ r .next
     pub fits : r .written ≤ room
     pub paced : r .written ≤ longest * length done
 
   pub start : (text : List ℕ) (from room : ℕ) (s : S) (t : Tally) (before : List ℕ) → Legal s
-      → Going text from room s t before before (record { next = from; state = s; tally = t; written = 0; scanned = 0 })
-  unfolding stateAfter replies tallyAfter written lastOf
+      → Going text from room s t before before (record { next = from; state = s; tally = t; written = 0; worked = 0 })
+  unfolding stateAfter replies tallyAfter written workedAfter
   start text from room s t before h = record {
     done = [];
     lines = refl;
@@ -86,7 +86,7 @@ module _ {S : Type 0} (answer : LineAnswer S) (scan : S → List ℕ → ℕ) (L
     tally = refl;
     stored = refl;
     count = refl;
-    scanned = refl;
+    worked = refl;
     within = omega arith;
     moved = omega arith;
     fits = omega arith;
@@ -99,7 +99,7 @@ module _ {S : Type 0} (answer : LineAnswer S) (scan : S → List ℕ → ℕ) (L
         → (line : List ℕ) → line ≡ take (end - r .next) (drop (r .next) text) → (out′ : List ℕ) (r′ : Reached S) (reply : List ℕ)
         → Did answer Legal (r .state) line (r′ .state) reply
         → out′ ≡ sets out (r .written) (lineOf reply) → r′ .written ≡ r .written + length (lineOf reply)
-        → r′ .tally ≡ tallied (r .tally) (refusalOf reply) → r′ .next ≡ behindOf end (length text) → r′ .scanned ≡ scan (r .state) line
+        → r′ .tally ≡ tallied (r .tally) (refusalOf reply) → r′ .next ≡ behindOf end (length text) → r′ .worked ≡ scan (r .worked) (r .state) line
         → Going text from room s t before out′ r′
     line-done h k end ee line el out′ r′ reply did eo en eu ea es =
         let rest : List (List ℕ) = linesOf (drop (r′ .next) text) in
@@ -131,7 +131,7 @@ module _ {S : Type 0} (answer : LineAnswer S) (scan : S → List ℕ → ℕ) (L
               eo ∙ ap₂ (λ (l : List ℕ) (i : ℕ). sets l i (lineOf reply)) (g .stored) place
               ∙ sets-append before 0 (written was) (lineOf reply) ∙ ap (sets before 0) (sym bytes);
           count = en ∙ omega (arith, g .count, ap length bytes, length-append (written was) (lineOf reply));
-          scanned = es ∙ ap (λ (x : S). scan x line) (g .state) ∙ sym (last-more answer scan (g .done) line 0 s);
+          worked = es ∙ ap₂ (λ (n : ℕ) (x : S). scan n x line) (g .worked) (g .state) ∙ sym (worked-more answer scan (g .done) line 0 s);
           within = omega (arith, ea, behind-within text (r .next) end h ee);
           moved = omega (arith, g .moved, one, ea, behind-on text (r .next) end h ee);
           fits = omega (arith, en, did .short);
@@ -159,7 +159,7 @@ module _ {S : Type 0} (answer : LineAnswer S) (scan : S → List ℕ → ℕ) (L
             rest = sym (ap (drop n) (g .lines) ∙ drop-at (g .done) rest n all);
             buffer = g .stored ∙ ap (λ (rs : List (List ℕ)). sets before 0 (written rs)) replied;
             count = g .count ∙ ap (λ (rs : List (List ℕ)). length (written rs)) replied;
-            scanned = g .scanned ∙ ap (lastOf answer scan 0 s) taken;
+            worked = g .worked ∙ ap (workedAfter answer scan 0 s) taken;
           },
           record { onward = omega (arith, g .moved, all); within = g .within; fits = g .fits; paced = omega (arith, g .paced, all); progress = progress; stops = stops },
         )

@@ -53,20 +53,20 @@ line-answer q line k fields read = go k ∙ ap (λ (x : List ℕ). answered q x 
   go (Relate id form) = refl
   go (Refused r) = refl
 
--- what its command works out for a scan is what a line does: a removal's scan, and none for another command
-pub removed-scan : (q : Sheet) (line : List ℕ) (k : Command) (fields : List ℕ) → commandBytes k fields ≡ frameOf line → (id : ℕ) → k ≡ Remove id
-    → scanCount (q .panel) id ≡ lineScan q line
+-- the count after its command is that after a line: a removal's, and for another command as it was
+pub removed-scan : (n : ℕ) (q : Sheet) (line : List ℕ) (k : Command) (fields : List ℕ) → commandBytes k fields ≡ frameOf line → (id : ℕ) → k ≡ Remove id
+    → scanCount n (q .panel) id ≡ lineScan n q line
 unfolding lineScan commandOf
-removed-scan q line k fields read id e =
-    ap (λ (x : List ℕ). commandScan (q .panel) (commandOf x)) (sym (ap (λ (c : Command). commandBytes c fields) e) ∙ read)
+removed-scan n q line k fields read id e =
+    ap (λ (x : List ℕ). commandScan n (q .panel) (commandOf x)) (sym (ap (λ (c : Command). commandBytes c fields) e) ∙ read)
 
-pub no-scan : (q : Sheet) (line : List ℕ) (k : Command) (fields : List ℕ) → commandBytes k fields ≡ frameOf line
-    → OneOf (0 ∷ 1 ∷ 3 ∷ 4 ∷ 5 ∷ 6 ∷ 7 ∷ []) (tagOf the-type k) → 0 ≡ lineScan q line
+pub no-scan : (n : ℕ) (q : Sheet) (line : List ℕ) (k : Command) (fields : List ℕ) → commandBytes k fields ≡ frameOf line
+    → OneOf (0 ∷ 1 ∷ 3 ∷ 4 ∷ 5 ∷ 6 ∷ 7 ∷ []) (tagOf the-type k) → n ≡ lineScan n q line
 unfolding lineScan commandOf
-no-scan q line k fields read h = go k h ∙ ap (λ (x : List ℕ). commandScan (q .panel) (commandOf x)) read
+no-scan n q line k fields read h = go k h ∙ ap (λ (x : List ℕ). commandScan n (q .panel) (commandOf x)) read
   where
-    go : (c : Command) → OneOf (0 ∷ 1 ∷ 3 ∷ 4 ∷ 5 ∷ 6 ∷ 7 ∷ []) (tagOf the-type c) → 0 ≡ commandScan (q .panel) (commandOf (commandBytes c fields))
-    go (Open n) h = refl
+    go : (c : Command) → OneOf (0 ∷ 1 ∷ 3 ∷ 4 ∷ 5 ∷ 6 ∷ 7 ∷ []) (tagOf the-type c) → n ≡ commandScan n (q .panel) (commandOf (commandBytes c fields))
+    go (Open m) h = refl
     go (Add id level) h = refl
     go (Remove id) h = absurd (not-among 2 (0 ∷ 1 ∷ 3 ∷ 4 ∷ 5 ∷ 6 ∷ 7 ∷ []) refl h)
     go (Touch f) h = refl

@@ -14,18 +14,18 @@ use Rattle.frames.specs.Texts.{LineAnswer, stateAfter, replies, tallyAfter, wri
 use Rattle.replies.specs.Replies.{longest}
 use Rattle.answering.specs.declared.Progress.{Progress}
 
--- where a run over a text stands: the position of the next line, the state, the tally, how many bytes were written, and how many strengths the scan
--- of the last line worked out
+-- where a run over a text stands: the position of the next line, the state, the tally, how many bytes were written, and how many strengths the last
+-- scan worked out
 pub record Reached (S : Type 0) : Type 0 where
   pub next : ℕ
   pub state : S
   pub tally : Tally
   pub written : ℕ
-  pub scanned : ℕ
+  pub worked : ℕ
 
 -- what the code answers
 abbrev pub reached : Progress → Reached Sheet
-reached r = record { next = r .next; state = r .sheet; tally = r .tally; written = r .written; scanned = r .scanned }
+reached r = record { next = r .next; state = r .sheet; tally = r .tally; written = r .written; worked = r .worked }
 
 -- how far a run got that answered n lines
 pub record Paced {S : Type 0} (text : List ℕ) (from room n : ℕ) (r : Reached S) : Type 0 where
@@ -45,10 +45,10 @@ module _ {S : Type 0} (answer : LineAnswer S) where
       let a = answer s l in
       cond (leb longest room) (suc (fitting (room - length (lineOf (a .reply))) (a .state) ls)) 0
 
-  -- what a line comes to by `scan`, for the last of these lines; `other` where there is none
-  unfoldable pub lastOf : (S → List ℕ → ℕ) → ℕ → S → List (List ℕ) → ℕ
-  lastOf scan other s [] = other
-  lastOf scan other s (l ∷ ls) = lastOf scan (scan s l) (answer s l .state) ls
+  -- how many strengths the last scan worked out after lines, where `scan n s l` is that after the line l and n that before it
+  unfoldable pub workedAfter : (ℕ → S → List ℕ → ℕ) → ℕ → S → List (List ℕ) → ℕ
+  workedAfter scan n s [] = n
+  workedAfter scan n s (l ∷ ls) = workedAfter scan (scan n s l) (answer s l .state) ls
 
   -- a run that goes on from a position
   pub record Resumed (text : List ℕ) (from : ℕ) (s : S) (t : Tally) (before after : List ℕ) (r : Reached S) : Type 0 where
@@ -63,8 +63,7 @@ module _ {S : Type 0} (answer : LineAnswer S) where
     -- where a line is left and a longest reply fits, a line is answered
     pub progress : from < length text → longest ≤ length before → from < r .next
 
--- `scan s l` is how many strengths the scan of the line l works out in the state s
-module _ {S : Type 0} (answer : LineAnswer S) (scan : S → List ℕ → ℕ) where
+module _ {S : Type 0} (answer : LineAnswer S) (scan : ℕ → S → List ℕ → ℕ) where
   -- of these lines of a text the first n are answered, from a state and a tally on; what is legal of a state holds of the one that is reached
   pub record Ran (Legal : S → Type 0) (text : List ℕ) (lines : List (List ℕ)) (n : ℕ) (s : S) (t : Tally) (before after : List ℕ) (r : Reached S) : Type 0 where
     pub state : r .state ≡ stateAfter answer s (take n lines)
@@ -74,7 +73,7 @@ module _ {S : Type 0} (answer : LineAnswer S) (scan : S → List ℕ → ℕ) wh
     -- as many of their replies' characters as fit stand at the start of the buffer, whose bytes behind are as they were
     pub buffer : after ≡ sets before 0 (written (replies answer s (take n lines)))
     pub count : r .written ≡ length (written (replies answer s (take n lines)))
-    pub scanned : r .scanned ≡ lastOf answer scan 0 s (take n lines)
+    pub worked : r .worked ≡ workedAfter answer scan 0 s (take n lines)
 
   -- the lines from a position on, as many as fit the room
   abbrev pub RanFrom : (Legal : S → Type 0) (text : List ℕ) (from room : ℕ) (s : S) (t : Tally) (before after : List ℕ) (r : Reached S) → Type 0

@@ -10,16 +10,17 @@ use Rattle.sheet.specs.Commands as sheet
 use Rattle.sheet.specs.Commands.{solving, entering, relating}
 use Rattle.frames.specs.Frames.{frameOf, commandOf}
 
--- how many strengths a command works out for its scan: only a removal makes one
-abbrev pub commandScan : Panel → Option sheet.Command → ℕ
-commandScan p none = 0
-commandScan p (some (solving (opening n))) = 0
-commandScan p (some (solving (adding id level bytes))) = 0
-commandScan p (some (solving (removing id))) = scanCount p id
-commandScan p (some (solving (touching f))) = 0
-commandScan p (some (solving planning)) = 0
-commandScan p (some (entering f v)) = 0
-commandScan p (some (relating id formula)) = 0
+-- how many strengths the last scan worked out, after a command: only a removal makes one
+abbrev pub commandScan : ℕ → Panel → Option sheet.Command → ℕ
+commandScan before p none = before
+commandScan before p (some (solving (opening n))) = before
+commandScan before p (some (solving (adding id level bytes))) = before
+commandScan before p (some (solving (removing id))) = scanCount before p id
+commandScan before p (some (solving (touching f))) = before
+commandScan before p (some (solving planning)) = before
+commandScan before p (some (entering f v)) = before
+commandScan before p (some (relating id formula)) = before
 
-unfoldable pub lineScan : Sheet → List ℕ → ℕ
-lineScan s line = commandScan (s .panel) (commandOf (frameOf line))
+-- after a line
+unfoldable pub lineScan : ℕ → Sheet → List ℕ → ℕ
+lineScan before s line = commandScan before (s .panel) (commandOf (frameOf line))

@@ -31,13 +31,13 @@ ghost use Rattle.answering.specs.Runs.{reached, fitting, RanFrom, Paced,
 ghost use Rattle.answering.specs.Scans.{lineScan};
 
 // Where a run over a text stands: the position of the next line, the sheet, the tally, how many bytes were written, and how many strengths were worked
-// out for the scan of the last line that was answered, 0 where it made none.
+// out for the last scan, 0 where none was made.
 pub struct Progress {
     pub next: usize,
     pub sheet: Sheet,
     pub tally: Tally,
     pub written: usize,
-    pub scanned: u8,
+    pub worked: u8,
 }
 
 // Where a run stands, with the parts of the sheet put together.
@@ -48,9 +48,9 @@ fn progress_of(
     values: [i32; 64],
     tally: Tally,
     written: usize,
-    scanned: u8,
+    worked: u8,
 ) -> Progress
-    ensures { λ r. ⌜ reached r ≡ record { next = next; state = sheetOf panel formulas values; tally = tally; written = written; scanned = scanned } ⌝ }
+    ensures { λ r. ⌜ reached r ≡ record { next = next; state = sheetOf panel formulas values; tally = tally; written = written; worked = worked } ⌝ }
 {
     let sheet = Sheet {
         panel: panel,
@@ -62,7 +62,7 @@ fn progress_of(
         sheet: sheet,
         tally: tally,
         written: written,
-        scanned: scanned,
+        worked: worked,
     }
 }
 
@@ -78,14 +78,13 @@ pub fn answer_lines(
     room: usize,
 ) -> Progress
     requires { ⌜ LegalSheet s × (room < 2 ^ 63) ⌝ }
-    ensures { λ r. ⌜ RanFrom lineAnswer lineScan LegalSheet (now (text .entry)) at room s t (now (out .entry)) (now (out .exit)) (reached r) ⌝ }
-    ensures { λ r. ⌜ Paced (now (text .entry)) at room (fitting lineAnswer room s (linesOf (drop at (now (text .entry))))) (reached r) ⌝ }
+    ensures { λ r. ⌜ RanFrom lineAnswer lineScan LegalSheet (now (text .entry)) at room s t (now (out .entry)) (now (out .exit)) (reached r) × Paced (now (text .entry)) at room (fitting lineAnswer room s (linesOf (drop at (now (text .entry))))) (reached r) ⌝ }
 {
     let mut q = s.panel;
     let mut formulas = s.formulas;
     let mut values = s.values;
     let mut n: usize = 0;
-    let mut scanned = 0u8;
+    let mut worked = 0u8;
     let mut rows = [0u8; ROWS];
     let mut path = [0u8; 64];
     let mut levels = [0u8; 64];
@@ -100,18 +99,8 @@ pub fn answer_lines(
         let k = wide(frames::number_of(command));
         let old = q.links[k];
         let step = if let Command::Remove(id) = command {
-            remove(
-                q,
-                old,
-                &levels,
-                &others,
-                &reads,
-                id,
-                &mut path,
-                &mut scanned,
-            )
+            remove(q, old, &levels, &others, &reads, id, &mut path, &mut worked)
         } else {
-            scanned = 0;
             let step = decide_line(q, old, &levels, &others, &reads, line, &mut path, &mut rows);
             if let Command::Enter(f, b) = command {
                 let setter = setters(q, step, &path, &levels, &others, &reads, &mut after);
@@ -138,7 +127,7 @@ pub fn answer_lines(
         t = tallied_line(t, refusal_of(reply));
         at = lines::behind(text, end);
     }
-    progress_of(at, q, formulas, values, t, n, scanned)
+    progress_of(at, q, formulas, values, t, n, worked)
 }
 
 // Goes on from a position of a text: answers whole lines while a longest reply, with its LF, still fits the buffer.

@@ -23,7 +23,7 @@ use Rattle.lines.proofs.Lines.{lines-on, lines-end}
 use Rattle.frames.specs.Texts.{isTooLong, stateAfter}
 use Rattle.frames.specs.Frames.{lineAnswer}
 use Rattle.replies.specs.Replies.{longest}
-use Rattle.answering.specs.Runs.{Reached, fitting, lastOf, RanFrom}
+use Rattle.answering.specs.Runs.{Reached, fitting, workedAfter, RanFrom}
 use Rattle.answering.specs.Scans.{lineScan}
 use Rattle.answering.proofs.Going.{fitting-line, fitting-full}
 use Rattle.counting.specs.Counts.{scanCounts, scansOf}
@@ -35,12 +35,12 @@ added n rest = cond (eqb n 0) rest (n ∷ rest)
 module _ (text : List ℕ) (from room : ℕ) (s : Sheet) (t : Tally) (before after : List ℕ) (r : Reached Sheet) where
   -- one line is answered
   one-line : RanFrom lineAnswer lineScan LegalSheet text from room s t before after r → from < length text → room ≡ longest
-      → scanCounts s (linesOf (drop from text)) ≡ added (r .scanned) (scanCounts (r .state) (linesOf (drop (r .next) text)))
-  unfolding scanCounts stateAfter lastOf
+      → scanCounts s (linesOf (drop from text)) ≡ added (r .worked) (scanCounts (r .state) (linesOf (drop (r .next) text)))
+  unfolding scanCounts stateAfter workedAfter
   one-line ran l e = go _ _ (lines-on text from _ l refl)
     where
       go : (line : List ℕ) (rest : List (List ℕ)) → linesOf (drop from text) ≡ line ∷ rest
-          → scanCounts s (linesOf (drop from text)) ≡ added (r .scanned) (scanCounts (r .state) (linesOf (drop (r .next) text)))
+          → scanCounts s (linesOf (drop from text)) ≡ added (r .worked) (scanCounts (r .state) (linesOf (drop (r .next) text)))
       go line rest is =
           let one : fitting lineAnswer room s (linesOf (drop from text)) ≡ 1 =
           ap (fitting lineAnswer room s) is ∙ fitting-line lineAnswer room s line rest (lineAnswer s line) refl (omega arith)
@@ -48,7 +48,7 @@ module _ (text : List ℕ) (from room : ℕ) (s : Sheet) (t : Tally) (before aft
           in
           let first : take (fitting lineAnswer room s (linesOf (drop from text))) (linesOf (drop from text)) ≡ line ∷ [] = ap₂ take one is in
           let others : linesOf (drop (r .next) text) ≡ rest = ran .rest ∙ ap₂ drop one is in
-          rw (ran .scanned, ran .state, first, others, is) refl
+          rw (ran .worked, ran .state, first, others, is) refl
 
 -- the scans so far are counted: a run over a text stands at a position and in a state, and so many counts are stored
 pub record Counted (text before counts : List ℕ) (at : ℕ) (s : Sheet) (made : ℕ) : Type 0 where
@@ -84,17 +84,17 @@ module _ {text before counts : List ℕ} {at made : ℕ} {s : Sheet} (c : Counte
   -- one line more, which adds these counts
   module _ {t : Tally} {out out′ : List ℕ} (room : ℕ) (r : Reached Sheet) (ran : RanFrom lineAnswer lineScan LegalSheet text at room s t out out′ r) (full : room ≡ longest)
       (left : at < length text) (on : at < r .next) (within : r .next ≤ length text) where
-    more : (xs : List ℕ) → added (r .scanned) (scanCounts (r .state) (linesOf (drop (r .next) text))) ≡ xs ++ scanCounts (r .state) (linesOf (drop (r .next) text))
+    more : (xs : List ℕ) → added (r .worked) (scanCounts (r .state) (linesOf (drop (r .next) text))) ≡ xs ++ scanCounts (r .state) (linesOf (drop (r .next) text))
         → scanCounts unopened (linesOf text) ≡ (c .done ++ xs) ++ scanCounts (r .state) (linesOf (drop (r .next) text))
     more xs e =
         c .all ∙ ap (λ (ys : List ℕ). c .done ++ ys) (one-line text at room s t out out′ r ran left full ∙ e)
         ∙ sym (append-assoc (c .done) xs (scanCounts (r .state) (linesOf (drop (r .next) text))))
 
     -- it makes no scan
-    pub line-still : r .scanned ≡ 0 → Counted text before counts (r .next) (r .state) made
+    pub line-still : r .worked ≡ 0 → Counted text before counts (r .next) (r .state) made
     line-still z = record {
       done = c .done;
-      all = more [] (rw (eq-eqb (r .scanned) 0 z) refl) ∙ ap (λ (ys : List ℕ). ys ++ scanCounts (r .state) (linesOf (drop (r .next) text))) (append-nil (c .done));
+      all = more [] (rw (eq-eqb (r .worked) 0 z) refl) ∙ ap (λ (ys : List ℕ). ys ++ scanCounts (r .state) (linesOf (drop (r .next) text))) (append-nil (c .done));
       stored = c .stored;
       number = c .number;
       few = omega (arith, c .few);
@@ -103,16 +103,16 @@ module _ {text before counts : List ℕ} {at made : ℕ} {s : Sheet} (c : Counte
     }
 
     -- it makes one
-    pub line-scans : r .scanned ≢ 0 → (counts′ : List ℕ) → counts′ ≡ set counts made (r .scanned) → Counted text before counts′ (r .next) (r .state) (made + 1)
+    pub line-scans : r .worked ≢ 0 → (counts′ : List ℕ) → counts′ ≡ set counts made (r .worked) → Counted text before counts′ (r .next) (r .state) (made + 1)
     line-scans nz counts′ e =
         let place : made ≡ 0 + length (c .done) = omega (arith, c .number) in
         record {
-          done = c .done ++ (r .scanned ∷ []);
-          all = more (r .scanned ∷ []) (rw (ne-eqb (r .scanned) 0 nz) refl);
+          done = c .done ++ (r .worked ∷ []);
+          all = more (r .worked ∷ []) (rw (ne-eqb (r .worked) 0 nz) refl);
           stored =
-              e ∙ ap₂ (λ (l : List ℕ) (i : ℕ). sets l i (r .scanned ∷ [])) (c .stored) place
-              ∙ sets-append before 0 (c .done) (r .scanned ∷ []);
-          number = omega (arith, c .number, length-append (c .done) (r .scanned ∷ []));
+              e ∙ ap₂ (λ (l : List ℕ) (i : ℕ). sets l i (r .worked ∷ [])) (c .stored) place
+              ∙ sets-append before 0 (c .done) (r .worked ∷ []);
+          number = omega (arith, c .number, length-append (c .done) (r .worked ∷ []));
           few = omega (arith, c .few);
           within = within;
           legal = ran .legal;

@@ -15,7 +15,7 @@ unfoldable pub scanCounts : Sheet → List (List ℕ) → List ℕ
 scanCounts s [] = []
 scanCounts s (l ∷ ls) =
     let rest = scanCounts (lineAnswer s l .state) ls in
-    cond (eqb (lineScan s l) 0) rest (lineScan s l ∷ rest)
+    cond (eqb (lineScan 0 s l) 0) rest (lineScan 0 s l ∷ rest)
 
 -- of a text, from an unopened panel on; of one that is too long "No line is treated"
 unfoldable pub scansOf : List ℕ → List ℕ

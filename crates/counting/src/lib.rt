@@ -39,7 +39,7 @@ pub extern "C" fn panel_scans(text: &[u8], counts: &mut [u8]) -> usize
         at = r.next;
         s = r.sheet;
         t = r.tally;
-        let worked = r.scanned;
+        let worked = r.worked;
         if worked != 0 {
             store(counts, made, worked);
             made += 1;

@@ -57,7 +57,7 @@ use Rattle.scanning.specs.Scan.{Finds, Scanned}
 use Rattle.scanning.proofs.Dropped.{sets-holds, field-small, Held, rest, dropped-rest, legal-rest, found-blocked, dropped-setter}
 use Rattle.removing.specs.declared.Chosen.{Chosen}
 use Rattle.removing.specs.Choice.{OfField, chosenOf}
-use Rattle.removing.specs.Scans.{countFor, scanCount}
+use Rattle.removing.specs.Scans.{countAfter, scanCount}
 
 -- ---- the checks
 
@@ -100,11 +100,11 @@ module _ (p : Panel) (h : Legal p) (id : ℕ) where
       (ap not (lt-ltb 0 (p .size) (omega arith)), (le-ltb 127 id (omega arith), (ap not used, tt)))
 
   pub count-refused : (old : Link) → old ≡ linkAt (p .links) (id % 128) → (reply : Reply) → replyBytes reply ≡ checkReply (checkRemove (p .size) id (old .used))
-      → (x : Refusal) → reply ≡ Refused x → scanCount p id ≡ 0
+      → (x : Refusal) → reply ≡ Refused x → (n : ℕ) → n ≡ scanCount n p id
   unfolding scanCount
-  count-refused old is reply checks x refuses = go (linkAt (p .links) id .standing) refl
+  count-refused old is reply checks x refuses n = go (linkAt (p .links) id .standing) refl
     where
-      go : (s : Standing) → linkAt (p .links) id .standing ≡ s → countFor (p .size) s ≡ 0
+      go : (s : Standing) → linkAt (p .links) id .standing ≡ s → n ≡ countAfter n (p .size) s
       go Waiting e = refl
       go (Holding v) e =
           let named : old ≡ linkAt (p .links) id = named-link (p .links) id old is (held-number v e) in
@@ -114,9 +114,9 @@ module _ (p : Panel) (h : Legal p) (id : ℕ) where
           let z : _≡_ {A = ℕ} 0 1 = cc in absurd (omega arith)
 
   -- it names a link of this standing
-  pub count-standing : (s : Standing) → linkAt (p .links) id .standing ≡ s → scanCount p id ≡ countFor (p .size) s
+  pub count-standing : (n : ℕ) (s : Standing) → linkAt (p .links) id .standing ≡ s → countAfter n (p .size) s ≡ scanCount n p id
   unfolding scanCount
-  count-standing s e = ap (countFor (p .size)) e
+  count-standing n s e = ap (countAfter n (p .size)) (sym e)
 
 -- ---- the change
 
@@ -200,8 +200,8 @@ module _ {p : Panel} {id v : ℕ} {levels others reads : List ℕ} (x : Removal 
     tabled : Tabled q L O R
     tabled = subst (λ (r : Panel). Tabled r L O R) (dropped-setter (x .held)) filled
 
-    pub scan-counts : worked ≡ scanCount p id
-    scan-counts = scan .once ∙ sym (count-standing p (x .held .legal) id (Holding v) (x .held .holds))
+    pub scan-counts : (n : ℕ) → worked ≡ scanCount n p id
+    scan-counts n = scan .once ∙ count-standing p (x .held .legal) id n (Holding v) (x .held .holds)
 
     pub scan-finds : Finds q b
     scan-finds = scan .finds

@@ -80,10 +80,10 @@ fn choose(b: Blocked) -> Chosen
     }
 }
 
-// Decides on removing a link; `old` is the link that stands under its number. `scanned` becomes the number of strengths that were worked out for its
-// scan, 0 where it makes none.
-// The contract rules out, for instance, a blocked link that does not set and a refusal of the checks that counts a strength (must-fail:
-// blocked_link_does_not_set, refusal_counts).
+// Decides on removing a link; `old` is the link that stands under its number. Where the removal makes a scan, `worked`
+// becomes the number of strengths that were worked out for it.
+// The contract rules out, for instance, a blocked link that does not set and the number of the freed field for the count (must-fail:
+// blocked_link_does_not_set, field_for_the_count).
 pub fn remove(
     p: Panel,
     old: Link,
@@ -92,13 +92,12 @@ pub fn remove(
     reads: &[u64; 64],
     id: u8,
     path: &mut [u8; 64],
-    scanned: &mut u8,
+    worked: &mut u8,
 ) -> Step
     requires { ⌜ Legal p × Tabled p (now levels) (now others) (now reads) × (old ≡ linkAt (p .links) (id % 128)) × (length (now path) ≡ 64) ⌝ }
     ensures { λ r. ⌜ Decides p (id % 128) (removing id) (now (path .exit)) r ⌝ }
-    ensures { λ r. ⌜ now (scanned .exit) ≡ scanCount p id ⌝ }
+    ensures { λ r. ⌜ now (worked .exit) ≡ scanCount (now (worked .entry)) p id ⌝ }
 {
-    *scanned = 0;
     let n = p.size;
     let place = p.place;
     let reply = check_remove(n, id, old.used);
@@ -114,7 +113,7 @@ pub fn remove(
     let mut reading = *reads;
     let mut table = [0u8; 64];
     let found = scan_without(p, wide(h), &mut fresh, &mut outs, &mut reading, &mut table);
-    *scanned = found.worked;
+    *worked = found.worked;
     let blocked = found.blocked;
     let b = choose(blocked);
     let mut verdict = Verdict::Free;

@@ -26,7 +26,7 @@ pub tally-parts : (b : List ℕ) (t : Tally) → b ≡ tallyBytes t → getD b 0
 unfolding tallyBytes threeBytes
 tally-parts b t e = ap (λ (x : List ℕ). getD x 0 0 ∷ getD x 1 0 ∷ take (length x - 2) (drop 2 x)) e
 
-module _ {S : Type 0} (answer : LineAnswer S) {scan : S → List ℕ → ℕ} (Legal : S → Type 0) where
+module _ {S : Type 0} (answer : LineAnswer S) {scan : ℕ → S → List ℕ → ℕ} (Legal : S → Type 0) where
   -- with room for all of the lines none is left
   none-left : (text : List ℕ) (room n : ℕ) (s : S) (t : Tally) (before after : List ℕ) (r : Reached S)
       → Ran answer scan Legal text (linesOf text) n s t before after r → Paced text 0 room n r → longest * length (linesOf text) ≤ room → length text ≤ r .next

@@ -38,12 +38,12 @@ use Rattle.answering.proofs.answer_lines.Statement.{statement}
 use Rattle.answering.proofs.answer_lines.Tie as tie
 
 abbrev Inv-loop : tie.InvT-loop
-Inv-loop text at₀ t₀ out₀ room q₀ formulas₀ values₀ n₀ scanned₀ rows₀ path₀ levels₀ others₀ reads₀ after₀ at t out q formulas values n scanned rows path levels others reads after =
+Inv-loop text at₀ t₀ out₀ room q₀ formulas₀ values₀ n₀ worked₀ rows₀ path₀ levels₀ others₀ reads₀ after₀ at t out q formulas values n worked rows path levels others reads after =
     (length rows ≡ rowsLength) × (length path ≡ 64) × Tabled q levels others reads
-    × Going lineAnswer lineScan LegalSheet text at₀ room (sheetOf q₀ formulas₀ values₀) t₀ out₀ out (record { next = at; state = sheetOf q formulas values; tally = t; written = n; scanned = scanned })
+    × Going lineAnswer lineScan LegalSheet text at₀ room (sheetOf q₀ formulas₀ values₀) t₀ out₀ out (record { next = at; state = sheetOf q formulas values; tally = t; written = n; worked = worked })
 
 abbrev μ-loop : tie.MeasureT-loop
-μ-loop text at₀ t₀ out₀ room q₀ formulas₀ values₀ n₀ scanned₀ rows₀ path₀ levels₀ others₀ reads₀ after₀ at t out q formulas values n scanned rows path levels others reads after =
+μ-loop text at₀ t₀ out₀ room q₀ formulas₀ values₀ n₀ worked₀ rows₀ path₀ levels₀ others₀ reads₀ after₀ at t out q formulas values n worked rows path levels others reads after =
     length text - at
 
 -- ---- the places: the line is read, and the link that its command names is known
@@ -296,13 +296,13 @@ line-does c =
     did (sheet-of n) (line-of n) _ (tail-at n) (read n .read-line .ensures .bytes) _ _ _ _ _ (stepped m) _ (taken j .panel) _ (rule-is c) (is-legal n)
 
 -- the scan of the line
-scans : (c : tie.At-match-came Inv-loop μ-loop) → c .match .scanned ≡ lineScan (sheet-of (c .before)) (line-of (c .before))
+scans : (c : tie.At-match-came Inv-loop μ-loop) → let n = c .before in c .match .worked ≡ lineScan (looped n .loop .worked) (sheet-of n) (line-of n)
 scans c =
     let n = c .before in
     let framed = read n .read-line .ensures .bytes in
-    ⊎-elim (λ w. w .10 ∙ w .8 .ensures .1 ∙ removed-scan (sheet-of n) (line-of n) (command-of n) (tail-at n) framed _ (w .1 .given .1))
-    (⊎-elim (λ w. w .22 ∙ no-scan (sheet-of n) (line-of n) (command-of n) (tail-at n) framed (w .0 .keys2))
-    (λ w. w .9 ∙ no-scan (sheet-of n) (line-of n) (command-of n) (tail-at n) framed (w .0 .keys2))) (c .match .came)
+    ⊎-elim (λ w. w .10 ∙ w .8 .ensures .1 ∙ removed-scan (looped n .loop .worked) (sheet-of n) (line-of n) (command-of n) (tail-at n) framed _ (w .1 .given .1))
+    (⊎-elim (λ w. w .22 ∙ no-scan (looped n .loop .worked) (sheet-of n) (line-of n) (command-of n) (tail-at n) framed (w .0 .keys2))
+    (λ w. w .9 ∙ no-scan (looped n .loop .worked) (sheet-of n) (line-of n) (command-of n) (tail-at n) framed (w .0 .keys2))) (c .match .came)
 
 is-written : (j : tie.Joined2 Inv-loop μ-loop) → let m = joined j in wholeReply (m .match .command) (m .match .step .reply) (m .match .rows) ≡ reply-of j
 is-written j = let m = joined j in ap (λ (k : Command). wholeReply k (m .match .step .reply) (m .match .rows)) (same-command m)

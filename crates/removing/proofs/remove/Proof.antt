@@ -92,7 +92,7 @@ returns c =
     let e = refuses .enum-told .given .1 in (
       decides-refused (s .args .p) _ _ _ (removing (s .args .id)) _ (s .pre .3) _ _ (s .pre .2) e
           (remove-refused (s .args .p) (s .args .id) _ (s .pre .2) _ (checked .check-remove .ensures) _ e) (c .unchanged .ensures),
-      sym (count-refused (s .args .p) (s .pre .0) (s .args .id) _ (s .pre .2) _ (checked .check-remove .ensures) _ e),
+      count-refused (s .args .p) (s .pre .0) (s .args .id) _ (s .pre .2) _ (checked .check-remove .ensures) _ e _,
     )
 
 step-of-requires : tie.Need-step-of-requires
@@ -108,7 +108,7 @@ returns-2 c =
     let (small, step) = passed e in (
       remove-waiting (s .args .p) (s .pre .0) (s .args .id) small _ _ _ _ (s .pre .3) (s .pre .2) (c .before .no-link .ensures) (waits .enum-told3 .given .1) step
           (c .step-of .ensures),
-      sym (count-standing (s .args .p) (s .pre .0) (s .args .id) Waiting (old-standing (s .args .p) (s .pre .0) (s .args .id) small _ (s .pre .2) ∙ waits .enum-told3 .given .1)),
+      count-standing (s .args .p) (s .pre .0) (s .args .id) _ Waiting (old-standing (s .args .p) (s .pre .0) (s .args .id) small _ (s .pre .2) ∙ waits .enum-told3 .given .1),
     )
 
 scan-without-requires : tie.Need-scan-without-requires
@@ -143,7 +143,7 @@ returns-3 c =
     let e = scan k .scan-without .ensures in (
       remove-looped (removal (field k)) refl (e .0) (e .1) _ _ _ (chosen k) _ _ (judged j) _ _ (begin (field k) .pre .2)
           (refuses .enum-told4 .given .1) (c .unchanged2 .ensures),
-      scan-counts (removal (field k)) refl (e .0) (e .1),
+      scan-counts (removal (field k)) refl (e .0) (e .1) _,
     )
 
 step-of-requires-2 : tie.Need-step-of-requires-2
@@ -161,7 +161,7 @@ returns-4 c =
     let e = scan k .scan-without .ensures in (
       remove-reversed (removal w) refl (e .0) (e .1) _ _ _ (chosen k) _ _ (judged j) _ _ _ (dropped .no-link2 .ensures) (w .wide .ensures)
           (no-loop _ (goes .match3 .keys2)) (c .step-of2 .ensures),
-      scan-counts (removal w) refl (e .0) (e .1),
+      scan-counts (removal w) refl (e .0) (e .1) _,
     )
 
 pub remove-spec : {M : Type 1} → statement M
