@@ -222,6 +222,15 @@ legal-aside p i l a h small (Holding v) e = aside-holding p i v l a h small e
 pub none-aside : (n : ℕ) → Aside n noLink
 none-aside n = record { good = good-none n; off = unused-off noLink refl; rests = refl }
 
+-- a field given back to its stay leaves the number of fields and the links
+pub freed-parts : (q : Panel) (s : Standing) → (freed q s .size ≡ q .size) × (freed q s .links ≡ q .links)
+freed-parts q Waiting = (refl, refl)
+freed-parts q (Holding v) = (refl, refl)
+
+pub dropped-parts : (p : Panel) (i : ℕ) → (dropped p i .size ≡ p .size) × (dropped p i .links ≡ set (p .links) i noLink)
+unfolding dropped
+dropped-parts p i = freed-parts (withLink p i noLink) (linkAt (p .links) i .standing)
+
 pub legal-dropped : (p : Panel) (i : ℕ) → Legal p → i < 128 → Legal (dropped p i)
 unfolding dropped
 legal-dropped p i h small = legal-aside p i noLink (none-aside (p .size)) h small (linkAt (p .links) i .standing) refl

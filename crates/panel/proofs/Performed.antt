@@ -1,7 +1,8 @@
 -- Every command leaves a legal panel legal: a refusal leaves it as it is; a step makes a change that is legal (`Changes`), and then reverses a path
--- without a loop (`legal-reversed`) or is refused.
+-- without a loop (`legal-reversed`) or is refused. What such a change has and every reversal keeps holds after the command (`kept-performed`): so an
+-- open panel keeps its number of fields (`performed-size`).
 use Prim.Native.Nat.{ℕ, _<_}
-use mathlib.Core.Path.{_≡_, refl}
+use mathlib.Core.Path.{_≡_, refl, ap, _∙_}
 use mathlib.Core.Bool.{Bool, true, false}
 use mathlib.Core.List.{List, [], _∷_}
 use mathlib.Core.Option.{Option, none, some}
@@ -22,10 +23,10 @@ use Rattle.panel.specs.Solution.{isBlocked, pathFor, reversed, leastBloc
 use Rattle.panel.specs.Steps.{accepted, reverseStep, openStep, enterStep, addStep, settled, dropStep, removeStep, touchStep, planStep}
 use Rattle.panel.specs.Commands.{coveredIn, outputsIn, Check, checked, Passes, openChecks, addChecks, removeChecks, touchChecks, planChecks, Command, opening, adding, removing, touching, planning, performed}
 use Rattle.panel.specs.Legal.{Legal}
-use Rattle.panel.proofs.Reversed.{link-here}
+use Rattle.panel.proofs.Reversed.{link-here, reversed-size}
 use Rattle.panel.proofs.Legal.{LegalBut}
 use Rattle.panel.proofs.Reversal.{blocking, legal-waits, legal-reversed}
-use Rattle.panel.proofs.Changes.{legal-opened, Enters, add-enters, legal-add, legal-but, legal-dropped, legal-front}
+use Rattle.panel.proofs.Changes.{legal-opened, Enters, add-enters, legal-add, legal-but, dropped-parts, legal-dropped, legal-front}
 use Rattle.panel.proofs.Checks.{checked-panel, newLink, addable, removable, touchable, openable}
 use Rattle.panel.proofs.Least.{LeastBlocked, least-blocked}
 
@@ -175,6 +176,25 @@ module _ (P : Panel → Type 0) (turns : (q : Panel) (c : Item) (vs : List ℕ) 
       kept-checked (removeChecks p id) (removeStep p id) (λ a. kept-drop (dropped p id) (linkAt (p .links) id .standing) (k a))
   kept-performed (touching f) k = kept-checked (touchChecks p f) (touchStep p f) (λ a. kept-touch f (k a))
   kept-performed planning k = kept-checked (planChecks p) (planStep p) (λ a. inr (refl, k))
+
+-- an open panel keeps its number of fields
+pub performed-size : (p : Panel) (c : Command) → 0 < p .size → performed p c .panel .size ≡ p .size
+unfolding toFront
+performed-size p c is-open = go (kept-performed Same (λ q d vs k. reversed-size q d vs ∙ k) p c (same c))
+  where
+    Same : Panel → Type 0
+    Same q = q .size ≡ p .size
+
+    same : (c : Command) → Changes Same p c
+    same (opening n) = λ a. absurd (omega (arith, openable p n a .0))
+    same (adding id level bytes) = λ a. refl
+    same (removing id) = λ a. dropped-parts p id .0
+    same (touching f) = λ a. refl
+    same planning = refl
+
+    go : Keeps Same p (performed p c) → performed p c .panel .size ≡ p .size
+    go (inl (r, q)) = ap (λ (x : Panel). x .size) q
+    go (inr (r, k)) = k
 
 -- a removal that is not refused has a number below 128
 pub removed-number : (p : Panel) (id : ℕ) → isRefusal (performed p (removing id) .reply) ≡ false → id < 128

@@ -41,6 +41,7 @@ use Rattle.panel.proofs.Reversed.{numberOf, link-here}
 use Rattle.panel.proofs.Legal.{Filled, LegalBut, force-formed}
 use Rattle.panel.proofs.Setters.{outputs-inside, waits-force}
 use Rattle.panel.proofs.Reversal.{Blocking, blocking, legal-waits}
+use Rattle.panel.proofs.Changes.{freed-parts}
 use Rattle.panel.proofs.Checks.{Agree, passes-reply, reply-refused, reply-accepted, named-link, removable}
 use Rattle.panel.proofs.Outcomes.{decides-unchanged}
 use Rattle.tables.specs.Tables.{Tabled}
@@ -121,10 +122,6 @@ module _ (p : Panel) (h : Legal p) (id : ℕ) where
 -- ---- the change
 
 module _ (p : Panel) (h : Legal p) (id : ℕ) (small : id < 128) where
-  freed-parts : (q : Panel) (s : Standing) → (freed q s .size ≡ q .size) × (freed q s .links ≡ q .links)
-  freed-parts q Waiting = (refl, refl)
-  freed-parts q (Holding v) = (refl, refl)
-
   pub change : (s : Standing) → linkAt (p .links) id .standing ≡ s → Change p id (p .size) (p .place) noLink s
   change s is = record {
     legal = h;

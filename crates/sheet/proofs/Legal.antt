@@ -18,20 +18,18 @@ use Rattle.fieldset.proofs.Lists.{all-map, whole-in}
 use Rattle.ordering.proofs.Plan.{order-low, order-whole}
 use Rattle.panel.specs.declared.Link.{Link}
 use Rattle.panel.specs.declared.Panel.{Panel}
-use Rattle.panel.specs.declared.Standing.{Standing}
-use Rattle.panel.specs.declared.Standing.the-variants.{Waiting, Holding}
 use Rattle.panel.specs.Items.{Item, noLink, linkAt}
 use Rattle.panel.specs.Answers as answers
 use Rattle.panel.specs.Answers.{refusalBytes, isRefusal}
-use Rattle.panel.specs.Panels.{opened, withLink, freed, dropped, toFront}
+use Rattle.panel.specs.Panels.{opened, toFront}
 use Rattle.panel.specs.Solution.{setterReads, reversed, planOf, isLooped}
 use Rattle.panel.specs.Commands as panel
 use Rattle.panel.specs.Commands.{opening, adding, removing, touching, planning, Passes, Check, checkReply}
 use Rattle.panel.specs.Legal.{Legal}
 use Rattle.panel.proofs.Reversed.{AllAlike, alike-covered, alike-used, link-there, reversed-alike, reversed-size}
-use Rattle.panel.proofs.Changes.{unopened-links}
+use Rattle.panel.proofs.Changes.{unopened-links, dropped-parts}
 use Rattle.panel.proofs.Checks.{addable, removable, touchable, openable, newLink}
-use Rattle.panel.proofs.Performed.{legal-performed, Keeps, Changes, kept-performed}
+use Rattle.panel.proofs.Performed.{legal-performed, Keeps, Changes, kept-performed, performed-size}
 use Rattle.values.specs.Limits.{valueAt, outside}
 use Rattle.formulas.specs.declared.Formula.{Formula}
 use Rattle.formulas.specs.declared.Formula.the-variants.{None}
@@ -84,27 +82,6 @@ reply-passes (c ∷ cs) e = go (c .applies) refl e (reply-passes cs)
         → (isRefusal (checkReply cs) ≡ false → Passes cs) → Passes (c ∷ cs)
     go true d e ih = absurd (clash refl e)
     go false d e ih = (d, ih e)
-
--- ---- document 01's commands
-
--- what they keep: formulas that fit, and at least as many fields
-record Kept (formula : ℕ → Formula) (n : ℕ) (q : Panel) : Type 0 where
-  fits : FitsAll formula (q .links)
-  grows : n ≤ q .size
-
-kept-turns : (formula : ℕ → Formula) (n : ℕ) (q : Panel) (c : Item) (vs : List ℕ) → Kept formula n q → Kept formula n (reversed q c vs)
-kept-turns formula n q c vs h = record {
-  fits = fits-alike formula (reversed q c vs .links) (q .links) (reversed-alike q c vs) (h .fits);
-  grows = omega (arith, h .grows, reversed-size q c vs);
-}
-
-dropped-links : (p : Panel) (id : ℕ) → (dropped p id .links ≡ set (p .links) id noLink) × (dropped p id .size ≡ p .size)
-unfolding dropped
-dropped-links p id = go (linkAt (p .links) id .standing)
-  where
-    go : (s : Standing) → (freed (withLink p id noLink) s .links ≡ set (p .links) id noLink) × (freed (withLink p id noLink) s .size ≡ p .size)
-    go Waiting = (refl, refl)
-    go (Holding v) = (refl, refl)
 
 -- ---- kind 07, by its cases
 
@@ -159,29 +136,18 @@ module _ (s : Sheet) (h : LegalSheet s) where
   dropped-here id l =
       ap (λ (r : Rule). r .formula) (getD-set-same (s .formulas .of) id noRule noRule (omega (arith, h .formulas-length)))
 
-  fits-solved : (c : panel.Command) → Changes (Kept (after c) (s .panel .size)) (s .panel) c
+  fits-solved : (c : panel.Command) → Changes (λ q. FitsAll (after c) (q .links)) (s .panel) c
   unfolding opened toFront
-  fits-solved (opening n) = λ a.
-      let o = openable (s .panel) n a in
-      record { fits = subst (FitsAll (after (opening n))) (unopened-links (s .panel) (h .panel) (o .0)) (h .fits); grows = omega (arith, o .0) }
+  fits-solved (opening n) = λ a. subst (FitsAll (after (opening n))) (unopened-links (s .panel) (h .panel) (openable (s .panel) n a .0)) (h .fits)
   fits-solved (adding id level bytes) = λ a.
-      record {
-        fits =
-            fits-set (after (adding id level bytes)) (s .panel .links) id (newLink level bytes)
-            (unused-none (formulaAt (s .formulas) id) (linkAt (s .panel .links) id) (h .fits id) (addable (s .panel) id level bytes a .free)) (λ k d. h .fits k);
-        grows = omega arith;
-      }
+      fits-set (after (adding id level bytes)) (s .panel .links) id (newLink level bytes)
+      (unused-none (formulaAt (s .formulas) id) (linkAt (s .panel .links) id) (h .fits id) (addable (s .panel) id level bytes a .free)) (λ k d. h .fits k)
   fits-solved (removing id) = λ a.
-      let l = removable (s .panel) id a .number in
-      record {
-        fits =
-            subst (FitsAll (after (removing id))) (sym (dropped-links (s .panel) id .0))
-            (fits-set (after (removing id)) (s .panel .links) id noLink (dropped-here id l)
-            (λ k d. subst (λ (x : Formula). Fits x (linkAt (s .panel .links) k)) (sym (dropped-there id k d)) (h .fits k)));
-        grows = omega (arith, dropped-links (s .panel) id .1);
-      }
-  fits-solved (touching f) = λ a. record { fits = h .fits; grows = omega arith }
-  fits-solved planning = record { fits = h .fits; grows = omega arith }
+      subst (FitsAll (after (removing id))) (sym (dropped-parts (s .panel) id .1))
+      (fits-set (after (removing id)) (s .panel .links) id noLink (dropped-here id (removable (s .panel) id a .number))
+      (λ k d. subst (λ (x : Formula). Fits x (linkAt (s .panel .links) k)) (sym (dropped-there id k d)) (h .fits k)))
+  fits-solved (touching f) = λ a. h .fits
+  fits-solved planning = h .fits
 
   after-length : (c : panel.Command) → length (formulasAfter (s .formulas) c .of) ≡ 128
   after-length (opening n) = h .formulas-length
@@ -192,18 +158,26 @@ module _ (s : Sheet) (h : LegalSheet s) where
 
   legal-solved : (c : panel.Command) → LegalSheet (performed s (solving c) .sheet)
   legal-solved c =
-      go (panel.performed (s .panel) c) (legal-performed (s .panel) c (h .panel))
-      (kept-performed (Kept (after c) (s .panel .size)) (kept-turns (after c) (s .panel .size)) (s .panel) c (fits-solved c))
+      go (panel.performed (s .panel) c) (legal-performed (s .panel) c (h .panel)) (grows (decLt 0 (s .panel .size)))
+      (kept-performed Fitting (λ q d vs. fits-alike (after c) (reversed q d vs .links) (q .links) (reversed-alike q d vs)) (s .panel) c (fits-solved c))
     where
-      go : (a : answers.Answer) → Legal (a .panel) → Keeps (Kept (after c) (s .panel .size)) (s .panel) a → LegalSheet (solved s c a .sheet)
-      go a k (inl (e, d)) = rw (e, d) h
-      go a k (inr (e, t)) = rw e (record {
+      Fitting : Panel → Type 0
+      Fitting q = FitsAll (after c) (q .links)
+
+      -- there are no fewer fields
+      grows : Dec (0 < s .panel .size) → s .panel .size ≤ panel.performed (s .panel) c .panel .size
+      grows (yes o) = omega (arith, performed-size (s .panel) c o)
+      grows (no o) = omega arith
+
+      go : (a : answers.Answer) → Legal (a .panel) → s .panel .size ≤ a .panel .size → Keeps Fitting (s .panel) a → LegalSheet (solved s c a .sheet)
+      go a k more (inl (e, d)) = rw (e, d) h
+      go a k more (inr (e, fits)) = rw e (record {
         panel = k;
-        fits = t .fits;
+        fits = fits;
         formulas-length = after-length c;
         values-length = h .values-length;
         within = h .within;
-        past = λ f l. h .past f (omega (arith, t .grows));
+        past = λ f l. h .past f (omega (arith, more));
       })
 
   -- ---- kind 07

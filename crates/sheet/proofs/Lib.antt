@@ -1,3 +1,4 @@
 pub mod Legal
 pub mod Held
 pub mod Answers
+pub mod Sizes
