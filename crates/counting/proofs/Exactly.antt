@@ -14,7 +14,7 @@ use Rattle.panel.specs.declared.Standing.{Standing}
 use Rattle.panel.specs.declared.Standing.the-variants.{Waiting, Holding}
 use Rattle.panel.specs.Items.{linkAt}
 use Rattle.panel.specs.Commands.{opening, adding, removing, touching, planning}
-use Rattle.removing.specs.Scans.{countFor, scanCount}
+use Rattle.removing.specs.Scans.{countAfter, scanCount}
 use Rattle.sheet.specs.declared.Sheet.{Sheet}
 use Rattle.sheet.specs.Sheets.{unopened}
 use Rattle.sheet.specs.Commands.{Command, solving, entering, relating}
@@ -45,15 +45,15 @@ lines-size s (l ∷ ls) is-open =
 
 -- ---- what a scan works out
 
-count-of : (n : ℕ) (s : Standing) → (countFor n s ≡ 0) ⊎ (countFor n s ≡ n)
+count-of : (n : ℕ) (s : Standing) → (countAfter 0 n s ≡ 0) ⊎ (countAfter 0 n s ≡ n)
 count-of n Waiting = inl refl
 count-of n (Holding v) = inr refl
 
-line-scan : (s : Sheet) (l : List ℕ) → (lineScan s l ≡ 0) ⊎ (lineScan s l ≡ s .panel .size)
+line-scan : (s : Sheet) (l : List ℕ) → (lineScan 0 s l ≡ 0) ⊎ (lineScan 0 s l ≡ s .panel .size)
 unfolding lineScan scanCount
 line-scan s l = go (commandOf (frameOf l))
   where
-    go : (o : Option Command) → (commandScan (s .panel) o ≡ 0) ⊎ (commandScan (s .panel) o ≡ s .panel .size)
+    go : (o : Option Command) → (commandScan 0 (s .panel) o ≡ 0) ⊎ (commandScan 0 (s .panel) o ≡ s .panel .size)
     go none = inl refl
     go (some (solving (opening n))) = inl refl
     go (some (solving (adding id level bytes))) = inl refl
@@ -69,17 +69,17 @@ module _ (n : ℕ) where
   lines-exactly : (s : Sheet) (ls : List (List ℕ)) → sheetAfter s ls .panel .size ≡ n → All (λ x. x ≡ n) (scanCounts s ls)
   unfolding scanCounts stateAfter
   lines-exactly s [] e = tt
-  lines-exactly s (l ∷ ls) e = go (eqb (lineScan s l) 0) refl (line-scan s l) (lines-exactly (lineAnswer s l .state) ls e)
+  lines-exactly s (l ∷ ls) e = go (eqb (lineScan 0 s l) 0) refl (line-scan s l) (lines-exactly (lineAnswer s l .state) ls e)
     where
       rest : List ℕ
       rest = scanCounts (lineAnswer s l .state) ls
 
-      go : (b : Bool) → eqb (lineScan s l) 0 ≡ b → (lineScan s l ≡ 0) ⊎ (lineScan s l ≡ s .panel .size) → All (λ x. x ≡ n) rest
-          → All (λ x. x ≡ n) (cond b rest (lineScan s l ∷ rest))
+      go : (b : Bool) → eqb (lineScan 0 s l) 0 ≡ b → (lineScan 0 s l ≡ 0) ⊎ (lineScan 0 s l ≡ s .panel .size) → All (λ x. x ≡ n) rest
+          → All (λ x. x ≡ n) (cond b rest (lineScan 0 s l ∷ rest))
       go true t c ih = ih
-      go false t (inl z) ih = absurd (eqb-false (lineScan s l) 0 t z)
+      go false t (inl z) ih = absurd (eqb-false (lineScan 0 s l) 0 t z)
       go false t (inr is) ih =
-          let scans = eqb-false (lineScan s l) 0 t in
+          let scans = eqb-false (lineScan 0 s l) 0 t in
           (is ∙ sym (lines-size s (l ∷ ls) (omega (arith, scans, is))) ∙ e, ih)
 
   text-exactly : (text : List ℕ) → fieldsAfter text ≡ n → All (λ x. x ≡ n) (scansOf text)
