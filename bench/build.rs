@@ -1,5 +1,6 @@
 //! Links the proved solver's static library, unless the feature `standin` puts
-//! the plain solver in its place. For the feature `copies` the linker puts the
+//! the plain solver in its place. That of the counts, which `tests/scans.rs`
+//! links, is only watched. For the feature `copies` the linker puts the
 //! functions of `src/copies.rs` in place of the C library's.
 
 use std::env;
@@ -8,6 +9,9 @@ use std::path::Path;
 /// The Rattle crate whose static library has the functions `panel_run_text` and
 /// `panel_values`.
 const LIBRARY: &str = "panel_c";
+
+/// The Rattle crate whose static library has the function `panel_scans`.
+const COUNTS: &str = "counting";
 
 fn main() {
     println!("cargo::rerun-if-changed=build.rs");
@@ -30,6 +34,10 @@ fn main() {
             archive.display()
         );
         return;
+    }
+    let counts = folder.join(format!("lib{COUNTS}.a"));
+    if counts.exists() {
+        println!("cargo::rerun-if-changed={}", counts.display());
     }
     println!("cargo::rustc-link-search=native={}", folder.display());
     println!("cargo::rustc-link-lib=static={LIBRARY}");

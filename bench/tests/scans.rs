@@ -226,16 +226,21 @@ fn limit_of_a_text() {
     assert_eq!(scans_proved(&long, &mut []), 0);
 }
 
-/// The most scans that a text has, two lines of 14 bytes for each, on one field and
-/// on 64.
+/// Texts full of scans: a link added and removed again and again, on one field and
+/// on 64; and a removal that is refused with Loop, a scan for each line of 5 bytes,
+/// which is the most that a text has.
 #[test]
-fn most_scans() {
+fn many_scans() {
     for n in [1, 64] {
         let opening = format!("01{n:02X}\n").into_bytes();
         let text = [opening, b"02000080\n0300\n".repeat(4_680)].concat();
         assert!((65_535 - 13..=65_535).contains(&text.len()));
         assert_eq!(scans(&text), [n; 4_680]);
     }
+    let links = b"0102\n0200000081\n02010180\n0202028001\n";
+    let text = [&links[..], &b"0301\n".repeat(13_099)[..]].concat();
+    assert!((65_535 - 4..=65_535).contains(&text.len()));
+    assert_eq!(scans(&text), [2; 13_099]);
 }
 
 /// The scans of a text, each by its count, and how many of them ended in a removal

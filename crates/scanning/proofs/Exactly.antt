@@ -1,7 +1,7 @@
 -- What the scan finds is what document 01 takes. What is found is least among all blocked items (`least-blocked`), and only one item can be: of two
 -- links of one level the lower number is taken, two stays never have one level, and no link has a stay's.
 use Prim.Native.Nat.{ℕ, _≤_, _<_}
-use mathlib.Core.Path.{_≡_, refl, ap, subst}
+use mathlib.Core.Path.{_≡_, refl, ap, subst, _∙_}
 use mathlib.Core.Bool.{true, false, _&&_}
 use mathlib.Core.Option.{Option, none, some}
 use native.Mathlib.Nat.{le-antisymm}
@@ -22,7 +22,13 @@ use Rattle.panel.proofs.Legal.{filled, force-formed}
 use Rattle.panel.proofs.Setters.{whole, setter-ranked, setter-falls}
 use Rattle.panel.proofs.Reversal.{Blocking, blocking}
 use Rattle.panel.proofs.Least.{blocked-force, LeastBlocked, least-blocked}
-use Rattle.scanning.specs.Exactly.{IsTaken, ScansExactly}
+use Rattle.panel.specs.Panels.{dropped}
+use Rattle.panel.proofs.Changes.{dropped-parts, legal-dropped}
+use Rattle.tables.proofs.Tables.{table-strengths}
+use Rattle.scanning.specs.declared.Blocked.{Blocked}
+use Rattle.scanning.specs.declared.Blocked.the-variants.{Nothing, Link as ALink, Stay as AStay}
+use Rattle.scanning.specs.Scan.{Finds}
+use Rattle.scanning.specs.Exactly.{IsTaken, ScanExactly, ScansExactly, Answers, RemovalScans}
 
 -- an item that waits, with a stronger output, is blocked
 is-blocked : (p : Panel) (c : Item) → Blocking p c → isBlocked p c ≡ true
@@ -87,3 +93,19 @@ scans-exactly p h =
       finds = λ c. (λ e. taken p h c (subst (LeastBlocked p) e found), taken-found p h (leastBlocked p) found c);
       none-blocked = (λ e. subst (LeastBlocked p) e found, none-found p h (leastBlocked p) found);
     }
+
+-- the scan of a removal: the panel without the link is legal
+pub removal-scans : RemovalScans
+removal-scans p h id small before table found worked scan =
+    let q = dropped p id in
+    let legal : Legal q = legal-dropped p id h small in
+    let same : q .size ≡ p .size = dropped-parts p id .0 in
+    (λ f l. table-strengths q table before (scan .strengths) f (omega (arith, same)), scan .once ∙ same, go found (scan .finds))
+  where
+    exactly : ScanExactly (dropped p id)
+    exactly = scans-exactly (dropped p id) (legal-dropped p id h small)
+
+    go : (b : Blocked) → Finds (dropped p id) b → Answers (dropped p id) b
+    go Nothing e = exactly .none-blocked .0 e
+    go (ALink i l) (e, is) = (exactly .finds (link i) .0 e, is)
+    go (AStay f) e = exactly .finds (stay f) .0 e

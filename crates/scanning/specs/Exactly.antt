@@ -3,13 +3,19 @@ use Prim.Native.Nat.{ℕ, _≤_, _<_, max}
 use mathlib.Core.Path.{_≡_}
 use mathlib.Core.Bool.{true, false}
 use mathlib.Core.Logic.{_↔_}
+use mathlib.Core.List.{List}
 use mathlib.Core.Option.{none, some}
+use Rattle.fieldset.specs.Tables.{at}
 use Rattle.fieldset.specs.Fields.{member}
 use Rattle.strength.specs.Strength.{greatest}
 use Rattle.panel.specs.declared.Panel.{Panel}
-use Rattle.panel.specs.Items.{Item, link, outputsOf, waits}
+use Rattle.panel.specs.Items.{Item, link, stay, linkAt, outputsOf, waits}
+use Rattle.panel.specs.Panels.{dropped}
 use Rattle.panel.specs.Solution.{level, setterLevel, setterOthers, strengthOf, isBlocked, leastBlocked}
 use Rattle.panel.specs.Legal.{Legal}
+use Rattle.scanning.specs.declared.Blocked.{Blocked}
+use Rattle.scanning.specs.declared.Blocked.the-variants.{Nothing, Link as ALink, Stay as AStay}
+use Rattle.scanning.specs.Scan.{Scanned}
 
 -- "look at all blocked links and stays; if there are any, take the one with the least level (among equals, the lowest link number)": it is blocked,
 -- no blocked one has a lesser level, and if it is a link, every blocked link of a lower number has a greater level
@@ -33,3 +39,16 @@ pub record ScanExactly (p : Panel) : Type 0 where
 -- of every legal panel, so of the one that a removal leaves without its link
 abbrev pub ScansExactly : Type 0
 ScansExactly = (p : Panel) → Legal p → ScanExactly p
+
+-- what a scan answers, in these words: nothing, where no link and no stay is blocked; else the one that is taken, a link with its record
+abbrev pub Answers : Panel → Blocked → Type 0
+Answers p Nothing = (c : Item) → isBlocked p c ≡ false
+Answers p (ALink i l) = IsTaken p (link i) × (l ≡ linkAt (p .links) i)
+Answers p (AStay f) = IsTaken p (stay f)
+
+-- the scan of a removal, as `scan_without` promises it (`Scanned`): on the panel without the link, every entry of the table is the strength of that field,
+-- n of them were worked out, and what is found is the one that document 01 takes, nothing exactly when no link and no stay is blocked
+abbrev pub RemovalScans : Type 0
+RemovalScans =
+    (p : Panel) → Legal p → (id : ℕ) → id < 128 → (before table : List ℕ) (found : Blocked) (worked : ℕ) → Scanned (dropped p id) before table found worked
+    → ((f : ℕ) → f < p .size → at table f ≡ strengthOf (dropped p id) f) × (worked ≡ p .size) × Answers (dropped p id) found

@@ -199,10 +199,6 @@ module _ (s : Sheet) (h : LegalSheet s) where
         low = t .low;
       }
 
-  -- the setter of a field that no link sets has no formula
-  undriven-none : (q : Panel) (f : ℕ) → isDriven q f ≡ false → formulaOf (s .formulas .of) (q .setter) f ≡ None
-  undriven-none q f e = rw e refl
-
   module _ (f : ℕ) (v : ℤ) (q : Panel) (k : Legal q) (t : Touched f q) (free : isDriven q f ≡ false) where
     legal-run : (r : Run) → evaluated q (s .formulas) (set (s .values) f v) ≡ r → r .fits ≡ true
         → LegalSheet (record { panel = q; formulas = s .formulas; values = r .values })

@@ -141,9 +141,6 @@ impl Panel {
     /// one with the least level (among equals, the lowest link number) and
     /// carry out the walk and the turning of Add for it, once."
     fn after_remove(&self, id: u8) -> Result<Panel, Refusal> {
-        if self.scan_of_remove(id).is_none() {
-            return Ok(self.dropped(id));
-        }
         let panel = self.dropped(id);
         match panel.first_blocked() {
             Some(item) => panel.turned(item),
