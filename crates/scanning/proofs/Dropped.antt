@@ -1,6 +1,6 @@
 -- A link that holds a field is dropped: what is the same where the link stays and only its field's stay steps in. The scan looks at the links as they
 -- were; the link sets nothing then and is not blocked in either panel, so strengths (`strength-kept`), what is blocked (`blocked-kept`) and the least
--- blocked item (`found-kept`) are the same.
+-- blocked item (`found-kept`) are the same. So what is worked out and found is that of the panel without the link (`scanned`).
 use mathlib.Core.Path.{_≡_, refl, sym, ap, _∙_, subst, fun-ext}
 use mathlib.Core.Logic.{_≢_}
 use mathlib.Core.Bool.{Bool, true, false, _&&_, and-false, cond}

@@ -1,7 +1,7 @@
 -- What `fill` keeps from one round of its loop to the next, and what it leaves. `Gather`: the table is right on the known fields, which are closed
 -- under other outputs; every closed set that has the fields known at the start and those asked for has all that are known; the count is how many
 -- more are known. A round adds one field, known before or worked out (`FieldFilled`); no field of lower rank needs it, so it is still unknown when
--- it is stored (`still-unknown`).
+-- it is stored (`still-unknown`). `Begun` is what the loop of `strengths` keeps; with it and `fill` each field is stored and counted once.
 use Prim.Native.Nat.{ℕ, _+_, _-_, _<_, max}
 use mathlib.Core.Path.{_≡_, refl, sym, ap, _∙_}
 use mathlib.Core.Bool.{Bool, true, false, not, _&&_, _||_, cond, false≢true, or-true}

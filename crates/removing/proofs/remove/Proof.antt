@@ -1,5 +1,5 @@
 -- `removing::remove` meets its contract. A refusal of the checks is the command's (`remove-refused`). A link that waits is dropped
--- (`remove-waiting`). One that holds a field (`held`) leaves it to the field's stay; the scan over the strengths after that finds the blocked item of
+-- (`remove-waiting`). One that holds a field (`removal`) leaves it to the field's stay; the scan without the link finds the blocked item of
 -- least level (`chosen`), with a verdict on it (`judged`): a loop refuses the removal (`remove-looped`), else the step is the command's
 -- (`remove-reversed`).
 use Prim.Native.Nat.{_<_}
