@@ -1,7 +1,9 @@
 //! How many strengths the proved solver works out for each scan for blocked links
-//! and stays, or with `--features standin` the plain solver in its place. "A test
-//! counts n strengths worked out for each scan": n for a panel of n fields, and as
-//! many scans as document 01 makes, on texts worked out by hand and on random ones.
+//! and stays. "A test counts n strengths worked out for each scan": n for a panel of
+//! n fields, and a scan for each removal of a link that sets a field, on texts worked
+//! out by hand and on random ones. With `--features standin` the plain solver's record
+//! stands in its place: the tests against that record then say nothing, those on texts
+//! worked out by hand and on replies are of the record itself.
 
 use harness::generate::{self, MIXES};
 use harness::plain::{self, Item, Run};
@@ -300,6 +302,7 @@ fn scans_of_replies(text: &[u8]) -> Scans {
 /// What was met in many texts.
 #[derive(Debug, Default)]
 struct Met {
+    texts: usize,
     /// Scans by the number of fields.
     scans: BTreeMap<u8, usize>,
     looped: usize,
@@ -319,15 +322,17 @@ impl Met {
                 source(&short).counts
             );
         }
+        self.texts += 1;
         for n in expected.counts {
             *self.scans.entry(n).or_default() += 1;
         }
         self.looped += expected.looped;
     }
 
-    /// So many scans at least, on panels of so many different sizes, so many of them
-    /// in removals that are refused with Loop.
-    fn must_have(&self, scans: usize, sizes: usize, looped: usize) {
+    /// So many texts at least, with so many scans, on panels of so many different
+    /// sizes, so many of them in removals that are refused with Loop.
+    fn must_have(&self, texts: usize, scans: usize, sizes: usize, looped: usize) {
+        assert!(self.texts >= texts, "{self:?}");
         assert!(self.scans.values().sum::<usize>() >= scans, "{self:?}");
         assert!(self.scans.len() >= sizes, "{self:?}");
         assert!(self.looped >= looped, "{self:?}");
@@ -351,7 +356,7 @@ fn worked_texts() {
     for text in texts {
         met.check(&text.text, plain_scans);
     }
-    met.must_have(1_200, 8, 4);
+    met.must_have(300, 1_200, 8, 4);
 }
 
 /// Neighbouring seeds take different mixes.
@@ -361,7 +366,7 @@ fn random_texts() {
     for seed in 0..1_500 {
         met.check(&generate::text(seed), plain_scans);
     }
-    met.must_have(12_000, 60, 1_500);
+    met.must_have(1_500, 12_000, 60, 1_500);
 }
 
 /// Texts up to the limit, four of each mix.
@@ -373,7 +378,7 @@ fn long_random_texts() {
             met.check(&generate::long_text(seed, mix), plain_scans);
         }
     }
-    met.must_have(17_000, 15, 4_000);
+    met.must_have(60, 17_000, 15, 4_000);
 }
 
 /// Texts that leave room for a plan before each line.
@@ -386,5 +391,5 @@ fn scans_seen_from_the_replies() {
             met.check(&text, scans_of_replies);
         }
     }
-    met.must_have(12_000, 60, 1_500);
+    met.must_have(1_400, 12_000, 60, 1_500);
 }

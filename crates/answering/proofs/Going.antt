@@ -18,7 +18,7 @@ use Rattle.lines.proofs.Lines.{behind-within, behind-on, lines-on, lines-end}
 use Rattle.frames.specs.Texts.{Answered, LineAnswer, refusalOf, stateAfter, replies, tallyAfter, written}
 use Rattle.frames.proofs.Outputs.{state-more, replies-more, tally-more, written-more}
 use Rattle.replies.specs.Replies.{longest}
-use Rattle.answering.specs.Runs.{Reached, Paced, fitting, workedAfter, RanFrom}
+use Rattle.answering.specs.Runs.{Reached, fitting, workedAfter, Finished}
 
 -- ---- how many lines fit
 
@@ -139,12 +139,12 @@ module _ {S : Type 0} (answer : LineAnswer S) (scan : ℕ → S → List ℕ →
         }
 
     -- what the run's end says
-    abbrev Finished : Type 0
-    Finished = RanFrom answer scan Legal text from room s t before out r × Paced text from room (fitting answer room s (linesOf (drop from text))) r
+    abbrev Ended : Type 0
+    Ended = Finished answer scan Legal text from room s t before out r
 
     -- no further line is answered
     finish : fitting answer (room - r .written) (r .state) (linesOf (drop (r .next) text)) ≡ 0
-        → (from < length text → longest ≤ room → from < r .next) → (r .next < length text → room < r .written + longest) → Finished
+        → (from < length text → longest ≤ room → from < r .next) → (r .next < length text → room < r .written + longest) → Ended
     finish z progress stops =
         let ls : List (List ℕ) = linesOf (drop from text) in
         let rest : List (List ℕ) = linesOf (drop (r .next) text) in
@@ -164,12 +164,12 @@ module _ {S : Type 0} (answer : LineAnswer S) (scan : ℕ → S → List ℕ →
           record { onward = omega (arith, g .moved, all); within = g .within; fits = g .fits; paced = omega (arith, g .paced, all); progress = progress; stops = stops },
         )
 
-    pub finish-end : length text ≤ r .next → Finished
+    pub finish-end : length text ≤ r .next → Ended
     finish-end h =
         finish (fitting-none answer (room - r .written) (r .state) (linesOf (drop (r .next) text)) (lines-end text (r .next) h))
         (λ a b. omega arith) (λ a. absurd (omega arith))
 
-    pub finish-full : room - r .written < longest → Finished
+    pub finish-full : room - r .written < longest → Ended
     finish-full h =
         finish (fitting-full answer (room - r .written) (r .state) (linesOf (drop (r .next) text)) h)
         (λ a b. omega (arith, g .moved, g .paced)) (λ a. omega arith)

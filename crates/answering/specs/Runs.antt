@@ -80,3 +80,8 @@ module _ {S : Type 0} (answer : LineAnswer S) (scan : ℕ → S → List ℕ →
   RanFrom Legal text from room s t before after r =
       let lines = linesOf (drop from text) in
       Ran Legal text lines (fitting answer room s lines) s t before after r
+
+  -- the same, and how far the run got
+  abbrev pub Finished : (Legal : S → Type 0) (text : List ℕ) (from room : ℕ) (s : S) (t : Tally) (before after : List ℕ) (r : Reached S) → Type 0
+  Finished Legal text from room s t before after r =
+      RanFrom Legal text from room s t before after r × Paced text from room (fitting answer room s (linesOf (drop from text))) r

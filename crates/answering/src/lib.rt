@@ -22,12 +22,11 @@ use tally::Tally;
 use tally::tallied_line;
 ghost use Prim.Native.Nat.{_^_, _<_};
 ghost use mathlib.Core.Path.{_≡_};
-ghost use lib.ListN.{length, drop};
+ghost use lib.ListN.{length};
 ghost use Rattle.sheet.specs.Sheets.{sheetOf};
 ghost use Rattle.sheet.specs.Legal.{LegalSheet};
-ghost use Rattle.lines.specs.Lines.{linesOf};
 ghost use Rattle.frames.specs.Frames.{lineAnswer};
-ghost use Rattle.answering.specs.Runs.{reached, fitting, RanFrom, Paced, Resumed};
+ghost use Rattle.answering.specs.Runs.{reached, RanFrom, Finished, Resumed};
 ghost use Rattle.answering.specs.Scans.{lineScan};
 
 // Where a run over a text stands: the position of the next line, the sheet, the tally, how many bytes were written, and how many strengths were worked
@@ -78,7 +77,7 @@ pub fn answer_lines(
     room: usize,
 ) -> Progress
     requires { ⌜ LegalSheet s × (room < 2 ^ 63) ⌝ }
-    ensures { λ r. ⌜ RanFrom lineAnswer lineScan LegalSheet (now (text .entry)) at room s t (now (out .entry)) (now (out .exit)) (reached r) × Paced (now (text .entry)) at room (fitting lineAnswer room s (linesOf (drop at (now (text .entry))))) (reached r) ⌝ }
+    ensures { λ r. ⌜ Finished lineAnswer lineScan LegalSheet (now (text .entry)) at room s t (now (out .entry)) (now (out .exit)) (reached r) ⌝ }
 {
     let mut q = s.panel;
     let mut formulas = s.formulas;

@@ -1,5 +1,5 @@
-// The counts of the scans that a run over a text makes, for tests in C or Rust to call: a library of its own, so that the panel's has none of it. A text
-// and a buffer are a pointer and a length each.
+// The counts of the scans that a run over a text makes, for tests in C or Rust to call: a library of its own, so that the panel's does not export them. A
+// text and a buffer are a pointer and a length each.
 use answering::lines_from;
 use replies::LONGEST;
 use sheet::unopened;

@@ -2,7 +2,7 @@
 -- stays, whose strengths are their levels, so the new link is blocked, its strongest output is 2i + 1 and the path ends there.
 use Prim.Native.Nat.{ℕ, zero, suc, _+_, _*_, _/_, _≤_, _<_}
 use mathlib.Core.Path.{_≡_, refl, sym, ap, ap₂, _∙_}
-use mathlib.Core.Bool.{Bool, true, false, not, _&&_}
+use mathlib.Core.Bool.{Bool, true, false, not}
 use mathlib.Core.List.{[], _∷_}
 use native.Mathlib.Decide.{ℕ-discrete}
 use native.Mathlib.Omega.{arith}
@@ -11,7 +11,7 @@ use lib.Dec.{eqb}
 use lib.Seq.{set-set}
 use Rattle.fieldset.specs.Tables.{at}
 use Rattle.fieldset.specs.Fields.{member}
-use Rattle.fieldset.proofs.Numbers.{ltb-suc, any-here, but, but-same, but-other, count-but, count-none}
+use Rattle.fieldset.proofs.Numbers.{ltb-suc, but, but-same, but-other, count-but, count-none}
 use Rattle.fieldset.proofs.Fields.{without-only}
 use Rattle.fieldset.proofs.Tables.{set-table}
 use Rattle.strength.specs.Strength.{strongest, path}
@@ -27,6 +27,7 @@ use Rattle.panel.specs.Steps.{accepted, reverseStep, enterStep, addStep}
 use Rattle.panel.specs.Commands.{adding, performed, isOutput, anyOf, isRising, areFieldBytes, addChecks, Passes}
 use Rattle.panel.proofs.Reversed.{setter-stay, link-here}
 use Rattle.panel.proofs.Checks.{checked-step}
+use Rattle.panel.proofs.Reversal.{blocked-by}
 use Rattle.importing.specs.Imports.{perMinute, perSecond}
 use Rattle.imported.specs.Imported.{bothOf, flowLink, flowSetter, flowPanel}
 use Rattle.imported.proofs.Flows.{linkOf, member-both, byte-field, byte-output, byte-frame, flowBytes, fields-both, setter-before, setter-new, setter-kept, flow-size, setter-at, place-at, link-at, links-length, no-loop}
@@ -84,12 +85,17 @@ module _ (k i : ℕ) (few : k ≤ 32) (l : i < k) where
   in-both = member-both i v (omega arith) ∙ eq-eqb (v / 2) i half
 
   new-blocked : isBlocked q (link i) ≡ true
-  unfolding isBlocked isInForce
+  unfolding isInForce
   new-blocked =
-      let output : member (outputsOf (q .links) (link i)) v ≡ true = ap (λ (m : ℕ). member m v) new-outputs ∙ in-both in
       let low : level q (link i) ≡ 0 = ap (λ (x : Link). x .level) new-here in
-      let above : level q (link i) < strengthOf q v = omega (arith, own-strength v half) in
-      rw new-here (any-here _ 64 v (omega arith) (ap₂ _&&_ output (lt-ltb (level q (link i)) (strengthOf q v) above)))
+      blocked-by q (link i)
+      (record {
+        waits-now = rw new-here refl;
+        field = v;
+        small = omega arith;
+        output = ap (λ (m : ℕ). member m v) new-outputs ∙ in-both;
+        stronger = omega (arith, own-strength v half);
+      })
 
   new-strongest : strongest (strengthOf q) (bothOf i) ≡ v
   new-strongest =

@@ -7,15 +7,15 @@ use mathlib.Core.Bool.{Bool, true, false, _&&_}
 use mathlib.Core.List.{List, [], _∷_}
 use native.Mathlib.Decide.{ℕ-discrete}
 use native.Mathlib.Omega.{arith}
-use borrow.Author.Tests.{ltb-true}
+use borrow.Author.Tests.{lt-ltb, ltb-true}
 use lib.Dec.{ltb}
 use Rattle.fieldset.specs.Lists.{All, Distinct}
 use Rattle.fieldset.specs.Fields.{member}
-use Rattle.fieldset.proofs.Numbers.{any-found}
+use Rattle.fieldset.proofs.Numbers.{any-here, any-found}
 use Rattle.strength.specs.Strength.{strongest}
 use Rattle.strength.proofs.Maxima.{greatest-ge}
 use Rattle.strength.proofs.Paths.{lastOf, Chain, last, next, strongest-found, Reversible, path-reversible}
-use Rattle.fieldset.proofs.Tests.{and-left, and-right}
+use Rattle.fieldset.proofs.Tests.{and-left, and-right, and-both}
 use Rattle.ordering.proofs.Plan.{rankOf}
 use Rattle.panel.specs.declared.Panel.{Panel}
 use Rattle.panel.specs.Items.{Item, link, stay, linkAt, setterOf, outputsOf, isInForce, inForce, waits}
@@ -139,6 +139,15 @@ blocking p c e =
       output = and-left (member (outputsOf (p .links) c) u) (ltb (level p c) (strengthOf p u)) b;
       stronger = ltb-true (level p c) (strengthOf p u) (and-right (member (outputsOf (p .links) c) u) (ltb (level p c) (strengthOf p u)) b);
     }
+
+-- and so it is blocked
+pub blocked-by : (p : Panel) (c : Item) → Blocking p c → isBlocked p c ≡ true
+unfolding isBlocked
+blocked-by p c b =
+    let q : ℕ → Bool = λ u. member (outputsOf (p .links) c) u && ltb (level p c) (strengthOf p u) in
+    and-both (waits (p .size) (p .links) (p .setter) c) _ (b .waits-now)
+    (any-here q 64 (b .field) (b .small)
+    (and-both (member (outputsOf (p .links) c) (b .field)) _ (b .output) (lt-ltb (level p c) (strengthOf p (b .field)) (b .stronger))))
 
 -- the path's first field: c's output of greatest strength
 abbrev pub startOf : Panel → Item → ℕ

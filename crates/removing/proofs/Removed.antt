@@ -170,7 +170,7 @@ module _ {p : Panel} {id v : ℕ} {levels others reads : List ℕ} (x : Removal 
   pub of-field : (b : Blocked) → Finds q b → OfField b
   of-field Nothing e = tt
   of-field (ALink i l) e = tt
-  of-field (AStay f) e =
+  of-field (AStay f) (e, _) =
       let w = blocking q (stay f) (found-blocked (x .held) (stay f) e) .waits-now in
       omega (arith, legal .few, ltb-true f (q .size) (waits-force (q .size) (q .links) (q .setter) (stay f) w))
 
@@ -184,9 +184,9 @@ module _ {p : Panel} {id v : ℕ} {levels others reads : List ℕ} (x : Removal 
   choice w b e finds = subst (λ (w : Chosen). Choice (w .number) (w .outputs) (w .covered)) (sym e) (go b finds)
     where
       go : (b : Blocked) → Finds q b → Choice (chosenOf b .number) (chosenOf b .outputs) (chosenOf b .covered)
-      go Nothing e = inl (e, refl)
+      go Nothing (e, _) = inl (e, refl)
       go (ALink i l) (e, is) = inr (link i, e, refl, ap (λ (y : Link). y .outputs) is, ap (λ (y : Link). y .covered) is)
-      go (AStay f) e = inr (stay f, e, refl, refl, refl)
+      go (AStay f) (e, _) = inr (stay f, e, refl, refl, refl)
 
   -- the scan without the link that sets v, and the tables afterwards
   module _ {L O R before table : List ℕ} {b : Blocked} {worked : ℕ} (full : length before ≡ 64) (looked : Scanned (dropped p (at (p .setter) v)) before table b worked)

@@ -1,21 +1,18 @@
 -- A link that holds a field is dropped: what is the same where the link stays and only its field's stay steps in. The scan looks at the links as they
--- were; the link sets nothing then and is not blocked in either panel, so strengths (`strength-kept`), what is blocked (`blocked-kept`) and the least
--- blocked item (`found-kept`) are the same. So what is worked out and found is that of the panel without the link (`scanned`).
+-- were; the link is not blocked in either panel, so by a table of the strengths the same is blocked (`blocked-kept`), and the least blocked item is the
+-- same (`found-kept`). So what is worked out and found is that of the panel without the link (`scanned`).
 use mathlib.Core.Path.{_≡_, refl, sym, ap, _∙_, subst, fun-ext}
 use mathlib.Core.Logic.{_≢_}
-use mathlib.Core.Bool.{Bool, true, false, _&&_, and-false, cond}
+use mathlib.Core.Bool.{Bool, true, false, cond, not-eq-not}
 use mathlib.Core.List.{List, [], _∷_}
 use mathlib.Core.Option.{Option, none, some}
 use Prim.Native.Nat.{ℕ, _+_, _<_}
 use native.Mathlib.Decide.{ℕ-discrete}
 use native.Mathlib.Omega.{arith}
-use lib.Dec.{ltb}
 use lib.ListN.{set}
 use lib.Seq.{getD-set-same, getD-set-other}
-use Rattle.fieldset.specs.Numbers.{any}
 use Rattle.fieldset.specs.Tables.{at}
-use Rattle.fieldset.specs.Fields.{member, without}
-use Rattle.fieldset.proofs.Numbers.{clash, any-cong}
+use Rattle.fieldset.proofs.Numbers.{clash}
 use Rattle.fieldset.proofs.Fields.{without-only}
 use Rattle.fieldset.proofs.Maps.{tableOf}
 use Rattle.strength.specs.Strength.{strength}
@@ -23,21 +20,22 @@ use Rattle.strength.specs.Filling.{Acyclic}
 use Rattle.panel.specs.declared.Standing.the-variants.{Holding}
 use Rattle.panel.specs.declared.Link.{Link}
 use Rattle.panel.specs.declared.Panel.{Panel}
-use Rattle.panel.specs.Items.{Item, link, stay, noLink, linkAt, itemOf, setterOf, outputsOf, isInForce, isWaiting, itemsOf}
+use Rattle.panel.specs.Items.{Item, link, stay, noLink, linkAt, itemOf, setterOf, outputsOf, isInForce, itemsOf}
 use Rattle.panel.specs.Panels.{withLink, freed, dropped}
-use Rattle.panel.specs.Solution.{level, setterLevel, setterOthers, strengthOf, isBlocked, lesser, least, leastBlocked}
+use Rattle.panel.specs.Solution.{level, strengthOf, isBlocked, lesser, least, leastBlocked}
 use Rattle.panel.specs.Legal.{Legal}
 use Rattle.panel.proofs.InForce.{unused-off}
 use Rattle.panel.proofs.Reversed.{setter-stay, setter-number, link-here, link-there}
 use Rattle.panel.proofs.Setters.{reads-there}
-use Rattle.panel.proofs.Least.{least-passes}
+use Rattle.panel.proofs.Least.{least-passes, blocked-force}
 use Rattle.panel.proofs.Changes.{legal-dropped}
 use Rattle.tables.specs.Tables.{Tabled, StrengthsOf}
 use Rattle.tables.proofs.Settings.{same-setting, tabled-set}
-use Rattle.tables.proofs.Tables.{strength-same, panel-acyclic, panel-table, table-strengths}
+use Rattle.tables.proofs.Tables.{panel-acyclic, panel-table, table-strengths}
 use Rattle.scanning.specs.declared.Blocked.{Blocked}
 use Rattle.scanning.specs.declared.Blocked.the-variants.{Nothing, Link as ALink, Stay as AStay}
-use Rattle.scanning.specs.Scan.{withSetters, Finds, Scanned}
+use Rattle.scanning.specs.Scan.{withSetters, isBlockedLink, isBlockedBy, leastBlockedBy, foundOf, Recorded, Names, Finds, Scanned}
+use Rattle.scanning.proofs.Over.{strengths-block, link-holds}
 
 -- two levels that agree on the items that pass
 least-same : (q : Item → Bool) (lev lev′ : Item → ℕ) → ((d : Item) → q d ≡ true → lev d ≡ lev′ d) → (cs : List Item) → least q lev cs ≡ least q lev′ cs
@@ -117,7 +115,7 @@ module _ {p : Panel} {id v : ℕ} {levels others reads : List ℕ} (x : Held p i
   outputs-kept (link i) ne = ap (λ (l : Link). l .outputs) (link-there (p .links) id i noLink (λ e. ne (ap link e)))
   outputs-kept (stay f) ne = refl
 
-  pub tabled-rest : Tabled rest (set levels v (16 + at (p .place) v)) (set others v 0) (set reads v 0)
+  tabled-rest : Tabled rest (set levels v (16 + at (p .place) v)) (set others v 0) (set reads v 0)
   unfolding setterOf
   tabled-rest =
       tabled-set p rest 64 64 v (16 + at (p .place) v) 0 0 held-small
@@ -128,57 +126,44 @@ module _ {p : Panel} {id v : ℕ} {levels others reads : List ℕ} (x : Held p i
       (l, same-setting p rest f d refl same (level-kept d other) (outputs-kept d other) (reads-there (p .links) id f noLink d other)))
       (record { level-is = rw stay-sets refl; others-are = rw stay-sets (sym (without-only v)); reads-are = rw stay-sets refl }) (x .tabled)
 
-  -- the link sets nothing and is not blocked: strengths and what is blocked are the same
-  pub strength-kept : (f : ℕ) → f < 64 → strengthOf stepped f ≡ strengthOf rest f
-  unfolding strengthOf
-  strength-kept f l =
-      strength-same 64 (setterLevel stepped) (setterLevel rest) (setterOthers stepped) (setterOthers rest)
-      (λ g k. sym (level-kept (setterOf (rest .setter) g) (unset g k)))
-      (λ g k. ap (λ (m : ℕ). without m g) (sym (outputs-kept (setterOf (rest .setter) g) (unset g k)))) (λ g u k j e. j) (p .size) f l
-
-  over-kept : (m l : ℕ) → any (λ u. member m u && ltb l (strengthOf stepped u)) 64 ≡ any (λ u. member m u && ltb l (strengthOf rest u)) 64
-  over-kept m l =
-      any-cong (λ u. member m u && ltb l (strengthOf stepped u)) (λ u. member m u && ltb l (strengthOf rest u)) 64
-      (λ u k. ap (λ (s : ℕ). member m u && ltb l s) (strength-kept u k))
-
-  abbrev blocked-link : Link → Bool
-  blocked-link l = (isInForce l && isWaiting (l .standing)) && any (λ u. member (l .outputs) u && ltb (l .level) (strengthOf rest u)) 64
-
   not-blocked : isBlocked rest (link id) ≡ false
-  unfolding isBlocked
-  not-blocked = ap blocked-link (link-here (p .links) id noLink (omega (arith, h .links-length))) ∙ rw (unused-off noLink refl)
-
-  blocked-kept : (d : Item) → isBlocked stepped d ≡ isBlocked rest d
-  unfolding isBlocked
-  blocked-kept (link i) = go (ℕ-discrete i id)
-    where
-      go : Dec (i ≡ id) → isBlocked stepped (link i) ≡ isBlocked rest (link i)
-      go (yes e) = rw e (rw (x .holds, and-false (isInForce (linkAt (p .links) id))) (sym not-blocked))
-      go (no e) =
-          ap (λ (b : Bool). (isInForce (linkAt (p .links) i) && isWaiting (linkAt (p .links) i .standing)) && b) (over-kept _ _)
-          ∙ sym (ap blocked-link (link-there (p .links) id i noLink e))
-  blocked-kept (stay f) = ap (λ (b : Bool). (ltb f (p .size) && ltb (at (rest .setter) f) 128) && b) (over-kept _ _)
+  not-blocked =
+      not-eq-not .0 (λ b. clash (blocked-force rest (link id) b)
+      (ap isInForce (link-here (p .links) id noLink (omega (arith, h .links-length))) ∙ unused-off noLink refl))
 
   blocked-other : (d : Item) → isBlocked rest d ≡ true → d ≢ link id
   blocked-other d b e = clash b (ap (isBlocked rest) e ∙ not-blocked)
-
-  found-kept : leastBlocked stepped ≡ leastBlocked rest
-  unfolding leastBlocked
-  found-kept =
-      ap (λ (b : Item → Bool). least b (level stepped) (itemsOf (p .size))) (fun-ext blocked-kept)
-      ∙ least-same (isBlocked rest) (level stepped) (level rest) (λ d b. sym (level-kept d (blocked-other d b))) (itemsOf (p .size))
 
   pub found-blocked : (d : Item) → leastBlocked rest ≡ some d → isBlocked rest d ≡ true
   unfolding leastBlocked
   found-blocked d e = least-passes (isBlocked rest) (level rest) (itemsOf (p .size)) d e
 
-  -- what is found in the one is found in the other
-  pub finds-kept : (b : Blocked) → Finds stepped b → Finds rest b
-  finds-kept Nothing e = sym found-kept ∙ e
-  finds-kept (ALink i l) (e, is) =
-      let found : leastBlocked rest ≡ some (link i) = sym found-kept ∙ e in
-      (found, is ∙ sym (link-there (p .links) id i noLink (λ d. blocked-other (link i) (found-blocked (link i) found) (ap link d))))
-  finds-kept (AStay f) e = sym found-kept ∙ e
+  -- the link does not wait, and without it that number is not in use: by a table of the strengths the same is blocked in both
+  module _ (table : List ℕ) (strong : StrengthsOf rest table) where
+    blocked-kept : (d : Item) → isBlockedBy table stepped d ≡ isBlocked rest d
+    unfolding isBlockedBy
+    blocked-kept (link i) = go (ℕ-discrete i id)
+      where
+        go : Dec (i ≡ id) → isBlockedLink table (linkAt (p .links) i) ≡ isBlocked rest (link i)
+        go (yes e) = rw e (sym (link-holds table (linkAt (p .links) id) v (x .holds)) ∙ sym not-blocked)
+        go (no e) = ap (isBlockedLink table) (sym (link-there (p .links) id i noLink e)) ∙ strengths-block rest table legal-rest strong (link i)
+    blocked-kept (stay f) = strengths-block rest table legal-rest strong (stay f)
+
+    found-kept : leastBlockedBy table stepped ≡ leastBlocked rest
+    unfolding leastBlockedBy leastBlocked
+    found-kept =
+        ap (λ (b : Item → Bool). least b (level stepped) (itemsOf (p .size))) (fun-ext blocked-kept)
+        ∙ least-same (isBlocked rest) (level stepped) (level rest) (λ d b. sym (level-kept d (blocked-other d b))) (itemsOf (p .size))
+
+    -- what is found in the one is found in the other
+    finds-kept : (b : Blocked) → Names (p .links) (leastBlockedBy table stepped) b → Finds rest b
+    finds-kept b (e, is) = (sym found-kept ∙ e, kept b e is)
+      where
+        kept : (b : Blocked) → leastBlockedBy table stepped ≡ foundOf b → Recorded (p .links) b → Recorded (rest .links) b
+        kept Nothing e is = tt
+        kept (ALink i l) e is =
+            is ∙ sym (link-there (p .links) id i noLink (λ d. blocked-other (link i) (found-blocked (link i) (sym found-kept ∙ e)) (ap link d)))
+        kept (AStay f) e is = tt
 
   -- the tables with the stay of v are those of the panel without the link: its strengths are those that the scan reads
   pub rest-acyclic : Acyclic (set others v 0) (p .size)
@@ -189,12 +174,11 @@ module _ {p : Panel} {id v : ℕ} {levels others reads : List ℕ} (x : Held p i
     rest-table : table ≡ tableOf (strengthOf rest) (p .size) before
     rest-table = is ∙ panel-table rest legal-rest _ _ _ tabled-rest before
 
-    pub stepped-strengths : StrengthsOf stepped table
-    stepped-strengths f l = table-strengths rest table before rest-table f l ∙ sym (strength-kept f (omega (arith, h .few)))
-
-    pub scanned : (worked : ℕ) → worked ≡ p .size → (b : Blocked) → Finds stepped b → Scanned (dropped p id) before table b worked
-    scanned worked n b finds =
-        subst (λ (q : Panel). Scanned q before table b worked) (sym dropped-rest) (record { strengths = rest-table; once = n; finds = finds-kept b finds })
+    pub scanned : (worked : ℕ) → worked ≡ p .size → (b : Blocked) → Names (p .links) (leastBlockedBy table stepped) b
+        → Scanned (dropped p id) before table b worked
+    scanned worked n b names =
+        let finds = finds-kept table (table-strengths rest table before rest-table) b names in
+        subst (λ (q : Panel). Scanned q before table b worked) (sym dropped-rest) (record { strengths = rest-table; once = n; finds = finds })
 
   pub tabled-dropped : Tabled (dropped p id) (set levels v (16 + at (p .place) v)) (set others v 0) (set reads v 0)
   tabled-dropped = subst (λ (q : Panel). Tabled q (set levels v (16 + at (p .place) v)) (set others v 0) (set reads v 0)) (sym dropped-rest) tabled-rest

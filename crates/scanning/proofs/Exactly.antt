@@ -1,42 +1,31 @@
 -- What the scan finds is what document 01 takes. What is found is least among all blocked items (`least-blocked`), and only one item can be: of two
 -- links of one level the lower number is taken, two stays never have one level, and no link has a stay's.
 use Prim.Native.Nat.{ℕ, _≤_, _<_}
-use mathlib.Core.Path.{_≡_, refl, ap, subst, _∙_}
-use mathlib.Core.Bool.{true, false, _&&_}
+use mathlib.Core.Path.{_≡_, refl, ap, subst}
+use mathlib.Core.Bool.{true, false}
+use mathlib.Core.Logic.{_↔_}
 use mathlib.Core.Option.{Option, none, some}
 use native.Mathlib.Nat.{le-antisymm}
 use native.Mathlib.Decide.{decLt}
 use native.Mathlib.Omega.{arith}
-use borrow.Author.Tests.{lt-ltb, ltb-true}
-use lib.Dec.{ltb}
-use Rattle.fieldset.specs.Fields.{member}
-use Rattle.fieldset.proofs.Numbers.{clash, any-here}
-use Rattle.fieldset.proofs.Tests.{and-both}
+use borrow.Author.Tests.{ltb-true}
+use Rattle.fieldset.proofs.Numbers.{clash}
 use Rattle.strength.proofs.Depth.{strength-fixed}
 use Rattle.ordering.proofs.Plan.{rankOf}
 use Rattle.panel.specs.declared.Panel.{Panel}
-use Rattle.panel.specs.Items.{Item, link, stay, outputsOf, waits}
+use Rattle.panel.specs.Items.{Item, link, stay}
 use Rattle.panel.specs.Solution.{level, setterLevel, setterOthers, setterReads, strengthOf, isBlocked, leastBlocked}
 use Rattle.panel.specs.Legal.{Legal}
-use Rattle.panel.proofs.Legal.{filled, force-formed}
+use Rattle.panel.proofs.Legal.{force-small}
 use Rattle.panel.proofs.Setters.{whole, setter-ranked, setter-falls}
-use Rattle.panel.proofs.Reversal.{Blocking, blocking}
+use Rattle.panel.proofs.Reversal.{blocking, blocked-by}
 use Rattle.panel.proofs.Least.{blocked-force, LeastBlocked, least-blocked}
 use Rattle.panel.specs.Panels.{dropped}
-use Rattle.panel.proofs.Changes.{dropped-parts, legal-dropped}
+use Rattle.panel.proofs.Changes.{legal-dropped}
 use Rattle.tables.proofs.Tables.{table-strengths}
-use Rattle.scanning.specs.declared.Blocked.{Blocked}
-use Rattle.scanning.specs.declared.Blocked.the-variants.{Nothing, Link as ALink, Stay as AStay}
-use Rattle.scanning.specs.Scan.{Finds}
-use Rattle.scanning.specs.Exactly.{IsTaken, ScanExactly, ScansExactly, Answers, RemovalScans}
-
--- an item that waits, with a stronger output, is blocked
-is-blocked : (p : Panel) (c : Item) → Blocking p c → isBlocked p c ≡ true
-unfolding isBlocked
-is-blocked p c b =
-    and-both (waits (p .size) (p .links) (p .setter) c) _ (b .waits-now)
-    (any-here (λ u. member (outputsOf (p .links) c) u && ltb (level p c) (strengthOf p u)) 64 (b .field) (b .small)
-    (and-both (member (outputsOf (p .links) c) (b .field)) _ (b .output) (lt-ltb (level p c) (strengthOf p (b .field)) (b .stronger))))
+use Rattle.scanning.specs.Scan.{foundOf}
+use Rattle.scanning.proofs.Over.{link-level}
+use Rattle.scanning.specs.Exactly.{IsTaken, ScanExactly, ScansExactly, RemovalScans}
 
 module _ (p : Panel) (h : Legal p) where
   -- ---- only one item is taken
@@ -49,7 +38,7 @@ module _ (p : Panel) (h : Legal p) where
       go (no l) = omega arith
 
   link-low : (i : ℕ) → isBlocked p (link i) ≡ true → level p (link i) ≤ 15
-  link-low i b = force-formed (p .size) (p .links) (filled p h) i (blocked-force p (link i) b) .level
+  link-low i b = link-level p i h (force-small (p .links) i (h .links-length) (blocked-force p (link i) b))
 
   stay-small : (f : ℕ) → isBlocked p (stay f) ≡ true → f < p .size
   stay-small f b = ltb-true f (p .size) (blocked-force p (stay f) b)
@@ -88,7 +77,7 @@ scans-exactly p h =
           (omega (arith, h .few)) (ranked .small v l);
       blocked = λ c. (
         λ e. let b = blocking p c e in (b .waits-now, (b .field, b .small, b .output, b .stronger)),
-        λ (w, (u, l, o, s)). is-blocked p c (record { waits-now = w; field = u; small = l; output = o; stronger = s }),
+        λ (w, (u, l, o, s)). blocked-by p c (record { waits-now = w; field = u; small = l; output = o; stronger = s }),
       );
       finds = λ c. (λ e. taken p h c (subst (LeastBlocked p) e found), taken-found p h (leastBlocked p) found c);
       none-blocked = (λ e. subst (LeastBlocked p) e found, none-found p h (leastBlocked p) found);
@@ -98,14 +87,12 @@ scans-exactly p h =
 pub removal-scans : RemovalScans
 removal-scans p h id small before table found worked scan =
     let q = dropped p id in
-    let legal : Legal q = legal-dropped p id h small in
-    let same : q .size ≡ p .size = dropped-parts p id .0 in
-    (λ f l. table-strengths q table before (scan .strengths) f (omega (arith, same)), scan .once ∙ same, go found (scan .finds))
-  where
-    exactly : ScanExactly (dropped p id)
-    exactly = scans-exactly (dropped p id) (legal-dropped p id h small)
-
-    go : (b : Blocked) → Finds (dropped p id) b → Answers (dropped p id) b
-    go Nothing e = exactly .none-blocked .0 e
-    go (ALink i l) (e, is) = (exactly .finds (link i) .0 e, is)
-    go (AStay f) e = exactly .finds (stay f) .0 e
+    let exactly : ScanExactly q = scans-exactly q (legal-dropped p id h small) in
+    let is : leastBlocked q ≡ foundOf found = scan .finds .0 in
+    record {
+      entries = table-strengths q table before (scan .strengths);
+      count = scan .once;
+      finds = λ c. subst (λ (o : Option Item). o ≡ some c ↔ IsTaken q c) is (exactly .finds c);
+      none-blocked = subst (λ (o : Option Item). o ≡ none ↔ ((c : Item) → isBlocked q c ≡ false)) is (exactly .none-blocked);
+      recorded = scan .finds .1;
+    }

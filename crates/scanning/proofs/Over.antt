@@ -1,11 +1,10 @@
--- Laws of what is blocked, by a table of the strengths. The outputs of an item are fields of the panel, where the table has the strengths, so the
--- test over the table is the definition's; a stay has one output (`any-only`).
+-- Laws of what a table blocks; a stay has one output (`any-only`). Where the table has the strengths of the fields it blocks what document 01 does
+-- (`strengths-block`).
 use Prim.Native.Nat.{ℕ, _≤_, _<_}
 use mathlib.Core.Path.{_≡_, refl, sym, ap, _∙_}
 use mathlib.Core.Bool.{Bool, true, false, _&&_, and-false}
 use mathlib.Core.List.{List}
 use native.Mathlib.Decide.{ℕ-discrete}
-use native.Mathlib.Nat.{lt-of-lt-of-le}
 use native.Mathlib.Omega.{arith}
 use borrow.Author.Tests.{lt-ltb, le-ltb, eq-eqb, ne-eqb}
 use lib.Dec.{eqb, ltb}
@@ -19,13 +18,14 @@ use Rattle.panel.specs.declared.Standing.{Standing}
 use Rattle.panel.specs.declared.Standing.the-variants.{Waiting, Holding}
 use Rattle.panel.specs.declared.Link.{Link}
 use Rattle.panel.specs.declared.Panel.{Panel}
-use Rattle.panel.specs.Items.{link, stay, linkAt, isInForce, isWaiting}
+use Rattle.panel.specs.Items.{Item, link, stay, linkAt, outputsOf, isInForce, isWaiting, waits}
 use Rattle.panel.specs.Solution.{level, strengthOf, isBlocked}
-use Rattle.panel.specs.Legal.{Legal, Formed}
+use Rattle.panel.specs.Legal.{Legal}
 use Rattle.panel.proofs.InForce.{unused-off, waiting-force}
-use Rattle.panel.proofs.Legal.{filled, force-formed}
+use Rattle.panel.proofs.Legal.{filled}
+use Rattle.panel.proofs.Setters.{outputs-inside, waits-force}
 use Rattle.tables.specs.Tables.{StrengthsOf}
-use Rattle.scanning.specs.Scan.{isOver, isBlockedLink, withSetters}
+use Rattle.scanning.specs.Scan.{isOver, isBlockedLink, isBlockedBy}
 
 -- the fields of a set that are done have no entry above a level
 pub record NoneOver (table : List ℕ) (level set rest : ℕ) : Type 0 where
@@ -68,43 +68,37 @@ any-agree m level s t h = any-cong (λ u. member m u && ltb level (s u)) (λ u. 
     go u l true e = rw (h u l e)
     go u l false e = rw e
 
--- of the panel with other setters
-module _ (p : Panel) (setter table : List ℕ) (L : Legal p) (S : StrengthsOf (withSetters p setter) table) where
-  abbrev pub q : Panel
-  q = withSetters p setter
+module _ (p : Panel) (table : List ℕ) where
+  pub link-blocked : (i : ℕ) → isBlockedBy table p (link i) ≡ isBlockedLink table (linkAt (p .links) i)
+  unfolding isBlockedBy
+  link-blocked i = refl
 
-  -- the outputs of a link are fields of the panel, and their strengths stand in the table
-  pub link-blocked : (i : ℕ) → i < 128 → isBlocked q (link i) ≡ isBlockedLink table (linkAt (p .links) i)
-  unfolding isBlocked isOver
-  link-blocked i l = go (linkAt (p .links) i) (force-formed (p .size) (p .links) (filled p L) i)
+  -- the outputs of what is in force are fields of the panel, and their strengths stand in the table
+  pub strengths-block : Legal p → StrengthsOf p table → (c : Item) → isBlockedBy table p c ≡ isBlocked p c
+  unfolding isBlockedBy isBlocked isOver
+  strengths-block h strong c = go (waits (p .size) (p .links) (p .setter) c) refl
     where
-      go : (x : Link) → (isInForce x ≡ true → Formed (p .size) x)
-          → ((isInForce x && isWaiting (x .standing)) && any (λ u. member (x .outputs) u && ltb (x .level) (strengthOf q u)) 64)
-          ≡ ((isInForce x && isWaiting (x .standing)) && any (λ u. member (x .outputs) u && ltb (x .level) (at table u)) 64)
-      go x F = force (isInForce x) refl
-        where
-          force : (b : Bool) → isInForce x ≡ b
-              → ((b && isWaiting (x .standing)) && any (λ u. member (x .outputs) u && ltb (x .level) (strengthOf q u)) 64)
-              ≡ ((b && isWaiting (x .standing)) && any (λ u. member (x .outputs) u && ltb (x .level) (at table u)) 64)
-          force true e =
-              ap (λ (b : Bool). isWaiting (x .standing) && b)
-              (any-agree (x .outputs) (x .level) (strengthOf q) (at table) (λ u k m. sym (S u (F e .inside u k (F e .subset u k m)))))
-          force false e = refl
+      go : (b : Bool) → waits (p .size) (p .links) (p .setter) c ≡ b
+          → (b && any (λ u. member (outputsOf (p .links) c) u && ltb (level p c) (at table u)) 64)
+          ≡ (b && any (λ u. member (outputsOf (p .links) c) u && ltb (level p c) (strengthOf p u)) 64)
+      go true e =
+          any-agree (outputsOf (p .links) c) (level p c) (at table) (strengthOf p)
+          (λ u l m. strong u (outputs-inside (p .size) (p .links) (filled p h) c u (waits-force (p .size) (p .links) (p .setter) c e) l m))
+      go false e = refl
 
-  stay-blocked : (f : ℕ) → f < p .size → isBlocked q (stay f) ≡ (ltb (at setter f) 128 && ltb (level q (stay f)) (at table f))
-  unfolding isBlocked
-  stay-blocked f l =
-      rw (lt-ltb f (p .size) l, any-only (λ u. ltb (level q (stay f)) (strengthOf q u)) f (lt-of-lt-of-le l (L .few)), S f l)
+  module _ (f : ℕ) (l : f < p .size) (field : f < 64) where
+    stay-blocked : isBlockedBy table p (stay f) ≡ (ltb (at (p .setter) f) 128 && ltb (level p (stay f)) (at table f))
+    unfolding isBlockedBy isOver
+    stay-blocked = rw (lt-ltb f (p .size) l, any-only (λ u. ltb (level p (stay f)) (at table u)) f field)
 
-  module _ (f : ℕ) (l : f < p .size) where
-    pub stay-over : at setter f < 128 → level q (stay f) < at table f → isBlocked q (stay f) ≡ true
-    stay-over h k = stay-blocked f l ∙ rw (lt-ltb (at setter f) 128 h) (lt-ltb (level q (stay f)) (at table f) k)
+    pub stay-over : at (p .setter) f < 128 → level p (stay f) < at table f → isBlockedBy table p (stay f) ≡ true
+    stay-over h k = stay-blocked ∙ rw (lt-ltb (at (p .setter) f) 128 h) (lt-ltb (level p (stay f)) (at table f) k)
 
-    pub stay-under : at table f ≤ level q (stay f) → isBlocked q (stay f) ≡ false
-    stay-under k = stay-blocked f l ∙ rw (le-ltb (level q (stay f)) (at table f) k) (and-false (ltb (at setter f) 128))
+    pub stay-under : at table f ≤ level p (stay f) → isBlockedBy table p (stay f) ≡ false
+    stay-under k = stay-blocked ∙ rw (le-ltb (level p (stay f)) (at table f) k) (and-false (ltb (at (p .setter) f) 128))
 
-    pub stay-sets : 128 ≤ at setter f → isBlocked q (stay f) ≡ false
-    stay-sets h = stay-blocked f l ∙ rw (le-ltb (at setter f) 128 h)
+    pub stay-sets : 128 ≤ at (p .setter) f → isBlockedBy table p (stay f) ≡ false
+    stay-sets h = stay-blocked ∙ rw (le-ltb (at (p .setter) f) 128 h)
 
 -- a link by its parts
 module _ (table : List ℕ) (x : Link) where

@@ -10,13 +10,12 @@ use native.Mathlib.Omega.{arith}
 use borrow.Author.Tests.{le-leb, lt-leb, leb-true, leb-false}
 use lib.Dec.{leb}
 use Rattle.fieldset.specs.Tables.{tabulate}
-use Rattle.panel.specs.declared.Link.{Link}
 use Rattle.panel.specs.declared.Panel.{Panel}
-use Rattle.panel.specs.Items.{Item, link, stay, linkAt, itemsOf}
-use Rattle.panel.specs.Solution.{level, isBlocked, lesser, least, leastBlocked}
+use Rattle.panel.specs.Items.{Item, link, stay, itemsOf}
+use Rattle.panel.specs.Solution.{level, lesser, least}
 use Rattle.scanning.specs.declared.Blocked.{Blocked}
-use Rattle.scanning.specs.declared.Blocked.the-variants.{Nothing, Link as ALink, Stay as AStay}
-use Rattle.scanning.specs.Scan.{Finds}
+use Rattle.scanning.specs.declared.Blocked.the-variants.{Nothing}
+use Rattle.scanning.specs.Scan.{isBlockedBy, leastBlockedBy, foundOf, Recorded, Names}
 
 -- the level of what may be; 255 where there is none
 abbrev pub levelOr : (Item → ℕ) → Option Item → ℕ
@@ -59,54 +58,42 @@ module _ (q : Item → Bool) (lev : Item → ℕ) where
 
 -- ---- the scan
 
--- what is found, as an item
-abbrev pub foundOf : Blocked → Option Item
-foundOf Nothing = none
-foundOf (ALink i l) = some (link i)
-foundOf (AStay f) = some (stay f)
-
--- a link that is found comes with its record
-abbrev pub Recorded : List Link → Blocked → Type 0
-Recorded links Nothing = Unit {0}
-Recorded links (ALink i l) = l ≡ linkAt links i
-Recorded links (AStay f) = Unit {0}
-
--- a list is looked over: what is found is the first blocked of least level, and low is its level
-pub record Looked (p : Panel) (xs : List Item) (found : Blocked) (low : ℕ) : Type 0 where
-  pub result : least (isBlocked p) (level p) xs ≡ foundOf found
+-- a list is looked over: what is found is the first of least level that the table blocks, and low is its level
+pub record Looked (table : List ℕ) (p : Panel) (xs : List Item) (found : Blocked) (low : ℕ) : Type 0 where
+  pub result : least (isBlockedBy table p) (level p) xs ≡ foundOf found
   pub low-is : low ≡ levelOr (level p) (foundOf found)
   pub recorded : Recorded (p .links) found
 
 -- the next is c
-module _ {p : Panel} {xs ys : List Item} {found : Blocked} {low : ℕ} (s : Looked p xs found low) (c : Item) (e : ys ≡ xs ++ c ∷ []) where
-  behind : least (isBlocked p) (level p) ys ≡ joined (isBlocked p) (level p) (foundOf found) (cond (isBlocked p c) (some c) none)
+module _ {table : List ℕ} {p : Panel} {xs ys : List Item} {found : Blocked} {low : ℕ} (s : Looked table p xs found low) (c : Item) (e : ys ≡ xs ++ c ∷ []) where
+  behind : least (isBlockedBy table p) (level p) ys ≡ joined (isBlockedBy table p) (level p) (foundOf found) (cond (isBlockedBy table p c) (some c) none)
   unfolding least
-  behind = rw (e, least-append (isBlocked p) (level p) xs (c ∷ []), s .result)
+  behind = rw (e, least-append (isBlockedBy table p) (level p) xs (c ∷ []), s .result)
 
   module _ {found′ : Blocked} {low′ : ℕ} where
     -- it is blocked and has a lesser level
-    pub scan-takes : foundOf found′ ≡ some c → Recorded (p .links) found′ → low′ ≡ level p c → isBlocked p c ≡ true → level p c < low
-        → Looked p ys found′ low′
+    pub scan-takes : foundOf found′ ≡ some c → Recorded (p .links) found′ → low′ ≡ level p c → isBlockedBy table p c ≡ true → level p c < low
+        → Looked table p ys found′ low′
     scan-takes is r el t h =
         record { result = behind ∙ rw (t, is) (go (foundOf found) (s .low-is)); low-is = el ∙ rw is refl; recorded = r }
       where
-        go : (o : Option Item) → low ≡ levelOr (level p) o → joined (isBlocked p) (level p) o (some c) ≡ some c
+        go : (o : Option Item) → low ≡ levelOr (level p) o → joined (isBlockedBy table p) (level p) o (some c) ≡ some c
         go (some d) k = rw (lt-leb (level p d) (level p c) (omega arith))
         go none k = refl
 
     -- it is not blocked
-    pub scan-leaves : found′ ≡ found → low′ ≡ low → isBlocked p c ≡ false → Looked p ys found′ low′
+    pub scan-leaves : found′ ≡ found → low′ ≡ low → isBlockedBy table p c ≡ false → Looked table p ys found′ low′
     scan-leaves ef el t = rw (ef, el) (record { result = behind ∙ rw t (go (foundOf found)); low-is = s .low-is; recorded = s .recorded })
       where
-        go : (o : Option Item) → joined (isBlocked p) (level p) o none ≡ o
+        go : (o : Option Item) → joined (isBlockedBy table p) (level p) o none ≡ o
         go (some d) = refl
         go none = refl
 
     -- it has no lesser level
-    pub scan-keeps : found′ ≡ found → low′ ≡ low → level p c < 255 → low ≤ level p c → Looked p ys found′ low′
-    scan-keeps ef el k h = rw (ef, el) (record { result = behind ∙ go (foundOf found) (s .low-is) (isBlocked p c); low-is = s .low-is; recorded = s .recorded })
+    pub scan-keeps : found′ ≡ found → low′ ≡ low → level p c < 255 → low ≤ level p c → Looked table p ys found′ low′
+    scan-keeps ef el k h = rw (ef, el) (record { result = behind ∙ go (foundOf found) (s .low-is) (isBlockedBy table p c); low-is = s .low-is; recorded = s .recorded })
       where
-        go : (o : Option Item) → low ≡ levelOr (level p) o → (t : Bool) → joined (isBlocked p) (level p) o (cond t (some c) none) ≡ o
+        go : (o : Option Item) → low ≡ levelOr (level p) o → (t : Bool) → joined (isBlockedBy table p) (level p) o (cond t (some c) none) ≡ o
         go (some d) m true = rw (le-leb (level p d) (level p c) (omega arith))
         go (some d) m false = refl
         go none m true = absurd (omega arith)
@@ -129,18 +116,18 @@ unfolding tabulate
 next-stay f = rw (add-one f, map-append stay (tabulate (λ f. f) f) (f ∷ []), append-assoc (firstLinks 128) (map stay (tabulate (λ f. f) f)) (stay f ∷ []))
 
 -- nothing is scanned
-pub scan-none : (p : Panel) → Looked p (firstLinks 0) Nothing 255
+pub scan-none : (table : List ℕ) (p : Panel) → Looked table p (firstLinks 0) Nothing 255
 unfolding least tabulate
-scan-none p = record { result = refl; low-is = refl; recorded = tt }
+scan-none table p = record { result = refl; low-is = refl; recorded = tt }
 
 -- the links are scanned, and no stay
-pub stays-start : {p : Panel} {found : Blocked} {low i : ℕ} → i ≡ 128 → Looked p (firstLinks i) found low → Looked p (firstStays 0) found low
+pub stays-start : {table : List ℕ} {p : Panel} {found : Blocked} {low i : ℕ} → i ≡ 128 → Looked table p (firstLinks i) found low
+    → Looked table p (firstStays 0) found low
 unfolding tabulate
-stays-start {p} {found} {low} e s = rw (append-nil (firstLinks 128)) (rw e at s)
+stays-start {table} {p} {found} {low} e s = rw (append-nil (firstLinks 128)) (rw e at s)
 
 -- all are scanned
-pub scan-done : {p : Panel} {low f : ℕ} (found : Blocked) → f ≡ p .size → Looked p (firstStays f) found low → Finds p found
-unfolding leastBlocked itemsOf
-scan-done Nothing e s = rw e at (s .result)
-scan-done (ALink i l) e s = (rw e at (s .result), s .recorded)
-scan-done (AStay f) e s = rw e at (s .result)
+pub scan-done : {table : List ℕ} {p : Panel} {found : Blocked} {low f : ℕ} → f ≡ p .size → Looked table p (firstStays f) found low
+    → Names (p .links) (leastBlockedBy table p) found
+unfolding leastBlockedBy itemsOf
+scan-done e s = (rw e at (s .result), s .recorded)

@@ -9,13 +9,12 @@ use Rattle.fieldset.specs.Tables.{at}
 use Rattle.fieldset.specs.Fields.{member}
 use Rattle.strength.specs.Strength.{greatest}
 use Rattle.panel.specs.declared.Panel.{Panel}
-use Rattle.panel.specs.Items.{Item, link, stay, linkAt, outputsOf, waits}
+use Rattle.panel.specs.Items.{Item, link, outputsOf, waits}
 use Rattle.panel.specs.Panels.{dropped}
 use Rattle.panel.specs.Solution.{level, setterLevel, setterOthers, strengthOf, isBlocked, leastBlocked}
 use Rattle.panel.specs.Legal.{Legal}
 use Rattle.scanning.specs.declared.Blocked.{Blocked}
-use Rattle.scanning.specs.declared.Blocked.the-variants.{Nothing, Link as ALink, Stay as AStay}
-use Rattle.scanning.specs.Scan.{Scanned}
+use Rattle.scanning.specs.Scan.{foundOf, Recorded, Scanned}
 
 -- "look at all blocked links and stays; if there are any, take the one with the least level (among equals, the lowest link number)": it is blocked,
 -- no blocked one has a lesser level, and if it is a link, every blocked link of a lower number has a greater level
@@ -40,15 +39,20 @@ pub record ScanExactly (p : Panel) : Type 0 where
 abbrev pub ScansExactly : Type 0
 ScansExactly = (p : Panel) → Legal p → ScanExactly p
 
--- what a scan answers, in these words: nothing, where no link and no stay is blocked; else the one that is taken, a link with its record
-abbrev pub Answers : Panel → Blocked → Type 0
-Answers p Nothing = (c : Item) → isBlocked p c ≡ false
-Answers p (ALink i l) = IsTaken p (link i) × (l ≡ linkAt (p .links) i)
-Answers p (AStay f) = IsTaken p (stay f)
+-- what the scan of a removal answers, in these words; p is the panel without the link
+pub record RemovalScan (p : Panel) (table : List ℕ) (found : Blocked) (worked : ℕ) : Type 0 where
+  -- "every entry is document 01's strength"
+  pub entries : (f : ℕ) → f < p .size → at table f ≡ strengthOf p f
+  -- "n strengths worked out"
+  pub count : worked ≡ p .size
+  -- "the scan finds the one that document 01 takes"
+  pub finds : (c : Item) → foundOf found ≡ some c ↔ IsTaken p c
+  -- "and none exactly when none is blocked"
+  pub none-blocked : foundOf found ≡ none ↔ ((c : Item) → isBlocked p c ≡ false)
+  pub recorded : Recorded (p .links) found
 
--- the scan of a removal, as `scan_without` promises it (`Scanned`): on the panel without the link, every entry of the table is the strength of that field,
--- n of them were worked out, and what is found is the one that document 01 takes, nothing exactly when no link and no stay is blocked
+-- of every removal of a link, from what `scan_without` promises (`Scanned`)
 abbrev pub RemovalScans : Type 0
 RemovalScans =
     (p : Panel) → Legal p → (id : ℕ) → id < 128 → (before table : List ℕ) (found : Blocked) (worked : ℕ) → Scanned (dropped p id) before table found worked
-    → ((f : ℕ) → f < p .size → at table f ≡ strengthOf (dropped p id) f) × (worked ≡ p .size) × Answers (dropped p id) found
+    → RemovalScan (dropped p id) table found worked

@@ -13,8 +13,8 @@ ghost use lib.ListN.{length};
 ghost use Rattle.fieldset.specs.Tables.{at};
 ghost use Rattle.panel.specs.Panels.{dropped};
 ghost use Rattle.panel.specs.Legal.{Legal};
-ghost use Rattle.tables.specs.Tables.{Tabled, StrengthsOf};
-ghost use Rattle.scanning.specs.Scan.{isOver, isBlockedLink, withSetters, Finds, Scanned};
+ghost use Rattle.tables.specs.Tables.{Tabled};
+ghost use Rattle.scanning.specs.Scan.{isOver, isBlockedLink, withSetters, leastBlockedBy, Names, Scanned};
 
 // Whether a field of the set has a strength above the level.
 fn is_over(set: u64, level: u8, table: &[u8; 64]) -> bool
@@ -55,11 +55,11 @@ pub enum Blocked {
     Stay(u8),
 }
 
-// The blocked link or stay of least level, the lowest link number among equals, where the fields have these setters, over a table of all strengths.
-// Both scans stand here: a function for each would copy the panel.
+// The blocked link or stay of least level, the lowest link number among equals, where the fields have these setters. The table alone says which are
+// blocked: what is found is what it gives, whatever stands in it. Both scans stand here: a function for each would copy the panel.
 fn find_blocked(p: Panel, setter: &[u8; 64], table: &[u8; 64]) -> Blocked
-    requires { ⌜ Legal p × StrengthsOf (withSetters p (now setter)) (now table) ⌝ }
-    ensures { λ r. ⌜ Finds (withSetters p (now (setter .entry))) r ⌝ }
+    requires { ⌜ Legal p ⌝ }
+    ensures { λ r. ⌜ Names (p .links) (leastBlockedBy (now (table .entry)) (withSetters p (now (setter .entry)))) r ⌝ }
 {
     let mut found = Blocked::Nothing;
     // the level of what is found; at first above every level

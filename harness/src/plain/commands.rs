@@ -30,8 +30,8 @@ impl Run {
         Ok(moved)
     }
 
-    /// "Removal drops it." The scan goes on record, also where "a loop refuses
-    /// the whole removal".
+    /// "Removal drops it." The scan that it needs goes on record, also where "a
+    /// loop refuses the whole removal".
     fn remove(&mut self, id: u8) -> Result<u8, Refusal> {
         self.scans.extend(self.panel.scan_of_remove(id));
         let moved = self.panel.remove(id)?;

@@ -148,9 +148,10 @@ impl Panel {
         }
     }
 
-    /// Whether the removal of a link looks "at all blocked links and stays", and
-    /// for how many strengths: document 02, request 4, "each field's once", so
-    /// n. Only a link that "sets v" has it look; "if the link waits, drop it".
+    /// The scan that the removal of a link needs, by its number of strengths:
+    /// document 02, request 4, "each field's once", so n. A link that waits needs
+    /// none: without it nothing is blocked that was not. (`after_remove` looks
+    /// all the same, and finds nothing.)
     pub fn scan_of_remove(&self, id: u8) -> Option<u8> {
         match self.links.get(&id)?.standing {
             Standing::Holding(_) => Some(self.size()),

@@ -60,7 +60,7 @@ fn counted(count: u32) -> u32 {
 }
 
 /// A run, line by line: the panel, its values and formulas, and the tally as the
-/// lines so far left them, and the scans that they made.
+/// lines so far left them, and the scans that they needed.
 #[derive(Clone, Debug, Default, PartialEq, Eq)]
 pub struct Run {
     pub panel: Panel,
@@ -69,8 +69,8 @@ pub struct Run {
     /// By link number.
     pub formulas: BTreeMap<u8, Formula>,
     pub tally: Tally,
-    /// For each scan for blocked links and stays, in order, how many strengths it
-    /// needs.
+    /// For each scan for blocked links and stays that a removal needed, in order,
+    /// its number of strengths.
     pub scans: Vec<u8>,
 }
 
@@ -137,8 +137,8 @@ pub fn values_after(text: &[u8]) -> Vec<i32> {
     run.values
 }
 
-/// The scans that a whole text makes, on an unopened panel, each by the number of
-/// strengths that it needs; none of a text that is too long.
+/// The scans that a whole text needs, on an unopened panel, each by its number of
+/// strengths; none of a text that is too long.
 pub fn scans_after(text: &[u8]) -> Vec<u8> {
     let mut run = Run::default();
     run_text_with(&mut run, text);

@@ -4,7 +4,7 @@ use borrow.Author.Needs.{needs}
 use native.Mathlib.Omega.{arith}
 use Rattle.fieldset.specs.Tables.{at}
 use Rattle.tables.proofs.Settings.{places}
-use Rattle.scanning.proofs.Dropped.{Held, rest-acyclic, stepped-strengths, scanned, tabled-dropped}
+use Rattle.scanning.proofs.Dropped.{Held, rest-acyclic, scanned, tabled-dropped}
 use Rattle.scanning.proofs.scan_without.Statement.{statement}
 use Rattle.scanning.proofs.scan_without.Tie as tie
 
@@ -26,10 +26,7 @@ strengths-requires : tie.Need-strengths-requires
 strengths-requires c κs = let s = c .before .before .before .before .before in (rest-acyclic (held s), s .pre .4)
 
 find-blocked-requires : tie.Need-find-blocked-requires
-find-blocked-requires c κs =
-    let t = c .before .before in
-    let s = begin t in
-    (s .pre .0, stepped-strengths (held s) _ _ (t .strengths .ensures .0))
+find-blocked-requires c κs = begin (c .before .before) .pre .0
 
 returns : tie.Need-returns
 returns c =
