@@ -63,7 +63,7 @@ impl Step {
     }
 }
 
-/// A run without its tally and without the scans that it made.
+/// A run without its tally and without the scans that it needed.
 fn state(run: &Run) -> Run {
     Run {
         tally: Tally::default(),

@@ -44,7 +44,8 @@ module _ (text : List ℕ) (from room : ℕ) (s : Sheet) (t : Tally) (before aft
       go line rest is =
           let one : fitting lineAnswer room s (linesOf (drop from text)) ≡ 1 =
           ap (fitting lineAnswer room s) is ∙ fitting-line lineAnswer room s line rest (lineAnswer s line) refl (omega arith)
-          ∙ ap suc (fitting-full lineAnswer (room - length (lineOf (lineAnswer s line .reply))) (lineAnswer s line .state) rest (omega (arith, length-line (lineAnswer s line .reply))))
+          ∙ ap suc (fitting-full lineAnswer (room - length (lineOf (lineAnswer s line .reply))) (lineAnswer s line .state) rest
+          (omega (arith, length-line (lineAnswer s line .reply))))
           in
           let first : take (fitting lineAnswer room s (linesOf (drop from text))) (linesOf (drop from text)) ≡ line ∷ [] = ap₂ take one is in
           let others : linesOf (drop (r .next) text) ≡ rest = ran .rest ∙ ap₂ drop one is in
@@ -82,8 +83,8 @@ counted-all {text} {before} {s = s} c end short =
 
 module _ {text before counts : List ℕ} {at made : ℕ} {s : Sheet} (c : Counted text before counts at s made) where
   -- one line more, which adds these counts
-  module _ {t : Tally} {out out′ : List ℕ} (room : ℕ) (r : Reached Sheet) (ran : RanFrom lineAnswer lineScan LegalSheet text at room s t out out′ r) (full : room ≡ longest)
-      (left : at < length text) (on : at < r .next) (within : r .next ≤ length text) where
+  module _ {t : Tally} {out out′ : List ℕ} (room : ℕ) (r : Reached Sheet)
+      (ran : RanFrom lineAnswer lineScan LegalSheet text at room s t out out′ r) (full : room ≡ longest) (left : at < length text) (on : at < r .next) (within : r .next ≤ length text) where
     more : (xs : List ℕ) → added (r .worked) (scanCounts (r .state) (linesOf (drop (r .next) text))) ≡ xs ++ scanCounts (r .state) (linesOf (drop (r .next) text))
         → scanCounts unopened (linesOf text) ≡ (c .done ++ xs) ++ scanCounts (r .state) (linesOf (drop (r .next) text))
     more xs e =

@@ -42,6 +42,7 @@ use Rattle.optimality.proofs.Optimum.{sound-optimal}
 use Rattle.optimality.proofs.Answers.{touch-never-conflict}
 use Rattle.optimality.proofs.States.{sound-settled, optimal-best}
 use Rattle.optimality.proofs.Conflict.{sound-conflict-exactly}
+use Rattle.optimality.proofs.Removing.{looks-alike}
 use Rattle.optimality.proofs.Loops.{command-exactly}
 use Rattle.optimality.proofs.Runs.{performed-sound, kept-after, every-system, after-sound}
 use Rattle.sheet.specs.declared.Sheet.{Sheet}
@@ -50,7 +51,7 @@ use Rattle.sheet.specs.Commands.{Command, solving, entering, relating, Answer, 
 use Rattle.sheet.specs.Legal.{LegalSheet}
 use Rattle.sheet.proofs.Answers.{entering-reply}
 use Rattle.sheet.proofs.Legal.{reply-passes, Left, Stored, entering-cases, entered-formulas, legal-sheet, blank-none, legal-blank}
-use Rattle.exactness.specs.Lists.{entered, sheets, start, Condition3, EveryState, ConflictAndLoop, EnteringNeverConflict, FormulasFit, ValuesWithin, ValuesRight, OutOfRangeWhereNone, gives, givenAfter, FormulasGiven, HeldRight, ZeroAtOpening, OthersKeepValues}
+use Rattle.exactness.specs.Lists.{entered, sheets, start, Condition3, EveryState, EitherReading, ConflictAndLoop, EnteringNeverConflict, FormulasFit, ValuesWithin, ValuesRight, OutOfRangeWhereNone, gives, givenAfter, FormulasGiven, HeldRight, ZeroAtOpening, OthersKeepValues}
 use Rattle.exactness.proofs.Values.{entered-exactly}
 use Rattle.exactness.proofs.Solutions.{out-of-range-exactly, values-only}
 
@@ -92,6 +93,9 @@ sound-after = kept-after sheets SoundRun sound-kept start start-sound
 
 pub every-state : EveryState
 every-state commands = let x = sound-after commands in (sound-settled x, x .unblocked, optimal-best (condition-3 commands))
+
+pub either-reading : EitherReading
+either-reading commands = looks-alike (sound-after commands)
 
 pub conflict-and-loop : ConflictAndLoop
 conflict-and-loop commands = let x = sound-after commands in (sound-conflict-exactly x, command-exactly _ (x .legal))

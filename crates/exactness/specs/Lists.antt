@@ -23,7 +23,7 @@ use Rattle.sheet.specs.Commands.{Command, solving, entering, relating, performe
 use Rattle.sheet.specs.Legal.{Fits}
 use Rattle.optimality.specs.Condition3 as store
 use Rattle.optimality.specs.Condition3.{Entry, Store, empty, held, Optimal, System, Run, after, AfterEveryList}
-use Rattle.optimality.specs.States.{Settled, NothingBlocked, NothingBetter}
+use Rattle.optimality.specs.States.{Settled, NothingBlocked, LooksAlike, NothingBetter}
 use Rattle.optimality.specs.Refusals.{ConflictExactly, LoopExactly}
 use Rattle.exactness.specs.Values.{EnteredExactly, OutOfRangeExactly, ValuesOnly}
 
@@ -58,6 +58,10 @@ abbrev pub EveryState : Type 0
 EveryState =
     AfterEveryList sheets start (λ r.
     Settled (r .store) (sheets .plan (r .state)) × NothingBlocked (r .state .panel) × NothingBetter (r .store) (sheets .plan (r .state)))
+
+-- a removal answers the same whether one looks at what is blocked after every drop or only after that of a link that sets a field
+abbrev pub EitherReading : Type 0
+EitherReading = AfterEveryList sheets start (λ r. LooksAlike (r .state .panel))
 
 -- Conflict and Loop are given exactly when document 01 says so
 abbrev pub ConflictAndLoop : Type 0

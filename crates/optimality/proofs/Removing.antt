@@ -22,15 +22,16 @@ use Rattle.panel.specs.Panels.{withLink, withSetter, freed, dropped}
 use Rattle.panel.specs.Solution.{level, strengthOf, isBlocked, pathFor, leastBlocked}
 use Rattle.panel.specs.Steps.{settled, dropStep, removeStep}
 use Rattle.panel.specs.Legal.{Legal}
-use Rattle.panel.proofs.InForce.{waiting-force}
+use Rattle.panel.proofs.InForce.{force-used, waiting-force}
 use Rattle.panel.proofs.Reversed.{put, same-item, link-here, set-setter, number-setter}
-use Rattle.panel.proofs.Legal.{LegalBut}
+use Rattle.panel.proofs.Legal.{LegalBut, force-small}
 use Rattle.panel.proofs.Setters.{waits-idle}
 use Rattle.panel.proofs.Reversal.{blocking, startOf, legal-waits}
 use Rattle.panel.proofs.Changes.{Aside, none-aside, legal-aside}
-use Rattle.panel.proofs.Least.{LeastBlocked, least-blocked}
+use Rattle.panel.proofs.Least.{LeastBlocked, least-blocked, none-least}
 use Rattle.optimality.specs.Condition3.{Store, entry}
 use Rattle.optimality.specs.Agreement.{Agrees, Sound}
+use Rattle.optimality.specs.States.{LooksAlike}
 use Rattle.optimality.proofs.Setters.{Graph, Waits, Free, Unblocked}
 use Rattle.optimality.proofs.Changes.{Change, changed-potential, changed-free}
 use Rattle.optimality.proofs.Removal.{struck-potential, removal-unblocked}
@@ -178,3 +179,20 @@ unfolding removeStep dropped
 remove-sound b p x id lt used =
     drop-sound b p x id lt used noLink (none-aside (p .size)) (omega arith) (λ u o. absurd (clash o (member-empty u)))
     (linkAt (p .links) id .standing) refl
+
+-- without a link that waits nothing is blocked
+pub looks-alike : {b : Store} {p : Panel} → Sound b p → LooksAlike p
+unfolding removeStep dropped
+looks-alike {b} {p} x id force = go (linkAt (p .links) id .standing) refl
+  where
+    small : id < 128
+    small = force-small (p .links) id (x .legal .links-length) force
+
+    go : (s : Standing) → linkAt (p .links) id .standing ≡ s
+        → let q = freed (withLink p id noLink) s in dropStep p q s ≡ settled p q (leastBlocked q)
+    go Waiting e =
+        let q = withLink p id noLink in
+        let y : Sound (entry b id none) q =
+        drop-waiting b p x id small (force-used _ force) noLink (none-aside (p .size)) (omega arith) (λ u o. absurd (clash o (member-empty u))) e in
+        ap (settled p q) (sym (none-least q (leastBlocked q) (least-blocked q (y .legal)) (y .unblocked)))
+    go (Holding v) e = refl

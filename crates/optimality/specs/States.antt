@@ -2,13 +2,15 @@
 use Prim.Native.Nat.{ℕ, _<_}
 use mathlib.Core.Path.{_≡_}
 use mathlib.Core.Logic.{_↔_}
-use mathlib.Core.Bool.{false}
+use mathlib.Core.Bool.{true, false}
 use mathlib.Core.List.{List}
 use mathlib.Core.Option.{some}
 use Rattle.fieldset.specs.Lists.{In}
 use Rattle.panel.specs.declared.Panel.{Panel}
-use Rattle.panel.specs.Items.{Item, link}
-use Rattle.panel.specs.Solution.{isBlocked}
+use Rattle.panel.specs.Items.{Item, link, linkAt, isInForce}
+use Rattle.panel.specs.Panels.{dropped}
+use Rattle.panel.specs.Solution.{isBlocked, leastBlocked}
+use Rattle.panel.specs.Steps.{settled, removeStep}
 use Rattle.optimality.specs.Condition3.{Entry, Store, levelIn, Pair, items, Matching, held}
 
 -- ---- every state
@@ -27,6 +29,13 @@ pub record Settled (b : Store) (plan : List ℕ) : Type 0 where
 -- no link or stay is blocked
 abbrev pub NothingBlocked : Panel → Type 0
 NothingBlocked p = (c : Item) → isBlocked p c ≡ false
+
+-- ---- Remove
+
+-- "If the link waits, drop it. If it sets v, .. Then look at all blocked links and stays": to look after a link that waits is dropped, too, gives the
+-- same answer
+abbrev pub LooksAlike : Panel → Type 0
+LooksAlike p = (id : ℕ) → isInForce (linkAt (p .links) id) ≡ true → removeStep p id ≡ settled p (dropped p id) (leastBlocked (dropped p id))
 
 -- ---- Better
 

@@ -139,3 +139,8 @@ least-blocked p h = go (leastBlocked p) (least-is (isBlocked p) (level p) (items
       λ c k. listed (λ c. isBlocked p c ≡ true → level p d ≤ level p c) low c k k,
       λ c k. listed (λ c. isBlocked p c ≡ true → positionOf c < positionOf d → level p d < level p c) (first (items-rise (p .size))) c k k,
     )
+
+-- where nothing is blocked nothing is found
+pub none-least : (p : Panel) (o : Option Item) → LeastBlocked p o → ((c : Item) → isBlocked p c ≡ false) → o ≡ none
+none-least p none a k = refl
+none-least p (some d) a k = absurd (clash (a .0) (k d))

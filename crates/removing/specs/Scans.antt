@@ -6,8 +6,8 @@ use Rattle.panel.specs.declared.Panel.{Panel}
 use Rattle.panel.specs.Items.{linkAt}
 
 -- how many strengths the last scan worked out, after a link of this standing is dropped from n fields: "If the link waits, drop it. If it sets v, drop it
--- and let v's stay set v. Then look at all blocked links and stays". The scan is that of a link that sets v, and has n strengths; without a link that
--- waits nothing is blocked that was not, and no scan is made (docs/DECISIONS.md, request 4)
+-- and let v's stay set v. Then look at all blocked links and stays". The scan is that of a link that sets v, and has n strengths; to look after a link
+-- that waits, too, would give the same answer (`EitherReading`, exactness)
 abbrev pub countAfter : ℕ → ℕ → Standing → ℕ
 countAfter before n Waiting = before
 countAfter before n (Holding v) = n

@@ -78,7 +78,8 @@ module _ {S : Type 0} (answer : LineAnswer S) (Legal : S → Type 0) (s₀ : S) 
 
   module _ (text out : List ℕ) (sent next : ℕ) (s : S) (t : Tally) (was : Sent text out sent next s t) where
     -- one part more
-    module _ {scan : ℕ → S → List ℕ → ℕ} (ls : List (List ℕ)) (n : ℕ) (after : List ℕ) (r : Reached S) (ran : Ran answer scan Legal text ls n s t out after r) (more : Resumed answer text next s t out after r) where
+    module _ {scan : ℕ → S → List ℕ → ℕ} (ls : List (List ℕ)) (n : ℕ) (after : List ℕ) (r : Reached S) (ran : Ran answer scan Legal text ls n s t out after r)
+        (more : Resumed answer text next s t out after r) where
       pub part-full : length after ≡ bufferLength
       part-full = ap length (ran .buffer) ∙ simp length-sets (was .full)
 

@@ -73,7 +73,7 @@ module _ {p : Panel} {id v : ℕ} {levels others reads : List ℕ} (x : Held p i
   held-small = field-small p h id v (x .small) (x .holds)
 
   -- the stay of v steps in, and then the link is dropped
-  abbrev pub stepped : Panel
+  abbrev stepped : Panel
   stepped = withSetters p (set (p .setter) v 128)
 
   abbrev pub rest : Panel

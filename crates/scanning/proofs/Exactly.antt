@@ -19,7 +19,7 @@ use Rattle.panel.specs.Legal.{Legal}
 use Rattle.panel.proofs.Legal.{force-small}
 use Rattle.panel.proofs.Setters.{whole, setter-ranked, setter-falls}
 use Rattle.panel.proofs.Reversal.{blocking, blocked-by}
-use Rattle.panel.proofs.Least.{blocked-force, LeastBlocked, least-blocked}
+use Rattle.panel.proofs.Least.{blocked-force, LeastBlocked, least-blocked, none-least}
 use Rattle.panel.specs.Panels.{dropped}
 use Rattle.panel.proofs.Changes.{legal-dropped}
 use Rattle.tables.proofs.Tables.{table-strengths}
@@ -61,10 +61,6 @@ module _ (p : Panel) (h : Legal p) where
   taken-found none a c t = absurd (clash (t .blocked) (a c))
   taken-found (some d) a c t = ap some (only-one d c (taken d a) t)
 
-  none-found : (o : Option Item) → LeastBlocked p o → ((c : Item) → isBlocked p c ≡ false) → o ≡ none
-  none-found none a k = refl
-  none-found (some d) a k = absurd (clash (a .0) (k d))
-
 pub scans-exactly : ScansExactly
 unfolding strengthOf
 scans-exactly p h =
@@ -80,7 +76,7 @@ scans-exactly p h =
         λ (w, (u, l, o, s)). blocked-by p c (record { waits-now = w; field = u; small = l; output = o; stronger = s }),
       );
       finds = λ c. (λ e. taken p h c (subst (LeastBlocked p) e found), taken-found p h (leastBlocked p) found c);
-      none-blocked = (λ e. subst (LeastBlocked p) e found, none-found p h (leastBlocked p) found);
+      none-blocked = (λ e. subst (LeastBlocked p) e found, none-least p (leastBlocked p) found);
     }
 
 -- the scan of a removal: the panel without the link is legal
@@ -95,4 +91,5 @@ removal-scans p h id small before table found worked scan =
       finds = λ c. subst (λ (o : Option Item). o ≡ some c ↔ IsTaken q c) is (exactly .finds c);
       none-blocked = subst (λ (o : Option Item). o ≡ none ↔ ((c : Item) → isBlocked q c ≡ false)) is (exactly .none-blocked);
       recorded = scan .finds .1;
+      exactly = exactly;
     }

@@ -50,6 +50,8 @@ pub record RemovalScan (p : Panel) (table : List ℕ) (found : Blocked) (worked 
   -- "and none exactly when none is blocked"
   pub none-blocked : foundOf found ≡ none ↔ ((c : Item) → isBlocked p c ≡ false)
   pub recorded : Recorded (p .links) found
+  -- what strength, blocked and the one that is taken are
+  pub exactly : ScanExactly p
 
 -- of every removal of a link, from what `scan_without` promises (`Scanned`)
 abbrev pub RemovalScans : Type 0

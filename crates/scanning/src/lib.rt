@@ -55,8 +55,8 @@ pub enum Blocked {
     Stay(u8),
 }
 
-// The blocked link or stay of least level, the lowest link number among equals, where the fields have these setters. The table alone says which are
-// blocked: what is found is what it gives, whatever stands in it. Both scans stand here: a function for each would copy the panel.
+// The blocked link or stay of least level, the lowest link number among equals, where the fields have these setters. Of strengths it knows the
+// table alone: what is found is what that gives, whatever stands in it. Both scans stand here: a function for each would copy the panel.
 fn find_blocked(p: Panel, setter: &[u8; 64], table: &[u8; 64]) -> Blocked
     requires { ⌜ Legal p ⌝ }
     ensures { λ r. ⌜ Names (p .links) (leastBlockedBy (now (table .entry)) (withSetters p (now (setter .entry)))) r ⌝ }

@@ -93,7 +93,7 @@ pub fn greatest(
 
 // The strengths of all fields below n, each worked out once: the answer counts them where they are stored. Where a setter has no other output the
 // strength is its level, and these come first.
-// The contract rules out, for instance, a field worked out twice and fields left out (must-fail: alone_worked_out_again, others_left_out).
+// The contract rules out, for instance, a field counted twice and fields left out (must-fail: alone_worked_out_again, others_left_out).
 pub fn strengths(levels: &[u8; 64], others: &[u64; 64], n: usize, table: &mut [u8; 64]) -> u8
     requires { ⌜ Acyclic (now others) n × (length (now table) ≡ 64) ⌝ }
     ensures { λ r. ⌜ now (table .exit) ≡ tabulate (strength (at (now (levels .entry))) (at (now (others .entry))) n) n ++ drop n (now (table .entry)) ⌝ }

@@ -40,7 +40,7 @@ use Rattle.fieldset.proofs.Maps.{tableOf, at-table, length-table}
 module _ (n : ℕ) (level level′ others others′ : ℕ → ℕ)
     (hl : (v : ℕ) → v < n → level v ≡ level′ v) (ho : (v : ℕ) → v < n → others v ≡ others′ v)
     (inside : (v u : ℕ) → v < n → u < 64 → member (others v) u ≡ true → u < n) where
-  pub strength-same : (k v : ℕ) → v < n → strength level others k v ≡ strength level′ others′ k v
+  strength-same : (k v : ℕ) → v < n → strength level others k v ≡ strength level′ others′ k v
   unfolding strength
   strength-same zero v l = refl
   strength-same (suc k) v l =

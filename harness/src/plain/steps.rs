@@ -152,7 +152,7 @@ impl Panel {
     /// document 02, request 4, "each field's once", so n. A link that waits needs
     /// none: without it nothing is blocked that was not. (`after_remove` looks
     /// all the same, and finds nothing.)
-    pub fn scan_of_remove(&self, id: u8) -> Option<u8> {
+    pub(super) fn scan_of_remove(&self, id: u8) -> Option<u8> {
         match self.links.get(&id)?.standing {
             Standing::Holding(_) => Some(self.size()),
             Standing::Waiting => None,

@@ -1,5 +1,5 @@
--- `counting::panel_scans` meets its contract. The loop's invariant is `Counted`, with room for one longest reply, so that a round is one line; its measure is what is
--- left of the text.
+-- `counting::panel_scans` meets its contract. The loop's invariant is `Counted`, with room for one longest reply, so that a round is one line; its
+-- measure is what is left of the text.
 use Prim.Native.Nat.{ℕ, _-_, _≤_, _<_}
 use mathlib.Core.Bool.{false}
 use mathlib.Core.List.{List}
