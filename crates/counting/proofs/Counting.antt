@@ -84,7 +84,8 @@ counted-all {text} {before} {s = s} c end short =
 module _ {text before counts : List ℕ} {at made : ℕ} {s : Sheet} (c : Counted text before counts at s made) where
   -- one line more, which adds these counts
   module _ {t : Tally} {out out′ : List ℕ} (room : ℕ) (r : Reached Sheet)
-      (ran : RanFrom lineAnswer lineScan LegalSheet text at room s t out out′ r) (full : room ≡ longest) (left : at < length text) (on : at < r .next) (within : r .next ≤ length text) where
+      (ran : RanFrom lineAnswer lineScan LegalSheet text at room s t out out′ r) (full : room ≡ longest)
+      (left : at < length text) (on : at < r .next) (within : r .next ≤ length text) where
     more : (xs : List ℕ) → added (r .worked) (scanCounts (r .state) (linesOf (drop (r .next) text))) ≡ xs ++ scanCounts (r .state) (linesOf (drop (r .next) text))
         → scanCounts unopened (linesOf text) ≡ (c .done ++ xs) ++ scanCounts (r .state) (linesOf (drop (r .next) text))
     more xs e =
