@@ -13,6 +13,8 @@ pub enum Command<'a> {
     Remove(u8),
     Touch(u8),
     Plan,
+    /// Number, level, field bytes.
+    Change(u8, u8, &'a [u8]),
     /// Field and value.
     Store(u8, i32),
     /// Number and formula.
@@ -95,6 +97,9 @@ pub fn read_frame(frame: &[u8]) -> Result<Command<'_>, Refusal> {
         [3, id] => Ok(Command::Remove(id)),
         [4, field] => Ok(Command::Touch(field)),
         [5] => Ok(Command::Plan),
+        [6, id, level, ref field_bytes @ ..] if are_field_bytes(field_bytes) => {
+            Ok(Command::Change(id, level, field_bytes))
+        }
         [7, field, a, b, c, d] => Ok(Command::Store(field, i32::from_be_bytes([a, b, c, d]))),
         [8, id, 1, a, b, c, d] => {
             let ratio = Formula::Ratio(u16::from_be_bytes([a, b]), u16::from_be_bytes([c, d]));
@@ -110,8 +115,8 @@ fn are_field_bytes(bytes: &[u8]) -> bool {
     (1..=8).contains(&bytes.len()) && bytes.iter().all(|byte| byte & 0x40 == 0)
 }
 
-/// The covered fields and the outputs of an added link on an open panel of this
-/// size, after the checks 6 and 7.
+/// The covered fields and the outputs of an added or changed link on an open panel
+/// of this size, after the checks 6 and 7.
 pub fn read_link(
     id: u8,
     level: u8,

@@ -229,31 +229,80 @@ impl Panel {
         fits.then_some(values)
     }
 
-    /// Undoes a touch. The links that it turned hold a field before and after.
-    fn put_back(&mut self, places: [u8; 64], setters: [u8; 64]) {
-        for f in 0..self.size {
-            if self.setter[f] != setters[f] {
-                self.hold(setters[f], Some(f as u8));
+    /// Gives the fields the setters that they had, and the links that were turned since then the field that each held,
+    /// or none.
+    fn put_back(&mut self, setters: [u8; 64]) {
+        for (f, &former) in setters[..self.size].iter().enumerate() {
+            let (now, field) = (self.setter[f], Some(f as u8));
+            if now != former {
+                if now != STAY && self.links[now as usize & 127].holds == field {
+                    self.hold(now, None);
+                }
+                self.hold(former, field);
             }
         }
-        self.place = places;
         self.setter = setters;
     }
 
+    /// How many fields have another setter than they had.
+    fn moved_from(&self, setters: &[u8; 64]) -> u8 {
+        let moved = (0..self.size).filter(|&f| setters[f] != self.setter[f]);
+        moved.count() as u8
+    }
+
+    /// The link of an add or a change, after the checks 4, 6 and 7.
     fn new_link(&self, id: u8, level: u8, field_bytes: &[u8]) -> Result<Link, Refusal> {
         if self.size == 0 {
             return Err(Refusal::NotOpen);
         }
         let (covered, outputs) = read_link(id, level, field_bytes, self.size)?;
-        if self.links[id as usize].outputs != 0 {
-            return Err(Refusal::LinkTaken);
-        }
         Ok(Link {
             covered,
             outputs,
             level,
             holds: None,
         })
+    }
+
+    /// Takes a link into use under a number not in use. A refusal leaves the panel as it was.
+    fn enter_link(&mut self, id: u8, link: Link) -> Result<u8, Refusal> {
+        let mut t = Tables::of(self);
+        let mut moved = 0;
+        if t.greatest(link.outputs) > link.level {
+            self.links[id as usize] = link;
+            match self.turn(&mut t, id, link.outputs, link.covered) {
+                Ok(n) => moved = n,
+                Err(refusal) => {
+                    self.links[id as usize] = NO_LINK;
+                    return Err(refusal);
+                }
+            }
+        } else if link.level == 0 {
+            return Err(Refusal::Conflict);
+        } else {
+            self.links[id as usize] = link;
+        }
+        Ok(moved)
+    }
+
+    /// Takes a link out of use and turns for what is then blocked. A refusal leaves the panel as it was.
+    fn drop_link(&mut self, id: u8) -> Result<u8, Refusal> {
+        let old = self.links[id as usize];
+        self.links[id as usize] = NO_LINK;
+        let Some(v) = old.holds else {
+            return Ok(0);
+        };
+        let before = self.setter;
+        self.setter[v as usize & 63] = STAY;
+        let mut t = Tables::of(self);
+        if let Some((item, outputs, covered)) = self.first_blocked(&mut t) {
+            if let Err(refusal) = self.turn(&mut t, item, outputs, covered) {
+                self.links[id as usize] = old;
+                self.setter[v as usize & 63] = id;
+                return Err(refusal);
+            }
+        }
+        Ok(self.moved_from(&before))
     }
 
     /// The blocked link or stay of least level: its number or `STAY`, its outputs and covered fields.
@@ -304,23 +353,10 @@ impl Solver for Panel {
 
     fn add(&mut self, id: u8, level: u8, field_bytes: &[u8]) -> Result<u8, Refusal> {
         let link = self.new_link(id, level, field_bytes)?;
-        let mut t = Tables::of(self);
-        let mut moved = 0;
-        if t.greatest(link.outputs) > level {
-            self.links[id as usize] = link;
-            match self.turn(&mut t, id, link.outputs, link.covered) {
-                Ok(n) => moved = n,
-                Err(refusal) => {
-                    self.links[id as usize] = NO_LINK;
-                    return Err(refusal);
-                }
-            }
-        } else if level == 0 {
-            return Err(Refusal::Conflict);
-        } else {
-            self.links[id as usize] = link;
+        if self.links[id as usize].outputs != 0 {
+            return Err(Refusal::LinkTaken);
         }
-        Ok(moved)
+        self.enter_link(id, link)
     }
 
     fn remove(&mut self, id: u8) -> Result<u8, Refusal> {
@@ -330,29 +366,31 @@ impl Solver for Panel {
         if id > 127 {
             return Err(Refusal::BadLink);
         }
+        if self.links[id as usize].outputs == 0 {
+            return Err(Refusal::NoSuchLink);
+        }
+        let moved = self.drop_link(id)?;
+        self.formulas[id as usize] = Formula::None;
+        Ok(moved)
+    }
+
+    fn change(&mut self, id: u8, level: u8, field_bytes: &[u8]) -> Result<u8, Refusal> {
+        let link = self.new_link(id, level, field_bytes)?;
         let old = self.links[id as usize];
         if old.outputs == 0 {
             return Err(Refusal::NoSuchLink);
         }
-        self.links[id as usize] = NO_LINK;
-        let Some(v) = old.holds else {
-            self.formulas[id as usize] = Formula::None;
-            return Ok(0);
-        };
         let before = self.setter;
-        self.setter[v as usize & 63] = STAY;
-        let mut t = Tables::of(self);
-        if let Some((item, outputs, covered)) = self.first_blocked(&mut t) {
-            if let Err(refusal) = self.turn(&mut t, item, outputs, covered) {
-                self.links[id as usize] = old;
-                self.setter[v as usize & 63] = id;
-                return Err(refusal);
-            }
+        self.drop_link(id)?;
+        if let Err(refusal) = self.enter_link(id, link) {
+            self.links[id as usize] = old;
+            self.put_back(before);
+            return Err(refusal);
         }
-        self.formulas[id as usize] = Formula::None;
-        Ok((0..self.size)
-            .filter(|&f| before[f] != self.setter[f])
-            .count() as u8)
+        if link.covered != old.covered {
+            self.formulas[id as usize] = Formula::None;
+        }
+        Ok(self.moved_from(&before))
     }
 
     fn touch(&mut self, field: u8) -> Result<u8, Refusal> {
@@ -408,7 +446,8 @@ impl Solver for Panel {
                 None => Refusal::OutOfRange,
             },
         };
-        self.put_back(places, setters);
+        self.place = places;
+        self.put_back(setters);
         Err(refusal)
     }
 

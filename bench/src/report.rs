@@ -10,15 +10,17 @@ pub fn mixes(mixed: &[Mixed], rounds: usize) -> String {
     let mut table = format!(
         "Time per command: the least of {rounds} rounds, the solvers in turn; the buffer for the output \
          is not cleared between rounds. Shares of all commands in percent.\n\n\
-         | mix | touch/remove/add/plan/formula/value as drawn | commands | touch | remove | add | plan | formula | value \
-         | refused | moved | ordinary, ns | tuned, ns | proved, ns | proved ÷ ordinary | proved ÷ tuned |\n\
-         |---|---|--:|--:|--:|--:|--:|--:|--:|--:|--:|--:|--:|--:|--:|--:|\n"
+         | mix | touch/remove/add/plan/formula/value/change as drawn | commands | touch | remove | add | plan | formula \
+         | value | change | refused | moved | ordinary, ns | tuned, ns | proved, ns | proved ÷ ordinary | proved ÷ tuned |\n\
+         |---|---|--:|--:|--:|--:|--:|--:|--:|--:|--:|--:|--:|--:|--:|--:|--:|\n"
     );
     for row in mixed {
         let drawn = match MIXES[row.mix] {
-            Some(s) => [s.touch, s.remove, s.add, s.plan, s.formula, s.value]
-                .map(|share| share.to_string())
-                .join("/"),
+            Some(s) => [
+                s.touch, s.remove, s.add, s.plan, s.formula, s.value, s.change,
+            ]
+            .map(|share| share.to_string())
+            .join("/"),
             None => "only the opening and adds".to_string(),
         };
         let kinds = &row.kinds;
@@ -30,6 +32,7 @@ pub fn mixes(mixed: &[Mixed], rounds: usize) -> String {
             kinds.plan,
             kinds.formula,
             kinds.value,
+            kinds.change,
         ];
         let replies = [row.replies.refused, row.replies.moved];
         write!(table, "| {} | {drawn} | {all} |", row.mix + 1).expect("a string");

@@ -31,6 +31,7 @@ pub trait Solver {
     fn open(&mut self, size: u8) -> Result<u8, Refusal>;
     fn add(&mut self, id: u8, level: u8, field_bytes: &[u8]) -> Result<u8, Refusal>;
     fn remove(&mut self, id: u8) -> Result<u8, Refusal>;
+    fn change(&mut self, id: u8, level: u8, field_bytes: &[u8]) -> Result<u8, Refusal>;
     fn touch(&mut self, field: u8) -> Result<u8, Refusal>;
     fn store(&mut self, field: u8, value: i32) -> Result<u8, Refusal>;
     fn give_formula(&mut self, id: u8, formula: Formula) -> Result<u8, Refusal>;
@@ -86,6 +87,7 @@ fn answer<P: Solver>(panel: &mut P, command: Command, output: &mut Output) -> Re
         Command::Open(size) => panel.open(size)?,
         Command::Add(id, level, field_bytes) => panel.add(id, level, field_bytes)?,
         Command::Remove(id) => panel.remove(id)?,
+        Command::Change(id, level, field_bytes) => panel.change(id, level, field_bytes)?,
         Command::Touch(field) => panel.touch(field)?,
         Command::Store(field, value) => panel.store(field, value)?,
         Command::Formula(id, formula) => panel.give_formula(id, formula)?,

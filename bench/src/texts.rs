@@ -2,8 +2,8 @@
 //!
 //! A text opens a panel, adds links until the wanted number is in use, and is
 //! filled up to the limit with commands of one mix. While a text is made its
-//! commands run on a panel, so that removes name links in use and adds name
-//! numbers not in use. In the opening part an add that the panel refuses is
+//! commands run on a panel, so that removes and changes name links in use and adds
+//! name numbers not in use. In the opening part an add that the panel refuses is
 //! left out and another one is drawn. In the part behind it refused commands
 //! stay in the text, but of the refused values most are drawn again. In a mix with
 //! formulas every link that can have one gets one behind the opening part.
@@ -23,9 +23,10 @@ pub struct Shares {
     pub plan: usize,
     pub formula: usize,
     pub value: usize,
+    pub change: usize,
 }
 
-/// Shares without formulas and values.
+/// Shares without formulas, values and changes.
 const fn shares(touch: usize, remove: usize, add: usize, plan: usize) -> Shares {
     Shares {
         touch,
@@ -34,12 +35,13 @@ const fn shares(touch: usize, remove: usize, add: usize, plan: usize) -> Shares 
         plan,
         formula: 0,
         value: 0,
+        change: 0,
     }
 }
 
 /// The mixes, by their numbers. A mix without shares is of short texts that end
 /// after the opening part, since then all link numbers are in use.
-pub const MIXES: [Option<Shares>; 6] = [
+pub const MIXES: [Option<Shares>; 7] = [
     Some(shares(40, 25, 25, 10)),
     Some(shares(45, 28, 27, 0)),
     None,
@@ -49,6 +51,10 @@ pub const MIXES: [Option<Shares>; 6] = [
         formula: 10,
         value: 50,
         ..shares(15, 10, 10, 5)
+    }),
+    Some(Shares {
+        change: 35,
+        ..shares(30, 15, 15, 5)
     }),
 ];
 
@@ -103,11 +109,12 @@ pub struct Kinds {
     pub plan: usize,
     pub formula: usize,
     pub value: usize,
+    pub change: usize,
 }
 
 impl Kinds {
     pub fn all(&self) -> usize {
-        let links = self.add + self.remove + self.formula;
+        let links = self.add + self.remove + self.change + self.formula;
         self.open + links + self.touch + self.value + self.plan
     }
 }
@@ -122,6 +129,7 @@ pub fn kinds(texts: &[Vec<u8>]) -> Kinds {
             b'2' => kinds.add += 1,
             b'3' => kinds.remove += 1,
             b'4' => kinds.touch += 1,
+            b'6' => kinds.change += 1,
             b'7' => kinds.value += 1,
             b'8' => kinds.formula += 1,
             _ => kinds.plan += 1,
@@ -160,8 +168,8 @@ struct Writer {
     in_use: RangeInclusive<usize>,
     used: Vec<u8>,
     unused: Vec<u8>,
-    /// By link number: the fields that it covers, while it is in use.
-    covered: [u64; 128],
+    /// By link number: its level and its field bytes, while it is in use.
+    bodies: [Vec<u8>; 128],
 }
 
 impl Writer {
@@ -176,7 +184,7 @@ impl Writer {
             in_use,
             used: Vec::new(),
             unused: (0..128).collect(),
-            covered: [0; 128],
+            bodies: [const { Vec::new() }; 128],
         };
         writer.line(&[1, fields as u8]);
         writer.panel.open(fields as u8).expect("1 to 64 fields");
@@ -199,13 +207,15 @@ impl Writer {
         let exchanged = shares.touch + shares.remove;
         let added = exchanged + shares.add;
         let planned = added + shares.plan;
+        let related = planned + shares.formula;
         while self.text.len() + LONGEST_LINE <= TEXT_LIMIT {
             match self.rng.below(100) {
                 drawn if drawn < shares.touch => self.touch(),
                 drawn if drawn < exchanged => self.exchange(true),
                 drawn if drawn < added => self.exchange(false),
                 drawn if drawn < planned => self.line(&[5]),
-                drawn if drawn < planned + shares.formula => self.any_formula(),
+                drawn if drawn < related => self.any_formula(),
+                drawn if drawn < related + shares.change => self.change(),
                 _ => self.value(),
             }
         }
@@ -238,7 +248,7 @@ impl Writer {
         if self.panel.remove(id).is_ok() {
             self.used.swap_remove(place);
             self.unused.push(id);
-            self.covered[id as usize] = 0;
+            self.bodies[id as usize].clear();
         }
     }
 
@@ -247,17 +257,31 @@ impl Writer {
     fn add(&mut self) -> bool {
         let place = self.rng.below(self.unused.len());
         let id = self.unused[place];
-        let level = self.level();
-        let field_bytes = self.field_bytes();
-        self.line(&[&[2, id, level][..], &field_bytes].concat());
-        let accepted = self.panel.add(id, level, &field_bytes).is_ok();
+        let body = self.body();
+        self.line(&[&[2, id], &body[..]].concat());
+        let accepted = self.panel.add(id, body[0], &body[1..]).is_ok();
         if accepted {
             self.unused.swap_remove(place);
             self.used.push(id);
-            let fields = field_bytes.iter().map(|byte| 1 << (byte & 63));
-            self.covered[id as usize] = fields.sum();
+            self.bodies[id as usize] = body;
         }
         accepted
+    }
+
+    /// Changes a link in use: of ten changes four give it another level, three other
+    /// outputs of the fields that it covers, and three make it another link.
+    fn change(&mut self) {
+        let id = self.used[self.rng.below(self.used.len())];
+        let mut body = self.bodies[id as usize].clone();
+        match self.rng.below(10) {
+            0..=3 => body[0] = self.level(),
+            4..=6 => self.draw_outputs(&mut body[1..], 70),
+            _ => body = self.body(),
+        }
+        self.line(&[&[6, id], &body[..]].concat());
+        if self.panel.change(id, body[0], &body[1..]).is_ok() {
+            self.bodies[id as usize] = body;
+        }
     }
 
     /// A formula for some link that can have one.
@@ -273,8 +297,7 @@ impl Writer {
     /// A formula for a link that covers two fields or more; the answer is whether
     /// it does. Over two fields three of four are ratios.
     fn formula(&mut self, id: u8) -> bool {
-        let covered = self.covered[id as usize];
-        let count = covered.count_ones() as usize;
+        let count = self.bodies[id as usize].len().saturating_sub(1);
         if count < 2 {
             return false;
         }
@@ -285,8 +308,7 @@ impl Writer {
             }
             false => {
                 let place = self.rng.below(count);
-                let mut fields = (0..64).filter(|field| covered >> field & 1 == 1);
-                Formula::Sum(fields.nth(place).expect("as many as are covered"))
+                Formula::Sum(self.bodies[id as usize][1 + place] & 63)
             }
         };
         match formula {
@@ -315,6 +337,13 @@ impl Writer {
         }
     }
 
+    /// The level and the field bytes of a link.
+    fn body(&mut self) -> Vec<u8> {
+        let mut body = vec![self.level()];
+        body.extend(self.field_bytes());
+        body
+    }
+
     /// One link in twenty is required, the others are spread over the levels.
     fn level(&mut self) -> u8 {
         match self.rng.percent(5) {
@@ -339,12 +368,19 @@ impl Writer {
         while (covered.count_ones() as usize) < count {
             covered |= 1 << (range.start + self.rng.below(range.len()));
         }
-        let sure_output = self.rng.below(count);
         let fields = (0..64).filter(|field| covered >> field & 1 == 1);
-        let is_output = |place| place == sure_output || self.rng.percent(output_percent);
-        let outputs: Vec<bool> = (0..count).map(is_output).collect();
-        let byte = |(field, output): (u8, bool)| field | (output as u8) << 7;
-        fields.zip(outputs).map(byte).collect()
+        let mut field_bytes: Vec<u8> = fields.collect();
+        self.draw_outputs(&mut field_bytes, output_percent);
+        field_bytes
+    }
+
+    /// Draws which of these fields are outputs; one of them always is.
+    fn draw_outputs(&mut self, field_bytes: &mut [u8], output_percent: usize) {
+        let sure_output = self.rng.below(field_bytes.len());
+        for (place, byte) in field_bytes.iter_mut().enumerate() {
+            let output = place == sure_output || self.rng.percent(output_percent);
+            *byte = *byte & 63 | (output as u8) << 7;
+        }
     }
 
     fn line(&mut self, frame: &[u8]) {

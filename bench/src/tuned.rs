@@ -32,6 +32,10 @@ impl Solver for Panel {
         Panel::remove(self, id)
     }
 
+    fn change(&mut self, id: u8, level: u8, field_bytes: &[u8]) -> Result<u8, Refusal> {
+        Panel::change(self, id, level, field_bytes)
+    }
+
     fn touch(&mut self, field: u8) -> Result<u8, Refusal> {
         Panel::touch(self, field)
     }

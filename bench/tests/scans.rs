@@ -1,9 +1,10 @@
 //! How many strengths the proved solver works out for each scan for blocked links
 //! and stays. "A test counts n strengths worked out for each scan": n for a panel of
-//! n fields, and a scan for each removal of a link that sets a field, on texts worked
-//! out by hand and on random ones. With `--features standin` the plain solver's record
-//! stands in its place: the tests against that record then say nothing, those on texts
-//! worked out by hand and on replies are of the record itself.
+//! n fields, and a scan for each removal of a link that sets a field, that of a change
+//! included, on texts worked out by hand and on random ones. With `--features standin`
+//! the plain solver's record stands in its place: the tests against that record then
+//! say nothing, those on texts worked out by hand and on replies are of the record
+//! itself.
 
 use harness::generate::{self, MIXES};
 use harness::plain::{self, Item, Run};
@@ -59,7 +60,7 @@ fn output(text: &[u8]) -> Vec<u8> {
 /// anything is looked at. Each case has the reply to its last line.
 #[test]
 fn no_scan() {
-    let cases: [(&[&str], &str); 30] = [
+    let cases: [(&[&str], &str); 41] = [
         // before the opening
         (&[], "EE00000000000000000000"),
         (&["0300"], "FF04"),
@@ -88,6 +89,22 @@ fn no_scan() {
         // a link that waits
         (&["0101", "02000580", "02010580", "0301"], "0000"),
         (&["0101", "02000580", "02010480", "0300"], "0000"),
+        // changes of a link that waits, which waits still, takes the field or is refused
+        (&["0101", "02000580", "02010580", "06010780"], "0000"),
+        (&["0101", "02000580", "02010580", "06010480"], "0001"),
+        (&["0101", "02000080", "02010580", "06010080"], "FF0A"),
+        (
+            &["0102", "0200000081", "02010180", "0202028001", "0602008001"],
+            "FF0B",
+        ),
+        // changes that a check refuses
+        (&["06000080"], "FF04"),
+        (&["0101", "02000080", "06800080"], "FF06"),
+        (&["0101", "02000080", "06001080"], "FF06"),
+        (&["0101", "02000080", "06000081"], "FF07"),
+        (&["0101", "02000080", "06010080"], "FF09"),
+        (&["0101", "02000080", "0600"], "FF02"),
+        (&["0101", "02000080", "060000C0"], "FF02"),
         // BadLink, NoSuchLink
         (&["0101", "02000080", "0380"], "FF06"),
         (&["0101", "02000080", "03FF"], "FF06"),
@@ -133,6 +150,34 @@ fn scan_for_each_removal() {
     let text = b"0103\n02000080\n02010181\n02020281\n0302\n0301\n05\n0301\n02010081\n\
         0400\n0300\n0300\n0301\n";
     assert_eq!(scans(text), [3, 3, 3]);
+}
+
+/// The change of a link that sets a field has the scan of its removal, whatever its
+/// reply is: accepted, a Conflict or Loop of the adding, or the removal's Loop.
+#[test]
+fn scan_for_each_change() {
+    let cases: [(&[u8], &str); 6] = [
+        (b"0102\n02000080\n06000080", "0000"),
+        (b"0102\n02000580\n02010780\n06000980", "0001"),
+        (b"0102\n02000080\n06000081", "0002"),
+        (b"0102\n02000080\n02010081\n06000081", "FF0A"),
+        (b"0102\n0200000081\n02010080\n0601008001", "FF0B"),
+        (b"0102\n02000080\n0201000081\n0202018001\n06000080", "FF0B"),
+    ];
+    for (text, reply) in cases {
+        let shown = String::from_utf8_lossy(text);
+        assert_eq!(scans(text), [2], "{shown:?}");
+        let output = output(text);
+        let replies = plain::lines(&output);
+        // The tally is the last line.
+        let last = replies[replies.len() - 2];
+        assert_eq!(String::from_utf8_lossy(last), reply, "{shown:?}");
+    }
+    for n in 1..=64 {
+        let field = 0x7F + n;
+        let text = format!("01{n:02X}\n027F0F{field:02X}\n067F05{field:02X}\n067F0080\n");
+        assert_eq!(scans(text.as_bytes()), [n, n], "{text:?}");
+    }
 }
 
 /// Links over two to eight fields in a row, all outputs, one from each field on. Each
@@ -274,8 +319,8 @@ fn looped(text: &[u8], output: &[u8]) -> usize {
 }
 
 /// The scans as the replies tell them, whatever the plain solver has on record: a
-/// plan goes before each line, and a removal that passes its checks has a scan where
-/// that plan gives its link as a setter. The plan also tells n.
+/// plan goes before each line, and a removal or a change that passes its checks has a
+/// scan where that plan gives its link as a setter. The plan also tells n.
 fn scans_of_replies(text: &[u8]) -> Scans {
     let lines = plain::lines(text);
     let planned = lines.iter().flat_map(|line| [b"05\n", *line, b"\n"]);
@@ -285,8 +330,9 @@ fn scans_of_replies(text: &[u8]) -> Scans {
     let replies = plain::lines(&output);
     let mut counts = Vec::new();
     for (line, replies) in lines.iter().zip(replies.chunks(2)) {
-        let passes = replies[1].starts_with(b"00") || replies[1] == b"FF0B";
-        if line.starts_with(b"03") && passes {
+        let by_links = [b"FF0A", b"FF0B"].iter().any(|reply| replies[1] == *reply);
+        let passes = replies[1].starts_with(b"00") || by_links;
+        if (line.starts_with(b"03") || line.starts_with(b"06")) && passes {
             let plan = plain::read_hex(replies[0]).expect("digits");
             let mut setters = plan[2..].chunks(3).map(|entry| entry[1]);
             let id = plain::read_hex(line).expect("digits")[1];
@@ -348,6 +394,7 @@ fn worked_texts() {
         worked::offsets::all(),
         worked::panels::all(),
         worked::values::all(),
+        worked::changes::all(),
     ]
     .into_iter()
     .flatten()
@@ -356,7 +403,7 @@ fn worked_texts() {
     for text in texts {
         met.check(&text.text, plain_scans);
     }
-    met.must_have(300, 1_200, 8, 4);
+    met.must_have(700, 1_600, 10, 4);
 }
 
 /// Neighbouring seeds take different mixes.
@@ -366,7 +413,7 @@ fn random_texts() {
     for seed in 0..1_500 {
         met.check(&generate::text(seed), plain_scans);
     }
-    met.must_have(1_500, 12_000, 60, 1_500);
+    met.must_have(1_500, 19_000, 60, 1_300);
 }
 
 /// Texts up to the limit, four of each mix.
@@ -378,7 +425,7 @@ fn long_random_texts() {
             met.check(&generate::long_text(seed, mix), plain_scans);
         }
     }
-    met.must_have(60, 17_000, 15, 4_000);
+    met.must_have(60, 27_000, 15, 3_800);
 }
 
 /// Texts that leave room for a plan before each line.
@@ -391,5 +438,5 @@ fn scans_seen_from_the_replies() {
             met.check(&text, scans_of_replies);
         }
     }
-    met.must_have(1_400, 12_000, 60, 1_500);
+    met.must_have(1_400, 19_000, 60, 1_300);
 }

@@ -143,6 +143,24 @@ fn values_and_formulas() {
     }
 }
 
+/// Changes of links, by the outputs worked out by hand.
+#[test]
+fn changes_of_links() {
+    let mut runner = Runner::new();
+    for text in worked::changes::all() {
+        assert!(runner.output(&text.text) == text.output, "{}", text.name);
+    }
+}
+
+/// Full panels, by the outputs worked out by hand.
+#[test]
+fn full_panels() {
+    let mut runner = Runner::new();
+    for text in worked::panels::all() {
+        assert!(runner.output(&text.text) == text.output, "{}", text.name);
+    }
+}
+
 /// A wrong character at each place of lines of every length up to 40, and of some
 /// longer ones, behind another line, with LF and without.
 #[test]

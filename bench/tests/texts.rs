@@ -1,8 +1,10 @@
 //! What the texts of the benchmark are promised to be.
 
+use harness::plain::read_hex;
 use panel_bench::sides::side_tuned;
 use panel_bench::text::{LONGEST_OUTPUT, TEXT_LIMIT};
 use panel_bench::texts::{self, GROWTH_COMMANDS, MIXES, MIX_COMMANDS};
+use std::collections::{BTreeMap, BTreeSet};
 
 /// The commands of a text and their replies.
 fn replies(text: &[u8]) -> Vec<(String, String)> {
@@ -15,10 +17,10 @@ fn replies(text: &[u8]) -> Vec<(String, String)> {
     lines(text).into_iter().zip(lines(&out[..len])).collect()
 }
 
-/// The links in use after each command. A remove must name one in use, and an
-/// add one not in use.
+/// The links in use after each command. A remove and a change must name one in use,
+/// and an add one not in use.
 fn links_in_use(text: &[u8]) -> Vec<usize> {
-    let mut used = std::collections::BTreeSet::new();
+    let mut used = BTreeSet::new();
     let mut counts = Vec::new();
     for (command, reply) in replies(text) {
         let accepted = !reply.starts_with("FF");
@@ -36,6 +38,7 @@ fn links_in_use(text: &[u8]) -> Vec<usize> {
                     used.remove(&id);
                 }
             }
+            "06" => assert!(used.contains(&id), "{command}"),
             _ => {}
         }
         counts.push(used.len());
@@ -86,6 +89,7 @@ fn shares_are_near_those_drawn() {
             (kinds.plan, drawn.plan),
             (kinds.formula, drawn.formula),
             (kinds.value, drawn.value),
+            (kinds.change, drawn.change),
         ];
         for (count, percent) in pairs {
             let found = 100.0 * count as f64 / kinds.all() as f64;
@@ -119,6 +123,41 @@ fn mixes_meet_all_cases() {
     }
 }
 
+/// In the mix with changes they meet each refusal by the links and each moved count
+/// up to three, and seven of ten leave the fields that the link covers.
+#[test]
+fn changes_meet_all_cases() {
+    let (mut changes, mut same_fields) = (Vec::new(), 0);
+    for text in texts::of_mix(6) {
+        let mut covered = BTreeMap::new();
+        for (command, reply) in replies(&text) {
+            if !command.starts_with("02") && !command.starts_with("06") {
+                continue;
+            }
+            let (id, fields) = (command[2..4].to_string(), fields(&command));
+            if command.starts_with("06") {
+                same_fields += (covered[&id] == fields) as usize;
+                changes.push(reply.clone());
+            }
+            if reply.starts_with("00") {
+                covered.insert(id, fields);
+            }
+        }
+    }
+    for reply in ["0000", "0001", "0002", "0003", "FF0A", "FF0B"] {
+        let count = changes.iter().filter(|&other| other == reply).count();
+        assert!(count > 100, "{reply}: {count}");
+    }
+    let percent = 100 * same_fields / changes.len();
+    assert!((65..75).contains(&percent), "{percent}");
+}
+
+/// The fields that an add or a change covers.
+fn fields(command: &str) -> Vec<u8> {
+    let field_bytes = read_hex(&command.as_bytes()[6..]).expect("digits");
+    field_bytes.iter().map(|byte| byte & 63).collect()
+}
+
 /// In the mix with formulas and values every link that can have a formula gets
 /// one behind the opening part, all formulas are accepted, and so are nine values
 /// of ten; the others meet each refusal of a value.
@@ -148,7 +187,7 @@ fn values_are_mostly_accepted_over_formulas() {
     assert_eq!(count("FF0B") + count("FF0D") + count("FF0E"), refused);
 }
 
-/// The texts without formulas are those that the first figures in docs/ are of.
+/// The texts without changes are those that the first figures in docs/ are of.
 #[test]
 fn first_mixes_are_unchanged() {
     // FNV-1a of all texts of a mix in a row.
@@ -159,13 +198,14 @@ fn first_mixes_are_unchanged() {
             .into_iter()
             .fold(0xCBF2_9CE4_8422_2325, mix_in)
     };
-    let digests = [0, 1, 2, 3, 4].map(|mix| digest(texts::of_mix(mix)));
+    let digests = [0, 1, 2, 3, 4, 5].map(|mix| digest(texts::of_mix(mix)));
     let first = [
         0x75EC_C01E_EDAF_B423,
         0x86A4_93D0_CB7D_1702,
         0x596E_A6E9_B5C2_4EC3,
         0x9726_D4AC_BC04_697B,
         0xEC07_799F_DCE2_86FD,
+        0xBA23_D249_68F7_3838,
     ];
     assert_eq!(digests, first);
 }

@@ -46,10 +46,11 @@ fn check(text: &[u8]) {
 
 #[test]
 fn worked_out_by_hand() {
-    let texts = worked::values::valued();
-    assert!(!texts.is_empty());
-    for (text, of_fields) in texts.iter().flat_map(Valued::texts) {
-        assert_eq!(values(&text.text), expected(&of_fields), "{}", text.name);
+    for texts in [worked::values::valued(), worked::changes::valued()] {
+        assert!(!texts.is_empty());
+        for (text, of_fields) in texts.iter().flat_map(Valued::texts) {
+            assert_eq!(values(&text.text), expected(&of_fields), "{}", text.name);
+        }
     }
 }
 
@@ -123,6 +124,7 @@ fn worked_texts() {
         worked::offsets::all(),
         worked::panels::all(),
         worked::values::all(),
+        worked::changes::all(),
     ]
     .into_iter()
     .flatten()
@@ -150,7 +152,7 @@ fn long_random_texts() {
             ids: [4, 16, 40][seed % 3],
             covered: (2, 4),
             output_percent: 50,
-            weights: [14, 9, 3, 2, 50, 22],
+            weights: [14, 9, 3, 2, 50, 22, 10],
             damaged_percent: 4,
             ..MIXES[0]
         };

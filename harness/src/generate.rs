@@ -1,5 +1,6 @@
 //! Random texts and headers, the same ones for the same seed.
 
+mod changes;
 mod damage;
 mod frames;
 mod headers;

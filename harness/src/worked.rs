@@ -4,6 +4,7 @@
 
 use crate::plain::hex;
 
+pub mod changes;
 pub mod edges;
 pub mod headers;
 pub mod items;
@@ -23,8 +24,8 @@ pub struct Worked {
 
 impl Worked {
     /// Lines with their replies, and the tally that belongs to them.
-    pub fn of_lines(name: &str, lines: &[(String, String)]) -> Worked {
-        let replies: Vec<&str> = lines.iter().map(|(_, reply)| reply.as_str()).collect();
+    pub fn of_lines<S: AsRef<str>>(name: &str, lines: &[(S, S)]) -> Worked {
+        let replies: Vec<&str> = lines.iter().map(|(_, reply)| reply.as_ref()).collect();
         Worked::new(name, lines, &tally_line(&replies))
     }
 
@@ -52,6 +53,11 @@ fn add(id: u8, level: u8, field_bytes: impl IntoIterator<Item = u8>) -> String {
     let mut frame = vec![2, id, level];
     frame.extend(field_bytes);
     hex(&frame)
+}
+
+/// The line of a change, "with the body of" the line of an add.
+fn change(id: u8, level: u8, field_bytes: impl IntoIterator<Item = u8>) -> String {
+    "06".to_string() + &add(id, level, field_bytes)[2..]
 }
 
 /// Lines that own their characters.

@@ -5,7 +5,7 @@
 mod support;
 
 use harness::generate::{self, Mix, Rng, MIXES};
-use harness::plain::{Formula, Run, Standing, Tally};
+use harness::plain::{hex, Formula, Run, Standing, Tally};
 use support::book::{link, Book, Member, Name};
 use support::choices::{all_can_hold, best_counts, best_counts_by_paths, counts, end_of_levels};
 use support::held::{bytes, closed_walk, held, of_field, reads, waiting, Held};
@@ -48,7 +48,18 @@ impl Step {
 
     /// The link of an add that passes checks 1 to 9.
     fn sound_add(&self) -> Option<Member> {
-        if !holds_a_command(&self.reply) || self.line[..2] != *b"02" {
+        self.sound_link(b"02", false)
+    }
+
+    /// The same of a change.
+    fn sound_change(&self) -> Option<Member> {
+        self.sound_link(b"06", true)
+    }
+
+    /// The link of a line of this kind that passes checks 1 to 9, its number in use
+    /// or not.
+    fn sound_link(&self, kind: &[u8], in_use: bool) -> Option<Member> {
+        if !holds_a_command(&self.reply) || !self.line.starts_with(kind) {
             return None;
         }
         let link = link(&frame(&self.line));
@@ -58,7 +69,7 @@ impl Step {
         let numbers = id <= 127 && link.level <= 15 && !link.outputs.is_empty();
         let rising = link.covered.windows(2).all(|pair| pair[0] < pair[1]);
         let there = link.covered.iter().all(|&f| f < self.book_before.fields());
-        let sound = numbers && rising && there && !self.book_before.has_link(id);
+        let sound = numbers && rising && there && self.book_before.has_link(id) == in_use;
         sound.then_some(link)
     }
 }
@@ -105,7 +116,7 @@ const SMALL_MIXES: [Mix; 5] = [
     Mix {
         fields: (1, 3),
         levels: &[0, 0, 3, 3],
-        weights: [50, 40, 5, 5, 10, 5],
+        weights: [50, 40, 5, 5, 10, 5, 25],
         ..SMALL
     },
     Mix {
@@ -113,7 +124,7 @@ const SMALL_MIXES: [Mix; 5] = [
         levels: &[0, 2],
         covered: (2, 4),
         output_percent: 80,
-        weights: [30, 25, 40, 5, 20, 10],
+        weights: [30, 25, 40, 5, 20, 10, 20],
         ..SMALL
     },
     Mix {
@@ -121,7 +132,7 @@ const SMALL_MIXES: [Mix; 5] = [
         ids: 3,
         levels: &[0, 2],
         covered: (2, 3),
-        weights: [12, 8, 3, 2, 50, 25],
+        weights: [12, 8, 3, 2, 50, 25, 12],
         ..SMALL
     },
 ];
@@ -235,33 +246,51 @@ fn panel_agrees_with_the_book() {
 
 /// "Conflict is given exactly when no choice, loops tolerated, can hold all
 /// required links in force together with the new one, no field set twice; a
-/// weaker new link never meets it."
+/// weaker new link never meets it." Of a change the same without the link as it
+/// was, where the removal has no Loop.
 #[test]
 fn conflict_exactly_when_no_choice_holds_the_required() {
-    let (mut conflicts, mut held) = (0, 0);
+    let (mut conflicts, mut held) = ([0; 2], [0; 2]);
     for_each_small_line(|step| {
-        let required_add = step.sound_add().filter(|link| link.level == 0);
-        let Some(link) = required_add else {
+        let change = step.sound_change();
+        let is_change = change.is_some() as usize;
+        let required_link = step.sound_add().or(change).filter(|link| link.level == 0);
+        let Some(link) = required_link.filter(|link| !removal_loops(step, link)) else {
             assert_ne!(step.reply, "FF0A");
             return;
         };
-        let required = [vec![link], step.book_before.required()].concat();
+        let mut required = step.book_before.required();
+        required.retain(|other| other.name != link.name);
+        required.push(link);
         let can_hold = all_can_hold(&required, &mut vec![]);
         assert_eq!(step.reply == "FF0A", !can_hold, "{required:?}");
-        *(if can_hold { &mut held } else { &mut conflicts }) += 1;
+        let met = if can_hold { &mut held } else { &mut conflicts };
+        met[is_change] += 1;
     });
-    assert!(conflicts > 400 && held > 3_000, "{conflicts} {held}");
+    assert!(
+        conflicts[0] > 400 && held[0] > 3_000,
+        "{conflicts:?} {held:?}"
+    );
+    assert!(conflicts[1] > 60 && held[1] > 800, "{conflicts:?} {held:?}");
 }
 
-/// A sound add is accepted or refused with Conflict or Loop, no other add is
-/// accepted.
+/// Whether the removal of a link of this number is refused with Loop.
+fn removal_loops(step: &Step, link: &Member) -> bool {
+    let Name::Link(id) = link.name else {
+        unreachable!()
+    };
+    step.before.clone().line(hex(&[3, id]).as_bytes()) == "FF0B"
+}
+
+/// A sound add or change is accepted or refused with Conflict or Loop, no other one
+/// is accepted.
 #[test]
-fn sound_adds_meet_no_check() {
+fn sound_links_meet_no_check() {
     for_each_small_line(|step| {
         let links_only = ["FF0A", "FF0B"].contains(&step.reply.as_str());
-        if step.sound_add().is_some() {
+        if step.sound_add().or(step.sound_change()).is_some() {
             assert!(!step.refused() || links_only, "{}", step.reply);
-        } else if step.line.starts_with(b"02") {
+        } else if step.line.starts_with(b"02") || step.line.starts_with(b"06") {
             assert!(step.refused() && !links_only, "{}", step.reply);
         }
     });
@@ -326,7 +355,8 @@ fn plan_lists_the_lowest_field_that_can_come() {
 }
 
 /// "The reply to Add, Remove and Touch counts the fields whose setter after the
-/// command is not the one before." "Opening replies 0."
+/// command is not the one before." "Opening replies 0." A change "compares the state
+/// before with the state after both, a link of the same number being the same setter".
 #[test]
 fn moved_counts_changed_setters() {
     for_each_small_line(|step| {
@@ -518,9 +548,11 @@ fn check_lists(run: &Run, book: &Book, length: u8) -> usize {
     let mut frames = adds_on_two_fields(length);
     frames.extend((1..=4).map(|id| vec![3, id]));
     frames.extend([vec![4, 0], vec![4, 1]]);
+    frames.extend((1..=4).map(|id| vec![6, id, 5, 0x80, 0x81]));
+    frames.extend((1..=4).map(|id| vec![6, id, 0, 0, 0x81]));
     let mut lists = 0;
     for frame in frames {
-        let line = harness::plain::hex(&frame).into_bytes();
+        let line = hex(&frame).into_bytes();
         let step = Step::new(&line, run, book);
         assert_eq!(held_counts(&step), best_counts(&step.book.members()));
         lists += check_lists(&step.after, &step.book, length - 1);
@@ -532,17 +564,20 @@ fn check_lists(run: &Run, book: &Book, length: u8) -> usize {
 fn every_short_list_on_two_fields() {
     let opening = Step::new(b"0102", &Run::default(), &Book::default());
     let lists = check_lists(&opening.after, &opening.book, 4);
-    assert_eq!(lists, 16_usize.pow(4));
+    assert_eq!(lists, 24_usize.pow(4));
 }
 
-/// Commands on link 1 over two fields: it comes in each direction or in both and
-/// goes, gets a ratio or a sum, and the fields get values.
-const WITH_VALUES: [&str; 10] = [
+/// Commands on link 1 over two fields: it comes in each direction or in both, is
+/// changed to both or to one field, and goes, gets a ratio or a sum, and the fields get
+/// values.
+const WITH_VALUES: [&str; 12] = [
     "0201008081",
     "0201000081",
     "0201008001",
     "0301",
     "0401",
+    "0601058081",
+    "06010081",
     "08010100020003",
     "08010200",
     "070000000005",

@@ -101,7 +101,11 @@ fn bit_6_counts_in_field_bytes_only() {
         (&["0140", "02000040"], "FF02"),
         (&["0140", "020000C0"], "FF02"),
         (&["0140", "0200008041"], "FF02"),
+        (&["0140", "02000080", "060000C0"], "FF02"),
+        (&["0140", "02000080", "0600008041"], "FF02"),
+        (&["0140", "02400080", "06400080"], "0000"),
         (&["020000C0"], "FF02"),
+        (&["060000C0"], "FF02"),
     ]);
 }
 
@@ -168,7 +172,7 @@ fn lower_numbers_come_first() {
 // The reading "later kinds".
 #[test]
 fn other_kinds_are_bad_frames() {
-    for kind in (0..=255).filter(|kind| ![1, 2, 3, 4, 5, 7, 8].contains(kind)) {
+    for kind in (0..=255).filter(|kind| ![1, 2, 3, 4, 5, 6, 7, 8].contains(kind)) {
         for rest in [&[][..], &[0], &[0, 0], &[0, 0, 0x80], &[0; 5], &[0; 6]] {
             let line = hex(&[&[kind], rest].concat());
             assert_eq!(last_reply(&[&line]), "FF02", "{line}");
@@ -180,12 +184,13 @@ fn other_kinds_are_bad_frames() {
 #[test]
 fn lengths_of_frames() {
     // Kind 08 has a length for each formula kind, see `worked::values`.
-    let right: [(u8, &[usize]); 6] = [
+    let right: [(u8, &[usize]); 7] = [
         (1, &[2]),
         (2, &[4, 5, 6, 7, 8, 9, 10, 11]),
         (3, &[2]),
         (4, &[2]),
         (5, &[1]),
+        (6, &[4, 5, 6, 7, 8, 9, 10, 11]),
         (7, &[6]),
     ];
     for (kind, right) in right {
@@ -328,6 +333,12 @@ fn ends_of_lines_and_limit() {
 #[test]
 fn offsets_of_bad_lines() {
     check_worked(worked::offsets::all());
+}
+
+// Document 02, request 5.
+#[test]
+fn changes_of_links() {
+    check_worked(worked::changes::all());
 }
 
 #[test]

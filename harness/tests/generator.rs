@@ -39,6 +39,7 @@ fn note_text(cases: &mut Cases, text: &[u8]) {
         let command = read_hex(line).and_then(|frame| read_frame(&frame));
         if let Ok(command) = command {
             note_command(cases, &before.panel, &command, &run.panel, &reply);
+            note_change(cases, &before, &command, &run.panel, &reply);
             note_values(cases, &before, &command, &run, &reply);
         }
     }
@@ -145,7 +146,7 @@ fn note_command(cases: &mut Cases, before: &Panel, command: &Command, after: &Pa
             };
             (kind, middle, blocked.then_some(Item::Stay(field)))
         }
-        Command::Open(_) | Command::Plan | Command::Formula(..) => return,
+        Command::Open(_) | Command::Plan | Command::Change(..) | Command::Formula(..) => return,
     };
     match item {
         _ if reply == "FF0B" => note(cases, format!("{kind}: loop")),
@@ -209,6 +210,60 @@ fn note_turned(cases: &mut Cases, kind: &str, middle: &Panel, item: Item, after:
     let turned = &walk[..walk.len() - 1];
     if turned.iter().any(|&f| equals(middle.setter(f), f) > 1) {
         note(cases, format!("{kind}: tie in the walk"));
+    }
+}
+
+/// The cases of a change: the check that refuses it, or how its link and its
+/// formula come through the removal and the adding.
+fn note_change(cases: &mut Cases, before: &Run, command: &Command, after: &Panel, reply: &str) {
+    let Command::Change(id, level, ref field_bytes) = *command else {
+        return;
+    };
+    if ["FF04", "FF06", "FF07", "FF09"].contains(&reply) {
+        return note(cases, format!("change: {reply}"));
+    }
+    let link = new_link(id, level, field_bytes).expect("a sound link");
+    let old = &before.panel.links()[&id];
+    if before.formulas.contains_key(&id) {
+        let fields = match old.covered == link.covered {
+            true => "same fields",
+            false => "other fields",
+        };
+        note(cases, format!("change: formula, {fields}, {}", &reply[..2]));
+    }
+    let mut removed = before.panel.clone();
+    let Ok(moved) = removed.remove(id) else {
+        return note(cases, "change: loop of the removal");
+    };
+    let middle = removed.with_waiting(id, link);
+    let blocked = middle.is_blocked(Item::Link(id));
+    match reply {
+        "FF0A" => note(cases, "change: conflict"),
+        "FF0B" => note(cases, "change: loop of the adding"),
+        _ => {
+            let standings = (old.standing, after.standing(Item::Link(id)));
+            note(cases, format!("change: {}", change_of_standing(standings)));
+            if moved > 0 && reply == "0000" {
+                note(cases, "change: moved 0, the removal more");
+            }
+            if moved > 1 {
+                note(cases, "change: removal turned");
+            }
+            if blocked {
+                note_turned(cases, "change", &middle, Item::Link(id), after);
+            }
+        }
+    }
+}
+
+/// A link's standing before and after a change.
+fn change_of_standing(standings: (Standing, Standing)) -> &'static str {
+    match standings {
+        (Standing::Waiting, Standing::Waiting) => "waits still",
+        (Standing::Waiting, Standing::Holding(_)) => "waits no more",
+        (Standing::Holding(_), Standing::Waiting) => "waits now",
+        (Standing::Holding(old), Standing::Holding(new)) if old == new => "holds the same field",
+        (Standing::Holding(_), Standing::Holding(_)) => "holds another field",
     }
 }
 
@@ -400,6 +455,31 @@ const CASES: &[&str] = &[
     "touch: walk of 2",
     "touch: walk of 3",
     "touch: walk of 4",
+    "change: FF04",
+    "change: FF06",
+    "change: FF07",
+    "change: FF09",
+    "change: loop of the removal",
+    "change: conflict",
+    "change: loop of the adding",
+    "change: waits still",
+    "change: waits no more",
+    "change: waits now",
+    "change: holds the same field",
+    "change: holds another field",
+    "change: moved 0, the removal more",
+    "change: removal turned",
+    "change: turned for a link",
+    "change: tie of outputs",
+    "change: walk ends at a link",
+    "change: walk of 1",
+    "change: walk of 2",
+    "change: walk of 3",
+    "change: walk of 4",
+    "change: formula, same fields, 00",
+    "change: formula, same fields, FF",
+    "change: formula, other fields, 00",
+    "change: formula, other fields, FF",
     "value: not turned, holding",
     "value: turned for a stay",
     "value: loop",

@@ -73,6 +73,12 @@ fn values_and_formulas() {
     check(&worked::values::all());
 }
 
+/// Document 02, request 5.
+#[test]
+fn changes_of_links() {
+    check(&worked::changes::all());
+}
+
 #[test]
 fn full_panels() {
     check(&worked::panels::all());

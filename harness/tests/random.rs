@@ -1,5 +1,5 @@
 //! The run program and the plain solver on random and damaged texts: the same
-//! output for every one of more than 1,600,000 lines.
+//! output for every one of more than 1,700,000 lines.
 //!
 //! The texts go up to the limit, since each costs the start of a process. About
 //! half of them are damaged.
@@ -13,19 +13,19 @@ use harness::worked::Lines;
 use std::collections::BTreeMap;
 
 /// Number of fields and number of links; a third of the texts for each. That
-/// makes about 556,000 lines in texts for 1 to 8 fields, 550,000 for 9 to 31, and
-/// 536,000 for 32 to 64.
+/// makes about 595,000 lines in texts for 1 to 8 fields, as many for 9 to 31, and
+/// 556,000 for 32 to 64.
 const SIZES: [((usize, usize), usize); 3] = [((1, 8), 16), ((9, 31), 60), ((32, 64), 128)];
 
 /// As many adds as removes, so that the number of links keeps changing.
 const EVEN: Mix = Mix {
-    weights: [40, 40, 16, 4, 6, 4],
+    weights: [40, 40, 16, 4, 6, 4, 8],
     damaged_percent: 4,
     ..MIXES[0]
 };
 
 /// What the texts are drawn from, each in every size.
-const SHAPES: [Mix; 8] = [
+const SHAPES: [Mix; 9] = [
     EVEN,
     // Many required links: conflicts.
     Mix {
@@ -50,7 +50,7 @@ const SHAPES: [Mix; 8] = [
         levels: &[0, 0, 2, 7],
         covered: (2, 3),
         output_percent: 90,
-        weights: [30, 30, 38, 2, 6, 4],
+        weights: [30, 30, 38, 2, 6, 4, 8],
         ..EVEN
     },
     // All levels, up to eight fields a link.
@@ -64,7 +64,13 @@ const SHAPES: [Mix; 8] = [
         levels: &[0, 1, 4, 4, 9, 15],
         covered: (1, 3),
         output_percent: 80,
-        weights: [60, 24, 12, 4, 6, 4],
+        weights: [60, 24, 12, 4, 6, 4, 8],
+        ..EVEN
+    },
+    // Links that stay and are changed again and again.
+    Mix {
+        levels: &[0, 0, 1, 4, 4, 9],
+        weights: [24, 6, 14, 4, 6, 6, 60],
         ..EVEN
     },
     // Mostly damaged lines.
@@ -82,14 +88,14 @@ const VALUE_SHAPES: [Mix; 3] = [
         levels: &[0, 0, 2, 7],
         covered: (2, 2),
         output_percent: 85,
-        weights: [14, 9, 3, 2, 50, 22],
+        weights: [14, 9, 3, 2, 50, 22, 10],
         ..EVEN
     },
     // Sums and ratios, many of them in one direction.
     Mix {
         covered: (2, 4),
         output_percent: 35,
-        weights: [14, 9, 3, 2, 50, 22],
+        weights: [14, 9, 3, 2, 50, 22, 10],
         ..EVEN
     },
     // Formulas over up to eight fields, links that come and go.
@@ -97,7 +103,7 @@ const VALUE_SHAPES: [Mix; 3] = [
         levels: &[0, 1, 4, 9],
         covered: (1, 8),
         output_percent: 70,
-        weights: [22, 20, 4, 2, 32, 20],
+        weights: [22, 20, 4, 2, 32, 20, 16],
         ..EVEN
     },
 ];
@@ -143,7 +149,8 @@ impl Counts {
 }
 
 /// The kind of a reply: the refusal, or the command with its moved count. BadHex
-/// is told apart by its offset, Loop and BadFormula by the command.
+/// is told apart by its offset, NoSuchLink, Conflict, Loop and BadFormula by the
+/// command.
 fn kind(line: &[u8], reply: &[u8]) -> String {
     let command = match &line.get(..2) {
         Some(b"01") => "open",
@@ -151,6 +158,7 @@ fn kind(line: &[u8], reply: &[u8]) -> String {
         Some(b"03") => "remove",
         Some(b"04") => "touch",
         Some(b"05") => "plan",
+        Some(b"06") => "change",
         Some(b"07") => "value",
         Some(b"08") if line.get(4..6) == Some(b"01") => "ratio",
         Some(b"08") => "sum",
@@ -159,7 +167,7 @@ fn kind(line: &[u8], reply: &[u8]) -> String {
     let reply = String::from_utf8_lossy(reply);
     match &*reply {
         bad_hex if bad_hex.starts_with("FF01") => bad_hex_kind(line, &bad_hex[4..]),
-        "FF0B" | "FF0F" => format!("{reply} {command}"),
+        "FF09" | "FF0A" | "FF0B" | "FF0F" => format!("{reply} {command}"),
         refusal if refusal.starts_with("FF") => refusal.to_string(),
         "0000" => format!("{command}, moved 0"),
         "0001" => format!("{command}, moved 1"),
@@ -183,7 +191,7 @@ fn bad_hex_kind(line: &[u8], offset: &str) -> String {
 
 /// How often each kind of reply is met at least, in each half. A touch that
 /// turns a walk moves two fields or more, as a value's does.
-const LEAST: [(&str, usize); 36] = [
+const LEAST: [(&str, usize); 44] = [
     ("FF01 empty line", 600),
     ("FF01 character up to 255", 5_000),
     ("FF01 character over 255", 250),
@@ -196,10 +204,15 @@ const LEAST: [(&str, usize); 36] = [
     ("FF06", 1_200),
     ("FF07", 5_000),
     ("FF08", 20_000),
-    ("FF09", 40_000),
-    ("FF0A", 6_000),
+    ("FF09 remove", 40_000),
+    ("FF09 change", 14_000),
+    ("FF09 ratio", 2_000),
+    ("FF09 sum", 7_000),
+    ("FF0A add", 7_000),
+    ("FF0A change", 2_800),
     ("FF0B add", 25_000),
     ("FF0B remove", 7_500),
+    ("FF0B change", 9_000),
     ("FF0B touch", 2_500),
     ("FF0B value", 1_800),
     ("FF0D", 12_000),
@@ -216,6 +229,9 @@ const LEAST: [(&str, usize); 36] = [
     ("touch, moved 0", 70_000),
     ("touch, moved more", 9_000),
     ("plan", 16_000),
+    ("change, moved 0", 32_000),
+    ("change, moved 1", 6_000),
+    ("change, moved more", 8_000),
     ("value, moved 0", 25_000),
     ("value, moved more", 8_000),
     ("ratio, moved 0", 8_000),
@@ -238,8 +254,8 @@ fn compare_texts(seeds: std::ops::Range<u64>) {
     }
     // Shown with `cargo test -- --nocapture`.
     println!("{counts:#?}");
-    assert!(counts.by_size.iter().sum::<usize>() >= 800_000);
-    assert!(counts.by_size.iter().all(|&lines| lines >= 260_000));
+    assert!(counts.by_size.iter().sum::<usize>() >= 850_000);
+    assert!(counts.by_size.iter().all(|&lines| lines >= 270_000));
     check_met(&counts.by_reply, &LEAST);
 }
 

@@ -3,6 +3,7 @@
 
 use harness::generate::Rng;
 use harness::plain::{lines, run_text, values_after, Formula, Run};
+use harness::worked::changes;
 use harness::worked::values::{self, frames, ratios, refusals, steps, sums, Valued};
 
 /// The replies to the text up to each part, and the values after it.
@@ -48,6 +49,12 @@ fn worked_steps() {
 #[test]
 fn worked_refusals() {
     check(refusals::all());
+}
+
+/// Request 5: what a change leaves of them.
+#[test]
+fn worked_changes() {
+    check(changes::valued());
 }
 
 #[test]

@@ -24,7 +24,7 @@ use Rattle.panel.specs.Answers.{Answer, refusalBytes}
 use Rattle.panel.specs.Panels.{opened, moved}
 use Rattle.panel.specs.Solution.{level, strengthOf, planOf, rowsOf}
 use Rattle.panel.specs.Commands as panel
-use Rattle.panel.specs.Commands.{opening, adding, removing, touching, planning, checkReply}
+use Rattle.panel.specs.Commands.{opening, adding, removing, touching, planning, changing, checkReply}
 use Rattle.panel.specs.Legal.{Legal}
 use Rattle.panel.proofs.Legal.{force-formed}
 use Rattle.panel.proofs.Setters.{whole, setter-force}
@@ -32,7 +32,7 @@ use Rattle.panel.proofs.Changes.{legal-opened}
 use Rattle.panel.proofs.Performed.{legal-performed}
 use Rattle.optimality.proofs.Graphs.{settersOf, legal-whole, strength-least}
 use Rattle.optimality.proofs.Held.{plan-whole}
-use Rattle.optimality.proofs.Answers.{Outcome, OfChecks, opening-outcome, adding-outcome, removing-outcome, touching-outcome, planning-outcome}
+use Rattle.optimality.proofs.Answers.{Outcome, OfChecks, opening-outcome, adding-outcome, changing-outcome, removing-outcome, touching-outcome, planning-outcome}
 use Rattle.values.specs.Words.{valueOf}
 use Rattle.formulas.specs.declared.Formula.{Formula}
 use Rattle.sheet.specs.declared.Sheet.{Sheet}
@@ -122,33 +122,37 @@ module _ (p : Panel) (h : Legal p) where
 
 -- ---- kinds
 
--- the kind of a frame of document 01's commands
+-- the kind of a frame of the panel's commands
 abbrev kindFor : panel.Command → ℕ
 kindFor (opening n) = 0x01
 kindFor (adding id level bytes) = 0x02
 kindFor (removing id) = 0x03
 kindFor (touching f) = 0x04
 kindFor planning = 0x05
+kindFor (changing id level bytes) = 0x06
 
 abbrev Known : ℕ → Type 0
-Known kind = In kind (0x01 ∷ 0x02 ∷ 0x03 ∷ 0x04 ∷ 0x05 ∷ 0x07 ∷ 0x08 ∷ [])
+Known kind = In kind (0x01 ∷ 0x02 ∷ 0x03 ∷ 0x04 ∷ 0x05 ∷ 0x06 ∷ 0x07 ∷ 0x08 ∷ [])
 
 fits-kind : (kind form n : ℕ) → fitsKind kind form n ≡ true → Known kind
 unfolding fitsKind
 fits-kind k form n e =
-    go (ℕ-discrete k 0x01) (ℕ-discrete k 0x02) (ℕ-discrete k 0x03) (ℕ-discrete k 0x04) (ℕ-discrete k 0x05) (ℕ-discrete k 0x07) (ℕ-discrete k 0x08)
+    go (ℕ-discrete k 0x01) (ℕ-discrete k 0x02) (ℕ-discrete k 0x03) (ℕ-discrete k 0x04) (ℕ-discrete k 0x05) (ℕ-discrete k 0x06) (ℕ-discrete k 0x07)
+    (ℕ-discrete k 0x08)
   where
-    go : Dec (k ≡ 0x01) → Dec (k ≡ 0x02) → Dec (k ≡ 0x03) → Dec (k ≡ 0x04) → Dec (k ≡ 0x05) → Dec (k ≡ 0x07) → Dec (k ≡ 0x08) → Known k
-    go (yes a) b c d f g h = inl a
-    go (no a) (yes b) c d f g h = inr (inl b)
-    go (no a) (no b) (yes c) d f g h = inr (inr (inl c))
-    go (no a) (no b) (no c) (yes d) f g h = inr (inr (inr (inl d)))
-    go (no a) (no b) (no c) (no d) (yes f) g h = inr (inr (inr (inr (inl f))))
-    go (no a) (no b) (no c) (no d) (no f) (yes g) h = inr (inr (inr (inr (inr (inl g)))))
-    go (no a) (no b) (no c) (no d) (no f) (no g) (yes h) = inr (inr (inr (inr (inr (inr (inl h))))))
-    go (no a) (no b) (no c) (no d) (no f) (no g) (no h) =
+    go : Dec (k ≡ 0x01) → Dec (k ≡ 0x02) → Dec (k ≡ 0x03) → Dec (k ≡ 0x04) → Dec (k ≡ 0x05) → Dec (k ≡ 0x06) → Dec (k ≡ 0x07) → Dec (k ≡ 0x08) → Known k
+    go (yes a) b c d f g h i = inl a
+    go (no a) (yes b) c d f g h i = inr (inl b)
+    go (no a) (no b) (yes c) d f g h i = inr (inr (inl c))
+    go (no a) (no b) (no c) (yes d) f g h i = inr (inr (inr (inl d)))
+    go (no a) (no b) (no c) (no d) (yes f) g h i = inr (inr (inr (inr (inl f))))
+    go (no a) (no b) (no c) (no d) (no f) (yes g) h i = inr (inr (inr (inr (inr (inl g)))))
+    go (no a) (no b) (no c) (no d) (no f) (no g) (yes h) i = inr (inr (inr (inr (inr (inr (inl h))))))
+    go (no a) (no b) (no c) (no d) (no f) (no g) (no h) (yes i) = inr (inr (inr (inr (inr (inr (inr (inl i)))))))
+    go (no a) (no b) (no c) (no d) (no f) (no g) (no h) (no i) =
         absurd
-        (clash (rw (ne-eqb k 0x01 a, ne-eqb k 0x02 b, ne-eqb k 0x03 c, ne-eqb k 0x04 d, ne-eqb k 0x05 f, ne-eqb k 0x07 g, ne-eqb k 0x08 h) at e) refl)
+        (clash
+        (rw (ne-eqb k 0x01 a, ne-eqb k 0x02 b, ne-eqb k 0x03 c, ne-eqb k 0x04 d, ne-eqb k 0x05 f, ne-eqb k 0x06 g, ne-eqb k 0x07 h, ne-eqb k 0x08 i) at e) refl)
 
 -- ---- commands
 
@@ -180,6 +184,9 @@ module _ (p : Panel) (h : Legal p) where
   outcome (removing id) =
       removing-outcome _ _ p (early 0x03) (λ q l. moved-reply 0x03 p q (inl (omega arith)) l) (refusal-reply 0x03 Loop (omega arith) (omega arith)) id
   outcome (touching f) = touch-outcome 0x04 (inl (omega arith)) f
+  outcome (changing id level bytes) =
+      changing-outcome _ _ p (early 0x06) (λ q l. moved-reply 0x06 p q (inr (inl refl)) l) (refusal-reply 0x06 Loop (omega arith) (omega arith)) id level bytes
+      (λ e. refusal-reply 0x06 Conflict (omega arith) (omega arith))
   outcome planning = planning-outcome _ _ p (early 0x05) (λ e l. plan-reply p h (ltb-true 0 (p .size) e))
 
   command-reply : (c : panel.Command) → IsReply (kindFor c) (panel.performed p c .reply)
@@ -211,7 +218,7 @@ formula-reply p id formula =
 module _ (s : Sheet) (h : LegalSheet s) where
   entered-reply : (f : ℕ) (v : ℤ) → IsReply 0x07 (performed s (entering f v) .reply)
   entered-reply f v =
-      entering-reply (IsReply 0x07) s f v (touch-reply (s .panel) (h .panel) 0x07 (inr refl) f) (value-reply 14 (omega arith) (omega arith))
+      entering-reply (IsReply 0x07) s f v (touch-reply (s .panel) (h .panel) 0x07 (inr (inr refl)) f) (value-reply 14 (omega arith) (omega arith))
       (value-reply 13 (omega arith) (omega arith))
 
   -- a frame is answered as the command of its kind
@@ -225,8 +232,9 @@ module _ (s : Sheet) (h : LegalSheet s) where
       go (inr (inr (inl k))) = rw k (command-reply (s .panel) (h .panel) (removing (at bytes 1)))
       go (inr (inr (inr (inl k)))) = rw k (command-reply (s .panel) (h .panel) (touching (at bytes 1)))
       go (inr (inr (inr (inr (inl k))))) = rw k (command-reply (s .panel) (h .panel) planning)
-      go (inr (inr (inr (inr (inr (inl k)))))) = rw k (entered-reply (at bytes 1) (valueOf (wordOf (drop 2 bytes))))
-      go (inr (inr (inr (inr (inr (inr (inl k))))))) = rw k (formula-reply (s .panel) (at bytes 1) (formulaIn (drop 2 bytes)))
+      go (inr (inr (inr (inr (inr (inl k)))))) = rw k (command-reply (s .panel) (h .panel) (changing (at bytes 1) (at bytes 2) (drop 3 bytes)))
+      go (inr (inr (inr (inr (inr (inr (inl k))))))) = rw k (entered-reply (at bytes 1) (valueOf (wordOf (drop 2 bytes))))
+      go (inr (inr (inr (inr (inr (inr (inr (inl k)))))))) = rw k (formula-reply (s .panel) (at bytes 1) (formulaIn (drop 2 bytes)))
 
   line-reply : (line : List ℕ) → IsReply (kindOf line) (lineAnswer s line .reply)
   unfolding lineAnswer frameOf checkedFrame commandOf

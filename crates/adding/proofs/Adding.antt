@@ -1,16 +1,15 @@
--- Laws of an add. Its checks, over what was read of the field bytes, agree with the command's (`add-agree`). In the panel with the new link waiting
--- (`Entering`) the link is blocked or not, and the command reverses its path, is refused with Conflict or is accepted (`enterStep`); which of these,
--- the verdict says, by the laws of a reversal (`resolved-loop`, `resolved-free`, `resolved-step`). `add-looped`, `add-conflict` and `add-done` close
--- the three ends of the code.
+-- Laws of an add. The checks of a link, over what was read of the field bytes, agree with document 01's (`link-agree`). In the panel with the new link
+-- waiting (`Entering`) the link is blocked or not, and the command reverses its path, is refused with Conflict or is accepted (`enterStep`); which of
+-- these, the verdict says, by the laws of a reversal (`resolved-loop`, `resolved-free`, `resolved-step`): `entry-refused` and `entry-done`.
 use mathlib.Core.Path.{_≡_, refl, sym, ap, _∙_, subst}
-use mathlib.Core.Bool.{Bool, true, false, not, _||_, true≢false, Bool·not-not}
+use mathlib.Core.Bool.{Bool, true, false, not, _||_, cond, true≢false, Bool·not-not}
 use mathlib.Core.Logic.{_≢_}
 use mathlib.Core.List.{List}
 use Prim.Native.Nat.{ℕ, _%_, _<_}
 use native.Mathlib.Nat.{mod-eq-of-lt}
 use native.Mathlib.Omega.{arith}
-use borrow.Author.Tests.{lt-ltb, ltb-false, eq-eqb, ne-eqb}
-use lib.Dec.{ltb, leb}
+use borrow.Author.Tests.{lt-ltb, ltb-false, eqb-true, eq-eqb, ne-eqb}
+use lib.Dec.{eqb, ltb, leb}
 use lib.ListN.{length, set}
 use Rattle.fieldset.specs.Tables.{at}
 use Rattle.fieldset.specs.Fields.{below, within}
@@ -21,34 +20,33 @@ use Rattle.panel.specs.declared.Standing.the-variants.{Waiting}
 use Rattle.panel.specs.declared.Link.{Link}
 use Rattle.panel.specs.declared.Panel.{Panel}
 use Rattle.panel.specs.declared.Refusal.{Refusal}
-use Rattle.panel.specs.declared.Refusal.the-variants.{Conflict, Loop}
+use Rattle.panel.specs.declared.Refusal.the-variants.{LinkTaken, Conflict, Loop}
 use Rattle.panel.specs.declared.Reply.{Reply}
 use Rattle.panel.specs.declared.Reply.the-variants.{Accepted, Refused}
 use Rattle.panel.specs.declared.Step.{Step}
 use Rattle.panel.specs.Items.{link, linkAt, outputsOf, isInForce, inForce, isWaiting, waits}
-use Rattle.panel.specs.Answers.{refused, replyBytes}
+use Rattle.panel.specs.Answers.{Answer, refused, replyBytes}
 use Rattle.panel.specs.Panels.{waitingLink, withLink}
 use Rattle.panel.specs.Solution.{level, isBlocked}
 use Rattle.panel.specs.Steps.{reverseStep, enterStep, addStep}
-use Rattle.panel.specs.Commands.{checkReply, addChecks, Command, performed, adding, areFieldBytes, isRising, anyOf, isOutput, fieldOf, coveredIn, outputsIn}
+use Rattle.panel.specs.Commands.{Check, check, checkReply, Passes, linkChecks, addChecks, Command, performed, adding, areFieldBytes, isRising, anyOf, isOutput, fieldOf, coveredIn, outputsIn}
 use Rattle.panel.specs.Legal.{Legal, Formed}
-use Rattle.panel.specs.Outcomes.{unchanged, Decides}
-use Rattle.panel.proofs.Reversed.{setter-stay, link-here, link-there}
+use Rattle.panel.specs.Outcomes.{Decides}
+use Rattle.panel.proofs.Reversed.{link-here}
 use Rattle.panel.proofs.Legal.{LegalBut, holding-not-waiting}
 use Rattle.panel.proofs.InForce.{unused-off, waiting-force}
 use Rattle.panel.proofs.Changes.{legal-add}
-use Rattle.panel.proofs.Checks.{Agree, reply-refused, reply-accepted, named-link, addable}
-use Rattle.panel.proofs.Outcomes.{decides-refused}
-use Rattle.tables.specs.Tables.{Setting, Tabled, levelWith}
-use Rattle.tables.proofs.Settings.{placed-setting, tabled-same}
+use Rattle.panel.proofs.Checks.{Agree, checked-step, reply-refused, reply-accepted, named-link, addable}
+use Rattle.tables.specs.Tables.{Tabled}
+use Rattle.tables.proofs.Settings.{tabled-link}
 use Rattle.fieldbytes.specs.Bytes.{FieldsOf}
 use Rattle.fieldbytes.proofs.FieldBytes.{add-check, covered-within}
 use Rattle.reversal.specs.declared.Verdict.{Verdict}
-use Rattle.reversal.specs.declared.Verdict.the-variants.{Free, Looped}
+use Rattle.reversal.specs.declared.Verdict.the-variants.{Free, Looped, Path}
 use Rattle.reversal.specs.Reversals.{Unresolved, Resolved, stepOf}
 use Rattle.reversal.proofs.Decision.{unresolved}
 use Rattle.reversal.proofs.Steps.{Change, resolved-free, resolved-loop, resolved-step}
-use Rattle.adding.specs.Checks.{isBadLink, checkAdd}
+use Rattle.adding.specs.Checks.{isBadLink, checkLink, verdictReply}
 
 -- a command that enters a well-formed link under a number of which no link is in force, and that passes its checks
 pub record Entering (p : Panel) (id level covered outputs : ℕ) (cmd : Command) : Type 0 where
@@ -57,6 +55,14 @@ pub record Entering (p : Panel) (id level covered outputs : ℕ) (cmd : Command)
   pub free : isInForce (linkAt (p .links) id) ≡ false
   pub formed : Formed (p .size) (waitingLink level covered outputs)
   pub step : performed p cmd ≡ addStep p id level covered outputs
+
+-- ---- replies
+
+replies-differ : {x : Refusal} {m : ℕ} → Refused x ≡ Accepted m → ⊥
+replies-differ e = let z : _≡_ {A = ℕ} 0 1 = cc in omega arith
+
+same-refusal : {x y : Refusal} → Refused x ≡ Refused y → x ≡ y
+same-refusal e = cc
 
 -- ---- the checks
 
@@ -68,11 +74,10 @@ number-small id level₁ c o r e = go (ltb 127 id) refl
     go true t = absurd (true≢false (sym (rw t refl) ∙ e))
     go false t = omega (arith, ltb-false 127 id t)
 
-module _ (p : Panel) (id level₁ : ℕ) (bytes : List ℕ) (c o : ℕ) (r : Bool)
-    (f : FieldsOf bytes c o r) (old : Link) (same : old ≡ linkAt (p .links) (id % 128)) where
-  -- the number is taken where its link is in use, once it is one of 128
-  add-agree : Agree (checkAdd (p .size) id level₁ c o r (old .used)) (addChecks p id level₁ bytes)
-  add-agree = (refl, refl, λ is-open. (bad-is, refl, λ fine. (outside-is, refl, λ inside. (used-is (small fine), refl, λ free. tt))))
+module _ (p : Panel) (id level₁ : ℕ) (bytes : List ℕ) (c o : ℕ) (r : Bool) (f : FieldsOf bytes c o r) where
+  -- the last check is about the number, once it is one of 128
+  pub link-agree : (a b : Bool) (x : Refusal) → (id < 128 → a ≡ b) → Agree (checkLink (p .size) id level₁ c o r (check a x)) (linkChecks p id level₁ bytes (check b x))
+  link-agree a b x same = (refl, refl, λ is-open. (bad-is, refl, λ fine. (outside-is, refl, λ inside. (same (small fine), refl, λ free. tt))))
     where
       bad-is : isBadLink id level₁ c o r
           ≡ (ltb 127 id || ltb 15 level₁ || not (areFieldBytes bytes) || not (isRising bytes) || not (anyOf isOutput bytes))
@@ -84,33 +89,38 @@ module _ (p : Panel) (id level₁ : ℕ) (bytes : List ℕ) (c o : ℕ) (r : Boo
       small : (ltb 127 id || ltb 15 level₁ || not (areFieldBytes bytes) || not (isRising bytes) || not (anyOf isOutput bytes)) ≡ false → id < 128
       small fine = number-small id level₁ c o r (bad-is ∙ fine)
 
-      used-is : id < 128 → old .used ≡ linkAt (p .links) id .used
-      used-is l = ap (λ (x : Link). x .used) (named-link (p .links) id old same l)
+  -- an add that passes its checks enters a link
+  pub passed-entering : Legal p → Passes (addChecks p id level₁ bytes) → Entering p id level₁ c o (adding id level₁ bytes)
+  passed-entering h passed =
+      let a = addable p id level₁ bytes passed in
+      record {
+        legal = h;
+        number = a .link .number;
+        free = unused-off _ (a .free);
+        formed = rw (f .covered, f .outputs) (a .link .formed);
+        step =
+            rw (f .covered, f .outputs)
+            (checked-step p (addChecks p id level₁ bytes) (addStep p id level₁ (coveredIn bytes) (outputsIn bytes)) passed);
+      }
 
-  module _ (reply : Reply) (checks : replyBytes reply ≡ checkReply (checkAdd (p .size) id level₁ c o r (old .used))) where
+  module _ (old : Link) (same : old ≡ linkAt (p .links) (id % 128)) (reply : Reply)
+      (checks : replyBytes reply ≡ checkReply (checkLink (p .size) id level₁ c o r (check (old .used) LinkTaken))) where
+    abbrev own : List Check
+    own = checkLink (p .size) id level₁ c o r (check (old .used) LinkTaken)
+
+    agree : Agree own (addChecks p id level₁ bytes)
+    agree = link-agree (old .used) (linkAt (p .links) id .used) LinkTaken (λ l. ap (λ (x : Link). x .used) (named-link (p .links) id old same l))
+
+    abbrev step : Answer
+    step = addStep p id level₁ (coveredIn bytes) (outputsIn bytes)
+
     pub add-refused : (x : Refusal) → reply ≡ Refused x → refused p x ≡ performed p (adding id level₁ bytes)
-    add-refused =
-        reply-refused p (checkAdd (p .size) id level₁ c o r (old .used)) (addChecks p id level₁ bytes)
-        (addStep p id level₁ (coveredIn bytes) (outputsIn bytes))
-        add-agree reply checks
+    add-refused = reply-refused p own (addChecks p id level₁ bytes) step agree reply checks
 
     pub add-passes : Legal p → (m : ℕ) → reply ≡ Accepted m → (id % 128 ≡ id) × Entering p (id % 128) level₁ c o (adding id level₁ bytes)
     add-passes h m e =
-        let (_, none, step) =
-        reply-accepted p (checkAdd (p .size) id level₁ c o r (old .used)) (addChecks p id level₁ bytes)
-        (addStep p id level₁ (coveredIn bytes) (outputsIn bytes))
-        add-agree reply checks m e in
-        let a = addable p id level₁ bytes none in
-        let n : id % 128 ≡ id = mod-eq-of-lt (a .number) in (
-          n,
-          rw n (record {
-            legal = h;
-            number = a .number;
-            free = unused-off _ (a .free);
-            formed = rw (f .covered, f .outputs) (a .formed);
-            step = rw (f .covered, f .outputs) step;
-          }),
-        )
+        let x = passed-entering h (reply-accepted p own (addChecks p id level₁ bytes) step agree reply checks m e .1) in
+        let n : id % 128 ≡ id = mod-eq-of-lt (x .number) in (n, rw n x)
 
 -- ---- the panel with the new link waiting
 
@@ -158,16 +168,8 @@ module _ {p : Panel} {id level₁ covered outputs : ℕ} {cmd : Command} (x : En
   }
 
   -- the tables: a link that sets nothing is in none
-  new-tabled : {levels others reads : List ℕ} → Tabled p levels others reads → Tabled (withLink p id new) levels others reads
-  new-tabled {levels} tab =
-      tabled-same p (withLink p id new)
-      (λ f a b c l s.
-      placed-setting p (withLink p id new) f refl (λ k. link-there (p .links) id (at (p .setter) f) _ (unset f l k))
-      (level-kept f a s (ltb (at (p .setter) f) 128) refl) s) tab
-    where
-      level-kept : (f a : ℕ) {b c : ℕ} → Setting p f a b c → (t : Bool) → ltb (at (p .setter) f) 128 ≡ t → a ≡ levelWith (at (p .setter) f) (at (p .place) f) a
-      level-kept f a s true e = rw e refl
-      level-kept f a s false e = rw e (s .level-is ∙ rw (setter-stay (p .setter) f (ltb-false (at (p .setter) f) 128 e)) refl)
+  pub new-tabled : {levels others reads : List ℕ} → Tabled p levels others reads → Tabled (withLink p id new) levels others reads
+  new-tabled = tabled-link p id new unset
 
   reverses : isBlocked (withLink p id new) (link id) ≡ true → performed p cmd ≡ reverseStep p (withLink p id new) (link id)
   unfolding enterStep
@@ -201,25 +203,28 @@ module _ {p : Panel} {id level₁ covered outputs : ℕ} {cmd : Command} (x : En
           (new-tabled tab) new-waits level₁ outputs covered new-level new-outputs new-covered e in
           sym (x .step ∙ rw (free, eq-eqb level₁ 0 z, enterStep) refl)
 
-      module _ (t : Verdict) (resolved : Resolves t) (s : Step) where
-        pub add-looped : (old : Link) → old ≡ linkAt (p .links) id → t ≡ Looped → s ≡ unchanged (p .size) (p .place) old (Refused Loop)
-            → Decides p id cmd path s
-        add-looped old same e is =
-            let looped = subst Resolves e resolved in
-            decides-refused p id old (Refused Loop) cmd path (looped .1 .1 .fields .full) Loop s same refl (loops looped) is
+      pub entry-refused : (t : Verdict) → Resolves t → (x : Refusal) → verdictReply t level₁ ≡ Refused x → (refused p x ≡ performed p cmd) × (length path ≡ 64)
+      entry-refused Free e x is = (free (eqb level₁ 0) refl is, e .1)
+        where
+          free : (b : Bool) → eqb level₁ 0 ≡ b → cond b (Refused Conflict) (Accepted 0) ≡ Refused x → refused p x ≡ performed p cmd
+          free true z is = rw (← same-refusal is) (conflicts (eqb-true level₁ 0 z) e)
+          free false z is = absurd (replies-differ (sym is))
+      entry-refused Looped e x is = (rw (← same-refusal is) (loops e), e .1 .1 .fields .full)
+      entry-refused (Path count m) e x is = absurd (replies-differ (sym is))
 
-        pub add-conflict : (old : Link) → old ≡ linkAt (p .links) id → level₁ ≡ 0 → t ≡ Free → s ≡ unchanged (p .size) (p .place) old (Refused Conflict)
-            → Decides p id cmd path s
-        add-conflict old same z e is =
-            let free = subst Resolves e resolved in
-            decides-refused p id old (Refused Conflict) cmd path (free .1) Conflict s same refl (conflicts z free) is
+      -- the step, whose parts are the code's
+      pub entry-done : (t : Verdict) → Resolves t → (m : ℕ) → verdictReply t level₁ ≡ Accepted m → (l : Link) (k : ℕ) (s : Step) → l ≡ new → id ≡ k
+          → s ≡ stepOf t (p .size) (p .place) l Waiting k → Decides p id cmd path s
+      unfolding enterStep
+      entry-done t e m is l k s el ek es =
+          rw (es, el, ← ek)
+          (resolved-step p id (p .size) (p .place) _ Waiting new-change cmd path (link id)
+          (new-legal .carrying) (new-legal .loopless) new-force levels others reads
+          (new-tabled tab) new-waits level₁ outputs covered new-level new-outputs new-covered t no-loop e
+          (λ f b. x .step ∙ rw (b, ne-eqb level₁ 0 (weak f), enterStep) refl) reverses)
+        where
+          no-loop : t ≢ Looped
+          no-loop d = replies-differ (subst (λ (t : Verdict). verdictReply t level₁ ≡ Accepted m) d is)
 
-        pub add-done : (l : Link) (k : ℕ) → l ≡ new → id ≡ k → t ≢ Looped → (t ≡ Free → level₁ ≢ 0) → s ≡ stepOf t (p .size) (p .place) l Waiting k
-            → Decides p id cmd path s
-        unfolding enterStep
-        add-done l k el ek ne weak is =
-            rw (is, el, ← ek)
-            (resolved-step p id (p .size) (p .place) _ Waiting new-change cmd path (link id)
-            (new-legal .carrying) (new-legal .loopless) new-force levels others reads
-            (new-tabled tab) new-waits level₁ outputs covered new-level new-outputs new-covered t ne resolved
-            (λ f b. x .step ∙ rw (b, ne-eqb level₁ 0 (weak f), enterStep) refl) reverses)
+          weak : t ≡ Free → level₁ ≢ 0
+          weak d z = replies-differ (rw (eq-eqb level₁ 0 z) at (subst (λ (t : Verdict). verdictReply t level₁ ≡ Accepted m) d is))

@@ -21,13 +21,13 @@ ghost use lib.ListN.{length};
 ghost use Rattle.panel.specs.Items.{linkAt};
 ghost use Rattle.panel.specs.Panels.{waitingLink};
 ghost use Rattle.panel.specs.Answers.{replyBytes};
-ghost use Rattle.panel.specs.Commands.{checkReply, adding};
+ghost use Rattle.panel.specs.Commands.{checkReply, check, adding};
 ghost use Rattle.panel.specs.Legal.{Legal};
 ghost use Rattle.panel.specs.Outcomes.{Decides};
 ghost use Rattle.tables.specs.Tables.{Tabled};
-ghost use Rattle.adding.specs.Checks.{isBadLink, checkAdd};
+ghost use Rattle.adding.specs.Checks.{isBadLink, checkLink, verdictReply};
 
-// Whether the numbers and fields of an add are no link's: an id over 127, a level over 15, fields that do not rise, not 1 to 8 fields by count
+// Whether these numbers and fields are no link's: an id over 127, a level over 15, fields that do not rise, not 1 to 8 fields by count
 // of ones, no output.
 fn is_bad_link(id: u8, level: u8, covered: u64, outputs: u64, rising: bool) -> bool
     ensures { λ r. ⌜ r ≡ isBadLink id level covered outputs rising ⌝ }
@@ -51,10 +51,18 @@ fn is_bad_link(id: u8, level: u8, covered: u64, outputs: u64, rising: bool) -> b
     outputs == 0
 }
 
-// The reply of an add's checks: the refusal of the first that applies, else acceptance.
-fn check_add(n: usize, id: u8, level: u8, fields: Fields, used: bool) -> Reply
+// The reply of the checks of a link that is added or changed: the refusal of the first that applies, else acceptance. The last one, about the link's
+// number, is told: whether it applies, and its refusal.
+pub fn check_link(
+    n: usize,
+    id: u8,
+    level: u8,
+    fields: Fields,
+    wrong: bool,
+    refusal: Refusal,
+) -> Reply
     requires { ⌜ n ≤ 64 ⌝ }
-    ensures { λ r. ⌜ replyBytes r ≡ checkReply (checkAdd n id level (fields .covered) (fields .outputs) (fields .rising) used) ⌝ }
+    ensures { λ r. ⌜ replyBytes r ≡ checkReply (checkLink n id level (fields .covered) (fields .outputs) (fields .rising) (check wrong refusal)) ⌝ }
 {
     if n == 0 {
         return Reply::Refused(Refusal::NotOpen);
@@ -66,14 +74,31 @@ fn check_add(n: usize, id: u8, level: u8, fields: Fields, used: bool) -> Reply
     if !within(covered, below(n)) {
         return Reply::Refused(Refusal::NoSuchField);
     }
-    if used {
-        return Reply::Refused(Refusal::LinkTaken);
+    if wrong {
+        return Reply::Refused(refusal);
     }
     Reply::Accepted(0)
 }
 
+// The reply where a link of this level is entered, by the verdict on it: a loop refuses it, and a required link that is not blocked meets Conflict.
+pub fn check_verdict(verdict: Verdict, level: u8) -> Reply
+    ensures { λ r. ⌜ r ≡ verdictReply verdict level ⌝ }
+{
+    match verdict {
+        Verdict::Looped => Reply::Refused(Refusal::Loop),
+        Verdict::Free => {
+            if level == 0 {
+                Reply::Refused(Refusal::Conflict)
+            } else {
+                Reply::Accepted(0)
+            }
+        }
+        Verdict::Path(_, _) => Reply::Accepted(0),
+    }
+}
+
 // A link in force that waits.
-fn waiting_link(level: u8, fields: Fields) -> Link
+pub fn waiting_link(level: u8, fields: Fields) -> Link
     ensures { λ r. ⌜ r ≡ waitingLink level (fields .covered) (fields .outputs) ⌝ }
 {
     Link {
@@ -105,7 +130,7 @@ pub fn add(
     let n = p.size;
     let place = p.place;
     let fields = read_fields(bytes);
-    let reply = check_add(n, id, level, fields, old.used);
+    let reply = check_link(n, id, level, fields, old.used, Refusal::LinkTaken);
     if let Reply::Refused(_) = reply {
         return unchanged(n, &place, old, reply);
     }
@@ -119,13 +144,9 @@ pub fn add(
         fields.covered,
         path,
     );
-    if let Verdict::Looped = verdict {
-        return unchanged(n, &place, old, Reply::Refused(Refusal::Loop));
-    }
-    if level == 0 {
-        if let Verdict::Free = verdict {
-            return unchanged(n, &place, old, Reply::Refused(Refusal::Conflict));
-        }
+    let reply = check_verdict(verdict, level);
+    if let Reply::Refused(_) = reply {
+        return unchanged(n, &place, old, reply);
     }
     step_of(
         verdict,

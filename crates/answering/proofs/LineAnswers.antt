@@ -6,16 +6,23 @@ use mathlib.Core.List.{List, [], _∷_, append-nil}
 use Prim.Native.Nat.{ℕ, _%_}
 use native.Mathlib.Nat.{mod-eq-of-lt}
 use native.Mathlib.Omega.{arith}
+use lib.Dec.{eqb}
 use lib.ListN.{length}
 use lib.IntN.{ℤ}
+use Rattle.panel.specs.declared.Link.{Link}
 use Rattle.panel.specs.declared.Panel.{Panel}
 use Rattle.panel.specs.declared.Reply.{Reply}
+use Rattle.panel.specs.declared.Reply.the-variants.{Accepted}
 use Rattle.panel.specs.declared.Step.{Step}
+use Rattle.panel.specs.Items.{linkAt}
 use Rattle.panel.specs.Answers.{isRefusal, replyBytes, rowsLength}
 use Rattle.panel.specs.Outcomes.{taken, Takes, Decides}
 use Rattle.panel.specs.Legal.{Legal}
-use Rattle.panel.specs.Commands.{opening, adding, removing, touching, planning, performed}
-use Rattle.panel.proofs.Performed.{removed-number, legal-performed}
+use Rattle.panel.specs.Commands.{opening, adding, removing, touching, planning, changing, coveredIn, performed}
+use Rattle.panel.proofs.Checks.{changeable}
+use Rattle.panel.proofs.Performed.{removed-number, changed-passes, legal-performed}
+use Rattle.panel.proofs.Outcomes.{takes-size}
+use Rattle.tables.specs.Tables.{Tabled}
 use Rattle.values.specs.Words.{valueOf}
 use Rattle.formulas.specs.declared.Formula.{Formula}
 use Rattle.formulas.specs.declared.Formula.the-variants.{None}
@@ -27,13 +34,15 @@ use Rattle.sheet.specs.Legal.{LegalSheet}
 use Rattle.sheet.proofs.Legal.{legal-sheet, entered-formulas}
 use Rattle.entering.specs.Entered.{SettersOf, Entered}
 use Rattle.frames.specs.declared.Command.{Command}
-use Rattle.frames.specs.declared.Command.the-variants.{Open, Add, Remove, Touch, Plan, Enter, Relate, Refused}
-use Rattle.frames.specs.Frames.{frameOf, wordOf, formulaIn, commandBytes, commandOf, answered, commandAnswer, lineAnswer}
+use Rattle.frames.specs.declared.Command.the-variants.{Open, Add, Remove, Touch, Plan, Change, Enter, Relate, Refused}
+use Rattle.frames.specs.Frames.{frameOf, wordOf, formulaIn, commandBytes, commandOf, numberOf, answered, commandAnswer, lineAnswer}
 use Rattle.replies.specs.Replies.{wholeReply}
 use Rattle.replies.proofs.Replies.{reply-short}
-use Rattle.deciding.specs.Lines.{formulaAfter, setsFormula, LineStep}
-use Rattle.deciding.proofs.Arms.{OneOf, not-among, formula-kept, given-kept, solved-step}
+use Rattle.deciding.specs.Lines.{formulaAfter, setsFormula, Replied, DecidedLine, ChangedLine}
+use Rattle.deciding.proofs.Arms.{OneOf, not-among, formula-kept, given-kept, solved-replied, solved-step}
 use Rattle.removing.specs.Scans.{scanCount}
+use Rattle.changing.specs.declared.Changed.{Changed}
+use Rattle.changing.specs.Changed.{changeCount, Changes}
 use Rattle.frames.proofs.Command.{the-type}
 use denote.Enum.Declared.{tagOf}
 use Rattle.answering.specs.Scans.{commandScan, lineScan}
@@ -49,9 +58,13 @@ line-answer q line k fields read = go k ∙ ap (λ (x : List ℕ). answered q x 
   go (Remove id) = refl
   go (Touch f) = refl
   go Plan = refl
+  go (Change id level) = refl
   go (Enter f b) = refl
   go (Relate id form) = refl
   go (Refused r) = refl
+
+pub removal-no-change : {id i level : ℕ} → Remove id ≡ Change i level → ⊥
+removal-no-change e = let z : _≡_ {A = ℕ} 2 5 = ap (tagOf the-type) e in omega arith
 
 -- the count after its command is that after a line: a removal's, and for another command as it was
 pub removed-scan : (n : ℕ) (q : Sheet) (line : List ℕ) (k : Command) (fields : List ℕ) → commandBytes k fields ≡ frameOf line → (id : ℕ) → k ≡ Remove id
@@ -60,20 +73,28 @@ unfolding lineScan commandOf
 removed-scan n q line k fields read id e =
     ap (λ (x : List ℕ). commandScan n (q .panel) (commandOf x)) (sym (ap (λ (c : Command). commandBytes c fields) e) ∙ read)
 
-pub no-scan : (n : ℕ) (q : Sheet) (line : List ℕ) (k : Command) (fields : List ℕ) → commandBytes k fields ≡ frameOf line
-    → OneOf (0 ∷ 1 ∷ 3 ∷ 4 ∷ 5 ∷ 6 ∷ 7 ∷ []) (tagOf the-type k) → n ≡ lineScan n q line
+changed-scan : (n : ℕ) (q : Sheet) (line : List ℕ) (k : Command) (fields : List ℕ) → commandBytes k fields ≡ frameOf line → (id level : ℕ) → k ≡ Change id level
+    → changeCount n (q .panel) id level fields ≡ lineScan n q line
 unfolding lineScan commandOf
-no-scan n q line k fields read h = go k h ∙ ap (λ (x : List ℕ). commandScan n (q .panel) (commandOf x)) read
+changed-scan n q line k fields read id level e =
+    ap (λ (x : List ℕ). commandScan n (q .panel) (commandOf x)) (sym (ap (λ (c : Command). commandBytes c fields) e) ∙ read)
+
+pub no-scan : (n : ℕ) (q : Sheet) (line : List ℕ) (k : Command) (fields : List ℕ) → commandBytes k fields ≡ frameOf line
+    → OneOf (0 ∷ 1 ∷ 3 ∷ 4 ∷ 5 ∷ 6 ∷ 7 ∷ 8 ∷ []) (tagOf the-type k) → OneOf (0 ∷ 1 ∷ 2 ∷ 3 ∷ 4 ∷ 6 ∷ 7 ∷ 8 ∷ []) (tagOf the-type k) → n ≡ lineScan n q line
+unfolding lineScan commandOf
+no-scan n q line k fields read h g = go k h g ∙ ap (λ (x : List ℕ). commandScan n (q .panel) (commandOf x)) read
   where
-    go : (c : Command) → OneOf (0 ∷ 1 ∷ 3 ∷ 4 ∷ 5 ∷ 6 ∷ 7 ∷ []) (tagOf the-type c) → n ≡ commandScan n (q .panel) (commandOf (commandBytes c fields))
-    go (Open m) h = refl
-    go (Add id level) h = refl
-    go (Remove id) h = absurd (not-among 2 (0 ∷ 1 ∷ 3 ∷ 4 ∷ 5 ∷ 6 ∷ 7 ∷ []) refl h)
-    go (Touch f) h = refl
-    go Plan h = refl
-    go (Enter f b) h = refl
-    go (Relate id form) h = refl
-    go (Refused r) h = refl
+    go : (c : Command) → OneOf (0 ∷ 1 ∷ 3 ∷ 4 ∷ 5 ∷ 6 ∷ 7 ∷ 8 ∷ []) (tagOf the-type c) → OneOf (0 ∷ 1 ∷ 2 ∷ 3 ∷ 4 ∷ 6 ∷ 7 ∷ 8 ∷ []) (tagOf the-type c)
+        → n ≡ commandScan n (q .panel) (commandOf (commandBytes c fields))
+    go (Open m) h g = refl
+    go (Add id level) h g = refl
+    go (Remove id) h g = absurd (not-among 2 (0 ∷ 1 ∷ 3 ∷ 4 ∷ 5 ∷ 6 ∷ 7 ∷ 8 ∷ []) refl h)
+    go (Touch f) h g = refl
+    go Plan h g = refl
+    go (Change id level) h g = absurd (not-among 5 (0 ∷ 1 ∷ 2 ∷ 3 ∷ 4 ∷ 6 ∷ 7 ∷ 8 ∷ []) refl g)
+    go (Enter f b) h g = refl
+    go (Relate id form) h g = refl
+    go (Refused r) h g = refl
 
 pub answer-legal : (q : Sheet) (k : Command) (fields : List ℕ) → LegalSheet q → LegalSheet (commandAnswer q k fields .state)
 answer-legal q (Open n) fields h = legal-sheet q h (solving (opening n))
@@ -81,17 +102,87 @@ answer-legal q (Add id level) fields h = legal-sheet q h (solving (adding id lev
 answer-legal q (Remove id) fields h = legal-sheet q h (solving (removing id))
 answer-legal q (Touch f) fields h = legal-sheet q h (solving (touching f))
 answer-legal q Plan fields h = legal-sheet q h (solving planning)
+answer-legal q (Change id level) fields h = legal-sheet q h (solving (changing id level fields))
 answer-legal q (Enter f b) fields h = legal-sheet q h (entering f (valueOf (wordOf (b ∷ fields))))
 answer-legal q (Relate id form) fields h = legal-sheet q h (relating id (formulaIn (form ∷ fields)))
 answer-legal q (Refused r) fields h = h
 
+-- ---- the step that is decided
+
+-- the panel after it: a change is carried out later
+abbrev pub stepPanel : Sheet → List ℕ → Command → Panel
+stepPanel s tail (Open n) = commandAnswer s (Open n) tail .state .panel
+stepPanel s tail (Add id level) = commandAnswer s (Add id level) tail .state .panel
+stepPanel s tail (Remove id) = commandAnswer s (Remove id) tail .state .panel
+stepPanel s tail (Touch f) = commandAnswer s (Touch f) tail .state .panel
+stepPanel s tail Plan = commandAnswer s Plan tail .state .panel
+stepPanel s tail (Change id level) = s .panel
+stepPanel s tail (Enter f b) = commandAnswer s (Enter f b) tail .state .panel
+stepPanel s tail (Relate id form) = commandAnswer s (Relate id form) tail .state .panel
+stepPanel s tail (Refused x) = commandAnswer s (Refused x) tail .state .panel
+
+-- what else is known then: the rest of the answer, and of a change that no value has changed
+abbrev StepRest : Sheet → ℕ → List ℕ → List ℕ → List ℤ → Reply → Command → Type 0
+StepRest s k tail rows values r (Open n) = Replied s k (Open n) tail rows values r
+StepRest s k tail rows values r (Add id level) = Replied s k (Add id level) tail rows values r
+StepRest s k tail rows values r (Remove id) = Replied s k (Remove id) tail rows values r
+StepRest s k tail rows values r (Touch f) = Replied s k (Touch f) tail rows values r
+StepRest s k tail rows values r Plan = Replied s k Plan tail rows values r
+StepRest s k tail rows values r (Change id level) = values ≡ s .values
+StepRest s k tail rows values r (Enter f b) = Replied s k (Enter f b) tail rows values r
+StepRest s k tail rows values r (Relate id form) = Replied s k (Relate id form) tail rows values r
+StepRest s k tail rows values r (Refused x) = Replied s k (Refused x) tail rows values r
+
+pub record Stepped (s : Sheet) (k : ℕ) (c : Command) (tail path rows : List ℕ) (values : List ℤ) (step : Step) : Type 0 where
+  pub takes : Takes (s .panel) k path step (stepPanel s tail c)
+  pub rest : StepRest s k tail rows values (step .reply) c
+  pub rows-full : length rows ≡ rowsLength
+
+pub step-legal : (s : Sheet) (tail : List ℕ) (c : Command) → LegalSheet s → Legal (stepPanel s tail c)
+step-legal s tail (Open n) h = answer-legal s (Open n) tail h .panel
+step-legal s tail (Add id level) h = answer-legal s (Add id level) tail h .panel
+step-legal s tail (Remove id) h = answer-legal s (Remove id) tail h .panel
+step-legal s tail (Touch f) h = answer-legal s (Touch f) tail h .panel
+step-legal s tail Plan h = answer-legal s Plan tail h .panel
+step-legal s tail (Change id level) h = h .panel
+step-legal s tail (Enter f b) h = answer-legal s (Enter f b) tail h .panel
+step-legal s tail (Relate id form) h = answer-legal s (Relate id form) tail h .panel
+step-legal s tail (Refused x) h = answer-legal s (Refused x) tail h .panel
+
+-- of a line that is no removal and enters no value
+pub decided-stepped : (p : Panel) (k : ℕ) (named : Link) (tail path rows : List ℕ) (step : Step) (c : Command)
+    → OneOf (0 ∷ 1 ∷ 3 ∷ 4 ∷ 5 ∷ 6 ∷ 7 ∷ 8 ∷ []) (tagOf the-type c) → OneOf (0 ∷ 1 ∷ 2 ∷ 3 ∷ 4 ∷ 5 ∷ 7 ∷ 8 ∷ []) (tagOf the-type c)
+    → named ≡ linkAt (p .links) k → DecidedLine p k named tail path rows step c → (formulas : Formulas) (values : List ℤ)
+    → Stepped (sheetOf p formulas values) k c tail path rows values step
+decided-stepped p k named tail path rows step (Open n) h g same d formulas values =
+    let l = d formulas values in record { takes = l .takes; rest = l .replied; rows-full = l .rows-full }
+decided-stepped p k named tail path rows step (Add id level) h g same d formulas values =
+    let l = d formulas values in record { takes = l .takes; rest = l .replied; rows-full = l .rows-full }
+decided-stepped p k named tail path rows step (Remove id) h g same d formulas values = absurd (not-among 2 (0 ∷ 1 ∷ 3 ∷ 4 ∷ 5 ∷ 6 ∷ 7 ∷ 8 ∷ []) refl h)
+decided-stepped p k named tail path rows step (Touch f) h g same d formulas values =
+    let l = d formulas values in record { takes = l .takes; rest = l .replied; rows-full = l .rows-full }
+decided-stepped p k named tail path rows step Plan h g same d formulas values =
+    let l = d formulas values in record { takes = l .takes; rest = l .replied; rows-full = l .rows-full }
+decided-stepped p k named tail path rows step (Change id level) h g same d formulas values =
+    record {
+      takes = rw (d .is) (takes-size p k named (Accepted 0) same path (d .path-full) (p .size) p refl);
+      rest = refl;
+      rows-full = d .rows-full;
+    }
+decided-stepped p k named tail path rows step (Enter f b) h g same d formulas values = absurd (not-among 6 (0 ∷ 1 ∷ 2 ∷ 3 ∷ 4 ∷ 5 ∷ 7 ∷ 8 ∷ []) refl g)
+decided-stepped p k named tail path rows step (Relate id form) h g same d formulas values =
+    let l = d formulas values in record { takes = l .takes; rest = l .replied; rows-full = l .rows-full }
+decided-stepped p k named tail path rows step (Refused x) h g same d formulas values =
+    let l = d formulas values in record { takes = l .takes; rest = l .replied; rows-full = l .rows-full }
+
 -- ---- the steps that are decided beside the others
 
 pub removed-step : (s : Sheet) (id : ℕ) (fields path rows : List ℕ) → length rows ≡ rowsLength → (step : Step) → Decides (s .panel) (id % 128) (removing id) path step
-    → LineStep s (id % 128) (Remove id) fields path rows (s .values) step
+    → Stepped s (id % 128) (Remove id) fields path rows (s .values) step
 removed-step s id fields path rows full step d =
-    solved-step s (id % 128) fields path rows full (Remove id) (removing id) step refl refl
-    (λ e. ap (λ (k : ℕ). withFormula (s .formulas) k None) (mod-eq-of-lt (removed-number (s .panel) id e))) d
+    let l = solved-step s (id % 128) fields path rows full (Remove id) (removing id) step refl refl
+    (λ e. ap (λ (k : ℕ). withFormula (s .formulas) k None) (mod-eq-of-lt (removed-number (s .panel) id e))) d in
+    record { takes = l .takes; rest = l .replied; rows-full = full }
 
 -- the panel after the step of a touch
 pub touch-taken : {p : Panel} {f : ℕ} {path : List ℕ} {step : Step} → Legal p → Decides p 0 (touching f) path step
@@ -105,15 +196,17 @@ touch-setters {setter = setter} {reads} d t = subst (λ (q : Panel). SettersOf q
 
 pub entered-step : (s : Sheet) (f b : ℕ) (fields path rows : List ℕ) (v : ℤ) → v ≡ valueOf (wordOf (b ∷ fields)) → length rows ≡ rowsLength
     → (touch : Step) → Decides (s .panel) 0 (touching f) path touch → (after : List ℤ) (step : Step) → Entered s f v touch after step
-    → LineStep s 0 (Enter f b) fields path rows after step
+    → Stepped s 0 (Enter f b) fields path rows after step
 entered-step s f b fields path rows v e full touch touches after step d =
     let d′ : Entered s f (valueOf (wordOf (b ∷ fields))) touch after step = subst (λ (x : ℤ). Entered s f x touch after step) e d in
     record {
       takes = d′ .takes path touches;
-      formulas = either (isRefusal (replyBytes (step .reply))) ∙ sym (entered-formulas s f (valueOf (wordOf (b ∷ fields))));
-      values = d′ .values;
-      reply = append-nil (replyBytes (step .reply)) ∙ d′ .reply;
-      rest = omega arith;
+      rest = record {
+        formulas = either (isRefusal (replyBytes (step .reply))) ∙ sym (entered-formulas s f (valueOf (wordOf (b ∷ fields))));
+        values = d′ .values;
+        reply = append-nil (replyBytes (step .reply)) ∙ d′ .reply;
+        rest = omega arith;
+      };
       rows-full = full;
     }
   where
@@ -121,13 +214,66 @@ entered-step s f b fields path rows v e full touch touches after step d =
     either true = formula-kept (s .formulas) 0
     either false = formula-kept (s .formulas) 0
 
+-- where no change is asked the step is all
+module _ {s : Sheet} {k : ℕ} {tail path rows : List ℕ} {values : List ℤ} {step : Step} where
+  pub step-panel : (c : Command) → OneOf (0 ∷ 1 ∷ 2 ∷ 3 ∷ 4 ∷ 6 ∷ 7 ∷ 8 ∷ []) (tagOf the-type c) → Stepped s k c tail path rows values step
+      → (stepPanel s tail c ≡ commandAnswer s c tail .state .panel) × Replied s k c tail rows values (step .reply)
+  step-panel (Open n) h d = (refl, d .rest)
+  step-panel (Add id level) h d = (refl, d .rest)
+  step-panel (Remove id) h d = (refl, d .rest)
+  step-panel (Touch f) h d = (refl, d .rest)
+  step-panel Plan h d = (refl, d .rest)
+  step-panel (Change id level) h d = absurd (not-among 5 (0 ∷ 1 ∷ 2 ∷ 3 ∷ 4 ∷ 6 ∷ 7 ∷ 8 ∷ []) refl h)
+  step-panel (Enter f b) h d = (refl, d .rest)
+  step-panel (Relate id form) h d = (refl, d .rest)
+  step-panel (Refused x) h d = (refl, d .rest)
+
+-- ---- a change
+
+-- its reply, and what it leaves of the formulas
+changed-replied : (s : Sheet) (id level : ℕ) (fields rows : List ℕ) (r : Reply) → replyBytes r ≡ performed (s .panel) (changing id level fields) .reply
+    → Replied s (id % 128) (Change id level) fields rows (s .values) r
+changed-replied s id level fields rows r told =
+    solved-replied s (id % 128) fields [] rows (Change id level) (changing id level fields) r refl refl
+    (λ e. rw (mod-eq-of-lt (changeable (s .panel) id level fields (changed-passes (s .panel) id level fields e) .number)) (either (eqb (linkAt (s .panel .links) id .covered) (coveredIn fields)))) told
+  where
+    either : (b : Bool) → withFormula (s .formulas) id (cond b (formulaAt (s .formulas) id) None) ≡ cond b (s .formulas) (withFormula (s .formulas) id None)
+    either true = formula-kept (s .formulas) id
+    either false = refl
+
+-- what was carried out on the panel that the step leaves is the rest of the answer, with its scan
+module _ (s : Sheet) (c : Command) (tail path rows : List ℕ) (values : List ℤ) (step : Step) (d : Stepped s (numberOf c) c tail path rows values step)
+    (id level : ℕ) (is : c ≡ Change id level) (p : Panel) (same : p ≡ stepPanel s tail c) (levels others reads : List ℕ) (before worked : ℕ) (r : Changed)
+    (done : ChangedLine p tail levels others reads before worked r c) where
+  changes : Changes (s .panel) id level tail levels others reads before worked r
+  changes =
+      subst (λ (p : Panel). Changes p id level tail levels others reads before worked r) (same ∙ ap (stepPanel s tail) is)
+      (subst (ChangedLine p tail levels others reads before worked r) is done)
+
+  pub changed-panel : r .panel ≡ commandAnswer s c tail .state .panel
+  changed-panel = changes .panel ∙ ap (λ (c : Command). commandAnswer s c tail .state .panel) (sym is)
+
+  pub changed-tabled : Tabled (r .panel) levels others reads
+  changed-tabled = changes .tabled
+
+  pub changed-rest : Replied s (numberOf c) c tail rows values (r .reply)
+  changed-rest =
+      subst (λ (c : Command). Replied s (numberOf c) c tail rows values (r .reply)) (sym is)
+      (subst (λ (v : List ℤ). Replied s (id % 128) (Change id level) tail rows v (r .reply)) (sym unchanged) (changed-replied s id level tail rows (r .reply) (changes .reply)))
+    where
+      unchanged : values ≡ s .values
+      unchanged = subst (λ (c : Command). Stepped s (numberOf c) c tail path rows values step) is d .rest
+
+  pub changed-worked : (line : List ℕ) → commandBytes c tail ≡ frameOf line → worked ≡ lineScan before s line
+  changed-worked line read = changes .scan ∙ changed-scan before s line c tail read id level is
+
 -- ---- formulas
 
 -- where the command changes none, the formulas are as they were
-pub formulas-same : (s : Sheet) (k : ℕ) (c : Command) (fields : List ℕ) (r : Reply) → setsFormula c ≡ false
-    → s .formulas ≡ withFormula (s .formulas) k (formulaAfter c fields r (formulaAt (s .formulas) k))
-formulas-same s k c fields r e =
-    sym (ap (withFormula (s .formulas) k) (either (isRefusal (replyBytes r)) (given-kept c fields (formulaAt (s .formulas) k) e)) ∙ formula-kept (s .formulas) k)
+pub formulas-same : (s : Sheet) (k : ℕ) (c : Command) (fields : List ℕ) (r : Reply) (covered : ℕ) → setsFormula c ≡ false
+    → s .formulas ≡ withFormula (s .formulas) k (formulaAfter c fields r covered (formulaAt (s .formulas) k))
+formulas-same s k c fields r covered e =
+    sym (ap (withFormula (s .formulas) k) (either (isRefusal (replyBytes r)) (given-kept c fields covered (formulaAt (s .formulas) k) e)) ∙ formula-kept (s .formulas) k)
   where
     either : {old given : Formula} (b : Bool) → old ≡ given → cond b old given ≡ old
     either true e = refl
@@ -135,17 +281,17 @@ formulas-same s k c fields r e =
 
 -- ---- what a line does
 
--- the formulas with the one that the command leaves, and the panel that has taken the step, are the answer's
-pub did : (q : Sheet) (line : List ℕ) (c : Command) (fields : List ℕ) → commandBytes c fields ≡ frameOf line → (k : ℕ) (path rows : List ℕ) (values : List ℤ) (s : Step)
-    → LineStep q k c fields path rows values s → (p : Panel) → p ≡ commandAnswer q c fields .state .panel
-    → (formulas : Formulas) → formulas ≡ withFormula (q .formulas) k (formulaAfter c fields (s .reply) (formulaAt (q .formulas) k)) → LegalSheet q
-    → Did lineAnswer LegalSheet q line (sheetOf p formulas values) (wholeReply c (s .reply) rows)
-did q line c fields read k path rows values s d p e formulas given h =
+-- the formulas with the one that the command leaves, and the panel afterwards, are the answer's
+pub did : (q : Sheet) (line : List ℕ) (c : Command) (fields : List ℕ) → commandBytes c fields ≡ frameOf line → (k : ℕ) (rows : List ℕ) (values : List ℤ) (r : Reply)
+    → Replied q k c fields rows values r → (p : Panel) → p ≡ commandAnswer q c fields .state .panel
+    → (formulas : Formulas) → formulas ≡ withFormula (q .formulas) k (formulaAfter c fields r (linkAt (q .panel .links) k .covered) (formulaAt (q .formulas) k)) → LegalSheet q
+    → Did lineAnswer LegalSheet q line (sheetOf p formulas values) (wholeReply c r rows)
+did q line c fields read k rows values r d p e formulas given h =
     let same : sheetOf p formulas values ≡ commandAnswer q c fields .state =
     ap (λ (x : Panel). sheetOf x formulas values) e
     ∙ ap₂ (λ (x : Formulas) (y : List ℤ). sheetOf (commandAnswer q c fields .state .panel) x y) (given ∙ d .formulas) (d .values) in
     record {
       is = ap₂ (λ (x : Sheet) (y : List ℕ). record { state = x; reply = y }) same (d .reply) ∙ line-answer q line c fields read;
       legal = subst LegalSheet (sym same) (answer-legal q c fields h);
-      short = reply-short c (s .reply) rows (d .rest);
+      short = reply-short c r rows (d .rest);
     }

@@ -1,4 +1,5 @@
 // The answers to the lines of a text, one after the other.
+use deciding::changed;
 use deciding::decide_line;
 use deciding::rule_after;
 use deciding::sets_formula;
@@ -66,8 +67,9 @@ fn progress_of(
 }
 
 // Answers whole lines from a position on while the room has place for a longest reply; what does not fit the buffer is counted, not stored. Past the
-// text's end there is no line. The step of a line is decided, and the panel takes it. A removal scans all links, and a value that is entered needs all
-// formulas: both stand here, since in decide_line they would have the panel or the formulas copied for every line.
+// text's end there is no line. The step of a line is decided, and the panel takes it; a change is then carried out, whose step leaves the panel. A
+// removal and a change scan all links, and a value that is entered needs all formulas: they stand here, since in decide_line they would have the panel
+// or the formulas copied for every line.
 pub fn answer_lines(
     text: &[u8],
     mut at: usize,
@@ -111,7 +113,7 @@ pub fn answer_lines(
         };
         let place = step.place;
         let link = step.link;
-        let reply = step.reply;
+        let mut reply = step.reply;
         q.size = step.size;
         q.place = place;
         q.links[k] = link;
@@ -119,8 +121,13 @@ pub fn answer_lines(
         if step.changed != 0 {
             q = reverse(q, step, &path, &mut levels, &mut others, &mut reads);
         }
+        if let Command::Change(_, _) = command {
+            let c = changed(q, &mut levels, &mut others, &mut reads, line, &mut worked);
+            q = c.panel;
+            reply = c.reply;
+        }
         if sets_formula(command) {
-            formulas.of[k] = rule_after(line, reply, formulas.of[k]);
+            formulas.of[k] = rule_after(line, reply, old.covered, formulas.of[k]);
         }
         n = put_reply(out, n, command, reply, &rows[..ROWS]);
         t = tallied_line(t, refusal_of(reply));

@@ -13,8 +13,10 @@ use Rattle.fieldset.specs.Lists.{All}
 use Rattle.panel.specs.declared.Standing.{Standing}
 use Rattle.panel.specs.declared.Standing.the-variants.{Waiting, Holding}
 use Rattle.panel.specs.Items.{linkAt}
-use Rattle.panel.specs.Commands.{opening, adding, removing, touching, planning}
+use Rattle.panel.specs.Answers.{isRefusal}
+use Rattle.panel.specs.Commands.{opening, adding, removing, touching, planning, changing, changeChecks, checkReply}
 use Rattle.removing.specs.Scans.{countAfter, scanCount}
+use Rattle.changing.specs.Changed.{changeCount}
 use Rattle.sheet.specs.declared.Sheet.{Sheet}
 use Rattle.sheet.specs.Sheets.{unopened}
 use Rattle.sheet.specs.Commands.{Command, solving, entering, relating}
@@ -49,8 +51,12 @@ count-of : (n : ℕ) (s : Standing) → (countAfter 0 n s ≡ 0) ⊎ (countAfter
 count-of n Waiting = inl refl
 count-of n (Holding v) = inr refl
 
+either : {m n : ℕ} (b : Bool) → (m ≡ 0) ⊎ (m ≡ n) → (cond b 0 m ≡ 0) ⊎ (cond b 0 m ≡ n)
+either true h = inl refl
+either false h = h
+
 line-scan : (s : Sheet) (l : List ℕ) → (lineScan 0 s l ≡ 0) ⊎ (lineScan 0 s l ≡ s .panel .size)
-unfolding lineScan scanCount
+unfolding lineScan scanCount changeCount
 line-scan s l = go (commandOf (frameOf l))
   where
     go : (o : Option Command) → (commandScan 0 (s .panel) o ≡ 0) ⊎ (commandScan 0 (s .panel) o ≡ s .panel .size)
@@ -60,6 +66,8 @@ line-scan s l = go (commandOf (frameOf l))
     go (some (solving (removing id))) = count-of (s .panel .size) (linkAt (s .panel .links) id .standing)
     go (some (solving (touching f))) = inl refl
     go (some (solving planning)) = inl refl
+    go (some (solving (changing id level bytes))) =
+        either (isRefusal (checkReply (changeChecks (s .panel) id level bytes))) (count-of (s .panel .size) (linkAt (s .panel .links) id .standing))
     go (some (entering f v)) = inl refl
     go (some (relating id formula)) = inl refl
 

@@ -1,7 +1,7 @@
 -- The step of a line, by its command. Assumes nothing.
 use mathlib.Core.Path.{_≡_, refl, sym, ap, ap₂, _∙_, subst}
 use mathlib.Core.Bool.{Bool, true, false, cond}
-use mathlib.Core.Logic.{_⊎_, inl, inr}
+use mathlib.Core.Logic.{_⊎_, inl, inr, ⊎-elim}
 use mathlib.Core.List.{List, [], _∷_, _++_, append-nil}
 use Prim.Native.Nat.{ℕ, _+_, _-_, _%_, _≤_}
 use native.Mathlib.Nat.{mod-eq-of-lt}
@@ -21,10 +21,11 @@ use Rattle.panel.specs.declared.Step.{Step}
 use Rattle.panel.specs.Items.{linkAt}
 use Rattle.panel.specs.Answers.{replyBytes, planRest, rowsLength, isRefusal}
 use Rattle.panel.specs.Commands as panel
-use Rattle.panel.specs.Commands.{adding, touching, planning, checkReply}
+use Rattle.panel.specs.Commands.{touching, planning, checkReply}
 use Rattle.panel.specs.Outcomes.{unchanged, Takes, Decides, Plans}
 use Rattle.panel.proofs.Outcomes.{takes-size}
 use Rattle.planning.proofs.Replies.{plan-keeps}
+use Rattle.changing.specs.declared.Changed.{Changed}
 use Rattle.formulas.specs.declared.Formula.{Formula}
 use Rattle.formulas.specs.declared.Formula.the-variants.{None}
 use Rattle.formulas.specs.declared.Formulas.{Formulas}
@@ -34,15 +35,15 @@ use Rattle.sheet.specs.Sheets.{sheetOf, formulaAt, withFormula}
 use Rattle.sheet.specs.Commands.{solving, formulasAfter, formulaChecks, performed}
 use Rattle.sheet.proofs.Legal.{reply-passes}
 use Rattle.frames.specs.declared.Command.{Command}
-use Rattle.frames.specs.declared.Command.the-variants.{Open, Add, Remove, Touch, Plan, Enter, Relate, Refused}
+use Rattle.frames.specs.declared.Command.the-variants.{Open, Add, Remove, Touch, Plan, Change, Enter, Relate, Refused}
 use Rattle.frames.specs.declared.Line.{Line}
 use Rattle.frames.proofs.Command.{the-type}
 use Rattle.frames.specs.Texts.{Answered}
 use Rattle.frames.specs.Frames.{formulaIn, commandBytes, numberOf, answerTo, commandAnswer}
 use Rattle.frames.specs.Reading.{tailOf, LineRead}
-use Rattle.frames.proofs.Reading.{long-add, read-full, read-short, tail-reaches}
+use Rattle.frames.proofs.Reading.{long-add, long-change, read-full, read-short, tail-reaches}
 use Rattle.replies.specs.Replies.{restOf}
-use Rattle.deciding.specs.Lines.{Framed, formulaGiven, formulaAfter, setsFormula, touchedField, LineStep, PanelStep, TouchStep, DecidedLine}
+use Rattle.deciding.specs.Lines.{Framed, formulaGiven, formulaAfter, setsFormula, touchedField, Replied, LineStep, PanelStep, TouchStep, KeptStep, DecidedLine, ChangedLine, Unasked}
 
 -- ---- formulas
 
@@ -51,11 +52,12 @@ pub formula-kept : (formulas : Formulas) (k : ℕ) → withFormula formulas k (f
 formula-kept formulas k = ap (λ (of : List Rule). record { of = of }) (set-getD (formulas .of) k (record { formula = None }))
 
 -- the formula after a reply, by its case
-pub after-refused : (c : Command) (tail : List ℕ) (r : Reply) (x : Refusal) (old : Formula) → r ≡ Refusing x → old ≡ formulaAfter c tail r old
-after-refused c tail r x old e = sym (ap (λ (r : Reply). formulaAfter c tail r old) e)
+pub after-refused : (c : Command) (tail : List ℕ) (r : Reply) (x : Refusal) (covered : ℕ) (old : Formula) → r ≡ Refusing x → old ≡ formulaAfter c tail r covered old
+after-refused c tail r x covered old e = sym (ap (λ (r : Reply). formulaAfter c tail r covered old) e)
 
-pub after-accepted : (c : Command) (tail : List ℕ) (r : Reply) (m : ℕ) (old : Formula) → r ≡ Accepted m → formulaGiven c tail old ≡ formulaAfter c tail r old
-after-accepted c tail r m old e = sym (ap (λ (r : Reply). formulaAfter c tail r old) e)
+pub after-accepted : (c : Command) (tail : List ℕ) (r : Reply) (m covered : ℕ) (old : Formula) → r ≡ Accepted m
+    → formulaGiven c tail covered old ≡ formulaAfter c tail r covered old
+after-accepted c tail r m covered old e = sym (ap (λ (r : Reply). formulaAfter c tail r covered old) e)
 
 -- ---- tags, as the last arm of a match tells them
 
@@ -81,34 +83,37 @@ not-among tag (a ∷ b ∷ cs) e (inr h) = go (eqb tag a) e (not-among tag (b �
 
 -- ---- what the commands do, by their tags
 
--- only a removal and a formula that is given change one
-pub given-kept : (c : Command) (tail : List ℕ) (old : Formula) → setsFormula c ≡ false → old ≡ formulaGiven c tail old
-given-kept (Open n) tail old h = refl
-given-kept (Add id level) tail old h = refl
-given-kept (Remove id) tail old h = absurd (clash refl h)
-given-kept (Touch f) tail old h = refl
-given-kept Plan tail old h = refl
-given-kept (Enter f b) tail old h = refl
-given-kept (Relate id form) tail old h = absurd (clash refl h)
-given-kept (Refused x) tail old h = refl
+-- only a removal, a change and a formula that is given change one
+pub given-kept : (c : Command) (tail : List ℕ) (covered : ℕ) (old : Formula) → setsFormula c ≡ false → old ≡ formulaGiven c tail covered old
+given-kept (Open n) tail covered old h = refl
+given-kept (Add id level) tail covered old h = refl
+given-kept (Remove id) tail covered old h = absurd (clash refl h)
+given-kept (Touch f) tail covered old h = refl
+given-kept Plan tail covered old h = refl
+given-kept (Change id level) tail covered old h = absurd (clash refl h)
+given-kept (Enter f b) tail covered old h = refl
+given-kept (Relate id form) tail covered old h = absurd (clash refl h)
+given-kept (Refused x) tail covered old h = refl
 
-pub sets-none : (c : Command) → OneOf (0 ∷ 1 ∷ 3 ∷ 4 ∷ 5 ∷ 7 ∷ []) (tagOf the-type c) → false ≡ setsFormula c
+pub sets-none : (c : Command) → OneOf (0 ∷ 1 ∷ 3 ∷ 4 ∷ 6 ∷ 8 ∷ []) (tagOf the-type c) → false ≡ setsFormula c
 sets-none (Open n) h = refl
 sets-none (Add id level) h = refl
-sets-none (Remove id) h = absurd (not-among 2 (0 ∷ 1 ∷ 3 ∷ 4 ∷ 5 ∷ 7 ∷ []) refl h)
+sets-none (Remove id) h = absurd (not-among 2 (0 ∷ 1 ∷ 3 ∷ 4 ∷ 6 ∷ 8 ∷ []) refl h)
 sets-none (Touch f) h = refl
 sets-none Plan h = refl
+sets-none (Change id level) h = absurd (not-among 5 (0 ∷ 1 ∷ 3 ∷ 4 ∷ 6 ∷ 8 ∷ []) refl h)
 sets-none (Enter f b) h = refl
-sets-none (Relate id form) h = absurd (not-among 6 (0 ∷ 1 ∷ 3 ∷ 4 ∷ 5 ∷ 7 ∷ []) refl h)
+sets-none (Relate id form) h = absurd (not-among 7 (0 ∷ 1 ∷ 3 ∷ 4 ∷ 6 ∷ 8 ∷ []) refl h)
 sets-none (Refused x) h = refl
 
-pub touches-none : (c : Command) → OneOf (0 ∷ 1 ∷ 2 ∷ 4 ∷ 6 ∷ 7 ∷ []) (tagOf the-type c) → 0 ≡ touchedField c
+pub touches-none : (c : Command) → OneOf (0 ∷ 1 ∷ 2 ∷ 4 ∷ 5 ∷ 7 ∷ 8 ∷ []) (tagOf the-type c) → 0 ≡ touchedField c
 touches-none (Open n) h = refl
 touches-none (Add id level) h = refl
 touches-none (Remove id) h = refl
-touches-none (Touch f) h = absurd (not-among 3 (0 ∷ 1 ∷ 2 ∷ 4 ∷ 6 ∷ 7 ∷ []) refl h)
+touches-none (Touch f) h = absurd (not-among 3 (0 ∷ 1 ∷ 2 ∷ 4 ∷ 5 ∷ 7 ∷ 8 ∷ []) refl h)
 touches-none Plan h = refl
-touches-none (Enter f b) h = absurd (not-among 5 (0 ∷ 1 ∷ 2 ∷ 4 ∷ 6 ∷ 7 ∷ []) refl h)
+touches-none (Change id level) h = refl
+touches-none (Enter f b) h = absurd (not-among 6 (0 ∷ 1 ∷ 2 ∷ 4 ∷ 5 ∷ 7 ∷ 8 ∷ []) refl h)
 touches-none (Relate id form) h = refl
 touches-none (Refused x) h = refl
 
@@ -121,22 +126,32 @@ formula-after formulas k given after false h = h refl
 -- ---- steps
 
 module _ (s : Sheet) (k : ℕ) (tail path rows : List ℕ) where
-  -- a command of document 01, whose reply has no rows
+  -- a command of the panel, whose reply has no rows
+  pub solved-replied : (command : Command) (c : panel.Command) (r : Reply)
+      → commandAnswer s command tail ≡ answerTo (performed s (solving c)) → restOf command r ≡ 0
+      → (isRefusal (panel.performed (s .panel) c .reply) ≡ false
+      → withFormula (s .formulas) k (formulaGiven command tail (linkAt (s .panel .links) k .covered) (formulaAt (s .formulas) k)) ≡ formulasAfter s c)
+      → replyBytes r ≡ panel.performed (s .panel) c .reply → Replied s k command tail rows (s .values) r
+  solved-replied command c r e z given told =
+      let gives : Formula = formulaGiven command tail (linkAt (s .panel .links) k .covered) (formulaAt (s .formulas) k) in
+      record {
+        formulas =
+            ap (λ (b : List ℕ). withFormula (s .formulas) k (cond (isRefusal b) (formulaAt (s .formulas) k) gives)) told
+            ∙ formula-after (s .formulas) k gives (formulasAfter s c) (isRefusal (panel.performed (s .panel) c .reply)) given
+            ∙ ap (λ (a : Answered Sheet). a .state .formulas) (sym e);
+        values = ap (λ (a : Answered Sheet). a .state .values) (sym e);
+        reply = rw z (append-nil (replyBytes r)) ∙ told ∙ ap (λ (a : Answered Sheet). a .reply) (sym e);
+        rest = omega arith;
+      }
+
   pub solved-step : length rows ≡ rowsLength → (command : Command) (c : panel.Command) (step : Step)
       → commandAnswer s command tail ≡ answerTo (performed s (solving c)) → restOf command (step .reply) ≡ 0
       → (isRefusal (panel.performed (s .panel) c .reply) ≡ false
-      → withFormula (s .formulas) k (formulaGiven command tail (formulaAt (s .formulas) k)) ≡ formulasAfter (s .formulas) c)
+      → withFormula (s .formulas) k (formulaGiven command tail (linkAt (s .panel .links) k .covered) (formulaAt (s .formulas) k)) ≡ formulasAfter s c)
       → Decides (s .panel) k c path step → LineStep s k command tail path rows (s .values) step
   solved-step full command c step e z given d = record {
     takes = subst (λ (a : Answered Sheet). Takes (s .panel) k path step (a .state .panel)) (sym e) (d .takes);
-    formulas =
-        ap (λ (b : List ℕ). withFormula (s .formulas) k (cond (isRefusal b) (formulaAt (s .formulas) k) (formulaGiven command tail (formulaAt (s .formulas) k)))) (d .reply)
-        ∙ formula-after (s .formulas) k (formulaGiven command tail (formulaAt (s .formulas) k)) (formulasAfter (s .formulas) c)
-        (isRefusal (panel.performed (s .panel) c .reply)) given
-        ∙ ap (λ (a : Answered Sheet). a .state .formulas) (sym e);
-    values = ap (λ (a : Answered Sheet). a .state .values) (sym e);
-    reply = rw z (append-nil (replyBytes (step .reply))) ∙ d .reply ∙ ap (λ (a : Answered Sheet). a .reply) (sym e);
-    rest = omega arith;
+    replied = solved-replied command c (step .reply) e z given (d .reply);
     rows-full = full;
   }
 
@@ -145,10 +160,7 @@ module _ (s : Sheet) (k : ℕ) (tail path rows : List ℕ) where
         → LineStep s k (Refused x) tail path rows (s .values) (unchanged (s .panel .size) (s .panel .place) named (Refusing x))
     refused-step full x = record {
       takes = takes-size (s .panel) k named (Refusing x) same path long (s .panel .size) (s .panel) refl;
-      formulas = formula-kept (s .formulas) k;
-      values = refl;
-      reply = append-nil (replyBytes (Refusing x));
-      rest = omega arith;
+      replied = record { formulas = formula-kept (s .formulas) k; values = refl; reply = append-nil (replyBytes (Refusing x)); rest = omega arith };
       rows-full = full;
     }
 
@@ -160,14 +172,16 @@ module _ (s : Sheet) (k : ℕ) (tail path rows : List ℕ) where
         let reply : List ℕ = checkReply (formulaChecks (s .panel) id formula) in
         record {
           takes = takes-size (s .panel) k named r same path long (s .panel .size) (s .panel) refl;
-          formulas =
-              ap (λ (b : List ℕ). withFormula (s .formulas) k (cond (isRefusal b) (formulaAt (s .formulas) k) formula)) told
-              ∙ formula-after (s .formulas) k formula (withFormula (s .formulas) id formula) (isRefusal reply)
-              (λ e. ap (λ (i : ℕ). withFormula (s .formulas) i formula)
-              (number ∙ mod-eq-of-lt (omega (arith, ltb-false 127 id (reply-passes (formulaChecks (s .panel) id formula) e .1 .0)))));
-          values = refl;
-          reply = append-nil (replyBytes r) ∙ told;
-          rest = omega arith;
+          replied = record {
+            formulas =
+                ap (λ (b : List ℕ). withFormula (s .formulas) k (cond (isRefusal b) (formulaAt (s .formulas) k) formula)) told
+                ∙ formula-after (s .formulas) k formula (withFormula (s .formulas) id formula) (isRefusal reply)
+                (λ e. ap (λ (i : ℕ). withFormula (s .formulas) i formula)
+                (number ∙ mod-eq-of-lt (omega (arith, ltb-false 127 id (reply-passes (formulaChecks (s .panel) id formula) e .1 .0)))));
+            values = refl;
+            reply = append-nil (replyBytes r) ∙ told;
+            rest = omega arith;
+          };
           rows-full = full;
         }
 
@@ -178,13 +192,15 @@ module _ (s : Sheet) (k : ℕ) (tail path rows : List ℕ) where
         let fits : 0 + length (drop 2 whole) ≤ length before = omega (arith, g .length-rows, g .few) in
         record {
           takes = takes-size (s .panel) k named r same path long (s .panel .size) (panel.performed (s .panel) planning .panel) (sym (plan-keeps (s .panel)));
-          formulas = either (isRefusal (replyBytes r)) (isRefusal whole);
-          values = refl;
-          reply =
-              ap₂ (λ (a : List ℕ) (b : List ℕ). a ++ b) (g .reply)
-              (ap (take (planRest r)) (g .rows ∙ sets-eq (drop 2 whole) before 0 fits) ∙ take-at (drop 2 whole) (drop (0 + length (drop 2 whole)) before) (planRest r) (g .length-rows))
-              ∙ take-append-drop 2 whole;
-          rest = g .few;
+          replied = record {
+            formulas = either (isRefusal (replyBytes r)) (isRefusal whole);
+            values = refl;
+            reply =
+                ap₂ (λ (a : List ℕ) (b : List ℕ). a ++ b) (g .reply)
+                (ap (take (planRest r)) (g .rows ∙ sets-eq (drop 2 whole) before 0 fits) ∙ take-at (drop 2 whole) (drop (0 + length (drop 2 whole)) before) (planRest r) (g .length-rows))
+                ∙ take-append-drop 2 whole;
+            rest = g .few;
+          };
           rows-full = ap length (g .rows) ∙ simp length-sets size;
         }
       where
@@ -195,45 +211,46 @@ module _ (s : Sheet) (k : ℕ) (tail path rows : List ℕ) where
         either false true = formula-kept (s .formulas) k
         either false false = formula-kept (s .formulas) k
 
--- a tail that goes to the end: the field bytes of an add
-pub add-tail : (p : Panel) (k id level : ℕ) (b path : List ℕ) (s : Step) → Decides p k (adding id level (take (length b - 3) (drop 3 b))) path s
-    → Decides p k (adding id level (drop 3 b)) path s
-add-tail p k id level b path s d = rw (take-all (length b - 3) (drop 3 b) (omega (arith, length-drop 3 b))) at d
+-- a tail that goes to the end: the field bytes
+pub tail-whole : (b : List ℕ) → take (length b - 3) (drop 3 b) ≡ drop 3 b
+tail-whole b = take-all (length b - 3) (drop 3 b) (omega (arith, length-drop 3 b))
 
 pub framed : (s : List ℕ) (r : Line) → LineRead s r → Framed r
 framed s r h = record {
   short = read-short s r h;
   full = read-full s r h;
-  reaches = λ id level e.
-      tail-reaches s r 0x02 id level (omega arith) h (ap (λ (c : Command). commandBytes c (tailOf r)) e) (long-add level);
+  reaches = λ id level. ⊎-elim (λ e. tail-reaches s r 0x02 id level (omega arith) h (ap (λ (c : Command). commandBytes c (tailOf r)) e) (long-add level))
+      (λ e. tail-reaches s r 0x06 id level (omega arith) h (ap (λ (c : Command). commandBytes c (tailOf r)) e) (long-change level));
 }
 
 -- a touch, or a value that is entered
-pub touched-step : (p : Panel) (k : ℕ) (named : Link) (tail path rows : List ℕ) (s : Step) (c : Command) → OneOf (3 ∷ 5 ∷ []) (tagOf the-type c)
+pub touched-step : (p : Panel) (k : ℕ) (named : Link) (tail path rows : List ℕ) (s : Step) (c : Command) → OneOf (3 ∷ 6 ∷ []) (tagOf the-type c)
     → length rows ≡ rowsLength → Decides p k (touching (touchedField c)) path s → DecidedLine p k named tail path rows s c
-touched-step p k named tail path rows s (Open n) h full d = absurd (not-among 0 (3 ∷ 5 ∷ []) refl h)
-touched-step p k named tail path rows s (Add id level) h full d = absurd (not-among 1 (3 ∷ 5 ∷ []) refl h)
-touched-step p k named tail path rows s (Remove id) h full d = absurd (not-among 2 (3 ∷ 5 ∷ []) refl h)
+touched-step p k named tail path rows s (Open n) h full d = absurd (not-among 0 (3 ∷ 6 ∷ []) refl h)
+touched-step p k named tail path rows s (Add id level) h full d = absurd (not-among 1 (3 ∷ 6 ∷ []) refl h)
+touched-step p k named tail path rows s (Remove id) h full d = absurd (not-among 2 (3 ∷ 6 ∷ []) refl h)
 touched-step p k named tail path rows s (Touch f) h full d =
     λ formulas values. solved-step (sheetOf p formulas values) k tail path rows full (Touch f) (touching f) s refl refl (λ a. formula-kept formulas k) d
-touched-step p k named tail path rows s Plan h full d = absurd (not-among 4 (3 ∷ 5 ∷ []) refl h)
+touched-step p k named tail path rows s Plan h full d = absurd (not-among 4 (3 ∷ 6 ∷ []) refl h)
+touched-step p k named tail path rows s (Change id level) h full d = absurd (not-among 5 (3 ∷ 6 ∷ []) refl h)
 touched-step p k named tail path rows s (Enter f b) h full d = record { decides = d; rows-full = full }
-touched-step p k named tail path rows s (Relate id form) h full d = absurd (not-among 6 (3 ∷ 5 ∷ []) refl h)
-touched-step p k named tail path rows s (Refused x) h full d = absurd (not-among 7 (3 ∷ 5 ∷ []) refl h)
+touched-step p k named tail path rows s (Relate id form) h full d = absurd (not-among 7 (3 ∷ 6 ∷ []) refl h)
+touched-step p k named tail path rows s (Refused x) h full d = absurd (not-among 8 (3 ∷ 6 ∷ []) refl h)
 
 pub entered-touch : (p : Panel) (named : Link) (tail path rows : List ℕ) (s : Step) (c : Command) (f b : ℕ) → c ≡ Enter f b
     → DecidedLine p (numberOf c) named tail path rows s c → TouchStep p 0 f path rows s
 entered-touch p named tail path rows s c f b e d = subst (λ (x : Command). DecidedLine p (numberOf x) named tail path rows s x) e d
 
--- the step of a line that is no removal and enters no value
-pub decided-step : (p : Panel) (k : ℕ) (named : Link) (tail path rows : List ℕ) (s : Step) (c : Command)
-    → OneOf (0 ∷ 1 ∷ 3 ∷ 4 ∷ 5 ∷ 6 ∷ 7 ∷ []) (tagOf the-type c) → OneOf (0 ∷ 1 ∷ 2 ∷ 3 ∷ 4 ∷ 6 ∷ 7 ∷ []) (tagOf the-type c)
-    → DecidedLine p k named tail path rows s c → PanelStep p k c tail path rows s
-decided-step p k named tail path rows s (Open n) h g d = d
-decided-step p k named tail path rows s (Add id level) h g d = d
-decided-step p k named tail path rows s (Remove id) h g d = absurd (not-among 2 (0 ∷ 1 ∷ 3 ∷ 4 ∷ 5 ∷ 6 ∷ 7 ∷ []) refl h)
-decided-step p k named tail path rows s (Touch f) h g d = d
-decided-step p k named tail path rows s Plan h g d = d
-decided-step p k named tail path rows s (Enter f b) h g d = absurd (not-among 5 (0 ∷ 1 ∷ 2 ∷ 3 ∷ 4 ∷ 6 ∷ 7 ∷ []) refl g)
-decided-step p k named tail path rows s (Relate id form) h g d = d
-decided-step p k named tail path rows s (Refused x) h g d = d
+-- no change is asked
+pub unasked : (p : Panel) (tail levels others reads : List ℕ) (before worked : ℕ) (r : Changed) (c : Command)
+    → OneOf (0 ∷ 1 ∷ 2 ∷ 3 ∷ 4 ∷ 6 ∷ 7 ∷ 8 ∷ []) (tagOf the-type c) → Unasked p levels others reads before worked r
+    → ChangedLine p tail levels others reads before worked r c
+unasked p tail levels others reads before worked r (Open n) h u = u
+unasked p tail levels others reads before worked r (Add id level) h u = u
+unasked p tail levels others reads before worked r (Remove id) h u = u
+unasked p tail levels others reads before worked r (Touch f) h u = u
+unasked p tail levels others reads before worked r Plan h u = u
+unasked p tail levels others reads before worked r (Change id level) h u = absurd (not-among 5 (0 ∷ 1 ∷ 2 ∷ 3 ∷ 4 ∷ 6 ∷ 7 ∷ 8 ∷ []) refl h)
+unasked p tail levels others reads before worked r (Enter f b) h u = u
+unasked p tail levels others reads before worked r (Relate id form) h u = u
+unasked p tail levels others reads before worked r (Refused x) h u = u

@@ -1,4 +1,8 @@
 // The step of one line, by its command.
+use changing::Changed;
+use changing::change;
+use fieldbytes::read_fields;
+use fieldset::wide;
 use formulas::Formula;
 use formulas::Rule;
 use frames::Command;
@@ -12,15 +16,17 @@ use panel::Step;
 use panel::unchanged;
 use relating::relate;
 ghost use mathlib.Core.Path.{_≡_};
+ghost use Prim.Native.Nat.{_≤_};
 ghost use lib.ListN.{length};
 ghost use Rattle.panel.specs.Items.{linkAt};
 ghost use Rattle.panel.specs.Answers.{rowsLength};
+ghost use Rattle.panel.specs.Commands.{coveredIn};
 ghost use Rattle.panel.specs.Outcomes.{unchanged};
 ghost use Rattle.panel.specs.Legal.{Legal};
 ghost use Rattle.tables.specs.Tables.{Tabled};
 ghost use Rattle.frames.specs.Frames.{numberOf};
 ghost use Rattle.frames.specs.Reading.{tailOf};
-ghost use Rattle.deciding.specs.Lines.{Framed, setsFormula, formulaAfter, touchedField, DecidedLine};
+ghost use Rattle.deciding.specs.Lines.{Framed, setsFormula, formulaAfter, touchedField, DecidedLine, ChangedLine};
 
 // The step of a line that leaves the panel as it is.
 fn keep(p: Panel, named: Link, reply: Reply) -> Step
@@ -36,15 +42,28 @@ pub fn sets_formula(command: Command) -> bool
 {
     match command {
         Command::Remove(_) => true,
+        Command::Change(_, _) => true,
         Command::Relate(_, _) => true,
         _ => false,
     }
 }
 
-// What a line and its reply leave of the formula of the link that its command names.
-pub fn rule_after(line: Line, reply: Reply, old: Rule) -> Rule
+// The fields that a line's link covers, whose field bytes stand behind the third byte of its frame.
+fn covered_by(line: Line) -> u64
+    requires { ⌜ Framed line × (3 ≤ line .len) ⌝ }
+    ensures { λ r. ⌜ r ≡ coveredIn (tailOf line) ⌝ }
+{
+    let bytes = line.frame;
+    let len = line.len;
+    let frame = &bytes[..len];
+    let fields = read_fields(&frame[3..]);
+    fields.covered
+}
+
+// What a line and its reply leave of the formula of the link that its command names; `covered` are the fields that the link covered before.
+pub fn rule_after(line: Line, reply: Reply, covered: u64, old: Rule) -> Rule
     requires { ⌜ Framed line ⌝ }
-    ensures { λ r. ⌜ r .formula ≡ formulaAfter (line .command) (tailOf line) reply (old .formula) ⌝ }
+    ensures { λ r. ⌜ r .formula ≡ formulaAfter (line .command) (tailOf line) reply covered (old .formula) ⌝ }
 {
     let command = line.command;
     match reply {
@@ -53,6 +72,15 @@ pub fn rule_after(line: Line, reply: Reply, old: Rule) -> Rule
             Command::Remove(_) => Rule {
                 formula: Formula::None,
             },
+            Command::Change(_, _) => {
+                if covered == covered_by(line) {
+                    old
+                } else {
+                    Rule {
+                        formula: Formula::None,
+                    }
+                }
+            }
             Command::Relate(_, form) => {
                 let formula = formula_of(line, form);
                 Rule { formula: formula }
@@ -73,7 +101,8 @@ fn touched(command: Command) -> u8
     }
 }
 
-// The step of a line by its command, but for a removal; for a value that is entered, the step of its touch. `named` is the link of the number that the command names.
+// The step of a line by its command, but for a removal and a change, for which it leaves the panel as it is; for a value that is entered, the step of
+// its touch. `named` is the link of the number that the command names.
 pub fn decide_line(
     p: Panel,
     named: Link,
@@ -108,6 +137,7 @@ pub fn decide_line(
             )
         }
         Command::Remove(_) => keep(p, named, Reply::Accepted(0)),
+        Command::Change(_, _) => keep(p, named, Reply::Accepted(0)),
         Command::Plan => {
             let reply = planning::plan(p, levels, others, reads, rows);
             keep(p, named, reply)
@@ -120,4 +150,41 @@ pub fn decide_line(
         // a touch, or a value that is entered: one call, so that the compiler inlines it
         _ => touching::touch(p, named, levels, others, reads, touched(command), path),
     }
+}
+
+// The panel and the reply after the change that a line asks, with the panel's tables. Where the removal makes a scan, `worked` becomes the number of
+// strengths that were worked out for it. A line that asks no change is not answered here.
+pub fn changed(
+    p: Panel,
+    levels: &mut [u8; 64],
+    others: &mut [u64; 64],
+    reads: &mut [u64; 64],
+    line: Line,
+    worked: &mut u8,
+) -> Changed
+    requires { ⌜ Legal p × Tabled p (now levels) (now others) (now reads) × Framed line ⌝ }
+    ensures { λ r. ⌜ ChangedLine p (tailOf line) (now (levels .exit)) (now (others .exit)) (now (reads .exit)) (now (worked .entry)) (now (worked .exit)) r (line .command) ⌝ }
+{
+    let command = line.command;
+    let Command::Change(id, level) = command else {
+        return Changed {
+            panel: p,
+            reply: Reply::Accepted(0),
+        };
+    };
+    let named = p.links[wide(id % 128)];
+    let bytes = line.frame;
+    let len = line.len;
+    let frame = &bytes[..len];
+    change(
+        p,
+        named,
+        levels,
+        others,
+        reads,
+        id,
+        level,
+        &frame[3..],
+        worked,
+    )
 }

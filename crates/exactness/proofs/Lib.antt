@@ -1,3 +1,4 @@
 pub mod Values
 pub mod Solutions
 pub mod Lists
+pub mod Changes

@@ -14,26 +14,29 @@ use native.Mathlib.Omega.{arith}
 use Rattle.fieldset.specs.Tables.{at}
 use Rattle.fieldset.specs.Lists.{In}
 use Rattle.fieldset.proofs.Lists.{all-in}
+use Rattle.panel.specs.declared.Link.{Link}
 use Rattle.panel.specs.declared.Panel.{Panel}
 use Rattle.panel.specs.declared.Refusal.the-variants.{Conflict}
 use Rattle.panel.specs.declared.Standing.the-variants.{Holding}
-use Rattle.panel.specs.Items.{link, stay, linkAt}
+use Rattle.panel.specs.Items.{link, stay, linkAt, isInForce}
 use Rattle.panel.specs.Answers.{refusalBytes, isRefusal}
 use Rattle.panel.specs.Panels.{opened}
 use Rattle.panel.specs.Solution.{planOf}
 use Rattle.panel.specs.Legal.{Legal}
 use Rattle.panel.specs.Commands as panel
-use Rattle.panel.specs.Commands.{opening, adding, removing, touching, planning, Check, checkReply}
+use Rattle.panel.specs.Commands.{opening, adding, removing, touching, planning, changing, coveredIn, Check, checkReply}
 use Rattle.panel.proofs.Reversed.{setter-number, setter-own}
+use Rattle.panel.proofs.InForce.{used-force}
 use Rattle.panel.proofs.Changes.{legal-opened}
-use Rattle.panel.proofs.Performed.{removed-number, opened-unopened}
+use Rattle.panel.proofs.Checks.{removable, changeable, change-removes}
+use Rattle.panel.proofs.Performed.{removed-number, changed-passes, opened-unopened}
 use Rattle.formulas.specs.declared.Formula.{Formula}
 use Rattle.formulas.specs.declared.Formula.the-variants.{None}
 use Rattle.formulas.specs.declared.Formulas.{Formulas}
 use Rattle.formulas.specs.declared.Rule.{Rule}
 use Rattle.optimality.specs.Condition3 as store
 use Rattle.optimality.specs.Condition3.{Entry, Store, held, Run, stepped}
-use Rattle.optimality.specs.Agreement.{entryFor, Agrees, Sound}
+use Rattle.optimality.specs.Agreement.{entryFor, entryOf, Agrees, Sound}
 use Rattle.optimality.proofs.Matchings.{pair-setter}
 use Rattle.optimality.proofs.Graphs.{settersOf}
 use Rattle.optimality.proofs.Held.{plan-whole, held-pairs}
@@ -46,12 +49,12 @@ use Rattle.optimality.proofs.Removing.{looks-alike}
 use Rattle.optimality.proofs.Loops.{command-exactly}
 use Rattle.optimality.proofs.Runs.{performed-sound, kept-after, every-system, after-sound}
 use Rattle.sheet.specs.declared.Sheet.{Sheet}
-use Rattle.sheet.specs.Sheets.{unopened, formulaAt, withFormula}
+use Rattle.sheet.specs.Sheets.{formulaAt, withFormula}
 use Rattle.sheet.specs.Commands.{Command, solving, entering, relating, Answer, formulasAfter, formulaChecks, related, performed}
 use Rattle.sheet.specs.Legal.{LegalSheet}
 use Rattle.sheet.proofs.Answers.{entering-reply}
 use Rattle.sheet.proofs.Legal.{reply-passes, Left, Stored, entering-cases, entered-formulas, legal-sheet, blank-none, legal-blank}
-use Rattle.exactness.specs.Lists.{entered, sheets, start, Condition3, EveryState, EitherReading, ConflictAndLoop, EnteringNeverConflict, FormulasFit, ValuesWithin, ValuesRight, OutOfRangeWhereNone, gives, givenAfter, FormulasGiven, HeldRight, ZeroAtOpening, OthersKeepValues}
+use Rattle.exactness.specs.Lists.{entered, sheets, start, Condition3, EveryState, EitherReading, ConflictAndLoop, EnteringNeverConflict, FormulasFit, ValuesWithin, ValuesRight, OutOfRangeWhereNone, coveredOf, giving, gives, givenAfter, FormulasGiven, HeldRight, ZeroAtOpening, OthersKeepValues}
 use Rattle.exactness.proofs.Values.{entered-exactly}
 use Rattle.exactness.proofs.Solutions.{out-of-range-exactly, values-only}
 
@@ -108,14 +111,14 @@ entering-never-conflict s f v =
 
 -- ---- legal sheets
 
-abbrev LegalRun : Run sheets → Type 0
+abbrev pub LegalRun : Run sheets → Type 0
 LegalRun r = LegalSheet (r .state)
 
 legal-kept : (r : Run sheets) (c : Command) → LegalRun r → LegalRun (stepped sheets r c)
 unfolding stepped
 legal-kept r c h = legal-sheet (r .state) h c
 
-legal-after : store.AfterEveryList sheets start LegalRun
+pub legal-after : store.AfterEveryList sheets start LegalRun
 legal-after = kept-after sheets LegalRun legal-kept start (legal-blank (opened 0) (legal-opened 0 zero-le))
 
 pub formulas-fit : FormulasFit
@@ -146,43 +149,60 @@ module _ (s : Sheet) (h : LegalSheet s) (given : ℕ → Formula) (same : (k : �
           ap (λ (r : Rule). r .formula) (getD-set-other (s .formulas .of) id k (record { formula = formula }) (record { formula = None }) d)
           ∙ same k ∙ sym (rw (ne-eqb k id d) refl)
 
-  -- one command more
-  given-step : (c : Command) (k : ℕ) → formulaAt (performed s c .sheet .formulas) k ≡ cond (isRefusal (performed s c .reply)) given (gives given c) k
-  given-step (solving c) k = go (isRefusal (panel.performed (s .panel) c .reply)) refl c refl
-    where
-      go : (b : Bool) → isRefusal (panel.performed (s .panel) c .reply) ≡ b → (d : panel.Command) → c ≡ d
-          → formulaAt (cond b (s .formulas) (formulasAfter (s .formulas) d)) k ≡ cond b given (gives given (solving d)) k
-      go true e d i = same k
-      go false e (opening n) i = same k
-      go false e (adding id level bytes) i = same k
-      go false e (removing id) i = put id None (removed-number (s .panel) id (rw i at e)) k
-      go false e (touching f) i = same k
-      go false e planning i = same k
-  given-step (entering f v) k = ap (λ (x : Formulas). formulaAt x k) (entered-formulas s f v) ∙ same k ∙ sym (always (isRefusal (performed s (entering f v) .reply)))
-    where
-      always : (b : Bool) → cond b given given k ≡ given k
-      always true = refl
-      always false = refl
-  given-step (relating id formula) k = go (checkReply cs) refl (isRefusal (checkReply cs)) refl
-    where
-      cs : List Check
-      cs = formulaChecks (s .panel) id formula
+  module _ (b : Store) (agrees : Agrees b (s .panel)) where
+    -- a link that is in use covers what the store says
+    covers : (id : ℕ) → linkAt (s .panel .links) id .used ≡ true → coveredOf (b .links id) ≡ linkAt (s .panel .links) id .covered
+    covers id u = ap coveredOf (agrees .links id) ∙ go (linkAt (s .panel .links) id) (used-force (linkAt (s .panel .links) id) u)
+      where
+        go : (l : Link) → isInForce l ≡ true → coveredOf (entryOf l) ≡ l .covered
+        go l e = rw e refl
 
-      go : (reply : List ℕ) → checkReply cs ≡ reply → (b : Bool) → isRefusal reply ≡ b
-          → formulaAt (related s id formula reply .sheet .formulas) k ≡ cond (isRefusal reply) given (gives given (relating id formula)) k
-      go reply e true t = rw t (same k)
-      go reply e false t = rw t (put id formula (omega (arith, ltb-false 127 id (reply-passes cs (rw e t) .1 .0))) k)
+    -- one command more
+    given-step : (c : Command) (k : ℕ) → formulaAt (performed s c .sheet .formulas) k ≡ cond (isRefusal (performed s c .reply)) given (gives b given c) k
+    given-step (solving c) k = go (isRefusal (panel.performed (s .panel) c .reply)) refl c refl
+      where
+        go : (t : Bool) → isRefusal (panel.performed (s .panel) c .reply) ≡ t → (d : panel.Command) → c ≡ d
+            → formulaAt (cond t (s .formulas) (formulasAfter s d)) k ≡ cond t given (gives b given (solving d)) k
+        go true e d i = same k
+        go false e (opening n) i = same k
+        go false e (adding id level bytes) i = same k
+        go false e (removing id) i = put id None (removed-number (s .panel) id (rw i at e)) k
+        go false e (touching f) i = same k
+        go false e planning i = same k
+        go false e (changing id level bytes) i =
+            let passed = changed-passes (s .panel) id level bytes (rw i at e) in
+            rw (covers id (removable (s .panel) id (change-removes (s .panel) id level bytes passed) .used))
+            (either-covers (changeable (s .panel) id level bytes passed .number) (eqb (linkAt (s .panel .links) id .covered) (coveredIn bytes)))
+          where
+            either-covers : id < 128 → (t : Bool) → formulaAt (cond t (s .formulas) (withFormula (s .formulas) id None)) k ≡ cond t given (giving given id None) k
+            either-covers l true = same k
+            either-covers l false = put id None l k
+    given-step (entering f v) k = ap (λ (x : Formulas). formulaAt x k) (entered-formulas s f v) ∙ same k ∙ sym (always (isRefusal (performed s (entering f v) .reply)))
+      where
+        always : (t : Bool) → cond t given given k ≡ given k
+        always true = refl
+        always false = refl
+    given-step (relating id formula) k = go (checkReply cs) refl (isRefusal (checkReply cs)) refl
+      where
+        cs : List Check
+        cs = formulaChecks (s .panel) id formula
 
-given-after : (commands : List Command) (r : Run sheets) → LegalRun r → (given : ℕ → Formula) → ((k : ℕ) → formulaAt (r .state .formulas) k ≡ given k)
-    → (k : ℕ) → formulaAt (store.after sheets r commands .state .formulas) k ≡ givenAfter (r .state) given commands k
+        go : (reply : List ℕ) → checkReply cs ≡ reply → (t : Bool) → isRefusal reply ≡ t
+            → formulaAt (related s id formula reply .sheet .formulas) k ≡ cond (isRefusal reply) given (giving given id formula) k
+        go reply e true t = rw t (same k)
+        go reply e false t = rw t (put id formula (omega (arith, ltb-false 127 id (reply-passes cs (rw e t) .1 .0))) k)
+
+given-after : (commands : List Command) (r : Run sheets) → LegalRun r → SoundRun r → (given : ℕ → Formula) → ((k : ℕ) → formulaAt (r .state .formulas) k ≡ given k)
+    → (k : ℕ) → formulaAt (store.after sheets r commands .state .formulas) k ≡ givenAfter r given commands k
 unfolding store.after givenAfter stepped
-given-after [] r h given same k = same k
-given-after (c ∷ cs) r h given same k =
-    given-after cs (stepped sheets r c) (legal-kept r c h) (cond (isRefusal (performed (r .state) c .reply)) given (gives given c)) (given-step (r .state) h given same c) k
+given-after [] r h x given same k = same k
+given-after (c ∷ cs) r h x given same k =
+    given-after cs (stepped sheets r c) (legal-kept r c h) (sound-kept r c x) (cond (isRefusal (performed (r .state) c .reply)) given (gives (r .store) given c))
+    (given-step (r .state) h given same (r .store) (x .agrees) c) k
 
 pub formulas-given : FormulasGiven
 formulas-given commands =
-    given-after commands start (legal-blank (opened 0) (legal-opened 0 zero-le)) (λ i. None) (λ k. blank-none (opened 0) k)
+    given-after commands start (legal-blank (opened 0) (legal-opened 0 zero-le)) start-sound (λ i. None) (λ k. blank-none (opened 0) k)
 
 -- ---- what Plan answers
 
@@ -217,7 +237,7 @@ held-right commands f v ok =
     let h = legal-after commands in
     let k = legal-sheet (r .state) h (entering f v) .panel in
     let x = entered-exactly (r .state) h f v ok in
-    let given : (i : ℕ) → formulaAt (a .sheet .formulas) i ≡ givenAfter unopened (λ n. None) commands i =
+    let given : (i : ℕ) → formulaAt (a .sheet .formulas) i ≡ givenAfter start (λ n. None) commands i =
     λ i. ap (λ (y : Formulas). formulaAt y i) (entered-formulas (r .state) f v) ∙ formulas-given commands i in
     let agrees : Agrees (store.entered (r .store) (touching f)) (a .sheet .panel) = rw ok at (sheet-sound (r .store) (r .state) (entering f v) (sound-after commands)) .agrees in
     record {

@@ -1,10 +1,10 @@
--- What holds after every list of commands, kinds 07 and 08 among them (document 02, request 2): statements.
+-- What holds after every list of commands, kinds 06 to 08 among them (document 02, requests 2 and 5): statements.
 use Prim.Native.Nat.{ℕ}
 use mathlib.Core.Path.{_≡_}
 use mathlib.Core.Bool.{false, cond}
 use mathlib.Core.List.{List, [], _∷_}
 use mathlib.Core.Logic.{_≢_}
-use mathlib.Core.Option.{some}
+use mathlib.Core.Option.{Option, none, some}
 use lib.Dec.{eqb}
 use lib.IntN.{ℤ, pos}
 use Rattle.panel.specs.declared.Refusal.the-variants.{Conflict}
@@ -12,7 +12,7 @@ use Rattle.fieldset.specs.Lists.{In}
 use Rattle.panel.specs.Items.{link, stay, linkAt}
 use Rattle.panel.specs.Answers.{refusalBytes, isRefusal}
 use Rattle.panel.specs.Commands as panel
-use Rattle.panel.specs.Commands.{opening, adding, removing, touching, planning}
+use Rattle.panel.specs.Commands.{opening, adding, removing, touching, planning, changing, coveredIn}
 use Rattle.values.specs.Limits.{valueAt, outside}
 use Rattle.formulas.specs.declared.Formula.{Formula}
 use Rattle.formulas.specs.declared.Formula.the-variants.{None}
@@ -22,7 +22,7 @@ use Rattle.sheet.specs.Sheets.{unopened, formulaAt}
 use Rattle.sheet.specs.Commands.{Command, solving, entering, relating, performed}
 use Rattle.sheet.specs.Legal.{Fits}
 use Rattle.optimality.specs.Condition3 as store
-use Rattle.optimality.specs.Condition3.{Entry, Store, empty, held, Optimal, System, Run, after, AfterEveryList}
+use Rattle.optimality.specs.Condition3.{Entry, Store, empty, held, Optimal, System, Run, stepped, after, AfterEveryList}
 use Rattle.optimality.specs.States.{Settled, NothingBlocked, LooksAlike, NothingBetter}
 use Rattle.optimality.specs.Refusals.{ConflictExactly, LoopExactly}
 use Rattle.exactness.specs.Values.{EnteredExactly, OutOfRangeExactly, ValuesOnly}
@@ -47,7 +47,7 @@ sheets =
 abbrev pub start : Run sheets
 start = record { state = unopened; store = empty }
 
--- condition 3 of the tender, over lists with kinds 07 and 08
+-- condition 3 of the tender, over lists with kinds 06 to 08
 abbrev pub Condition3 : Type 0
 Condition3 = AfterEveryList sheets start (λ r. Optimal (r .store) (sheets .plan (r .state)))
 
@@ -73,25 +73,37 @@ EnteringNeverConflict = (s : Sheet) (f : ℕ) (v : ℤ) → performed s (enterin
 
 -- ---- formulas and values
 
--- the formula of each number, as the commands that were not refused gave it: "A new formula replaces the old, and removal drops it"
-abbrev pub gives : (ℕ → Formula) → Command → ℕ → Formula
-gives given (solving (opening n)) = given
-gives given (solving (adding id level bytes)) = given
-gives given (solving (removing id)) = λ k. cond (eqb k id) None (given k)
-gives given (solving (touching f)) = given
-gives given (solving planning) = given
-gives given (entering f v) = given
-gives given (relating id formula) = λ k. cond (eqb k id) formula (given k)
+-- the fields that a link of the store covers
+abbrev pub coveredOf : Option Entry → ℕ
+coveredOf none = 0
+coveredOf (some e) = e .covered
 
--- from a sheet on: a refused command gives nothing
-unfoldable pub givenAfter : Sheet → (ℕ → Formula) → List Command → ℕ → Formula
-givenAfter s given [] = given
-givenAfter s given (c ∷ cs) = givenAfter (performed s c .sheet) (cond (isRefusal (performed s c .reply)) given (gives given c)) cs
+-- another formula at a number
+abbrev pub giving : (ℕ → Formula) → ℕ → Formula → ℕ → Formula
+giving given id formula = λ k. cond (eqb k id) formula (given k)
+
+-- the formula of each number, as the commands that were not refused gave it: "A new formula replaces the old, and removal drops it"; of a change, "its
+-- formula kept if the covered fields are the same, else dropped" (document 02, request 5)
+abbrev pub gives : Store → (ℕ → Formula) → Command → ℕ → Formula
+gives b given (solving (opening n)) = given
+gives b given (solving (adding id level bytes)) = given
+gives b given (solving (removing id)) = giving given id None
+gives b given (solving (touching f)) = given
+gives b given (solving planning) = given
+gives b given (solving (changing id level bytes)) = cond (eqb (coveredOf (b .links id)) (coveredIn bytes)) given (giving given id None)
+gives b given (entering f v) = given
+gives b given (relating id formula) = giving given id formula
+
+-- from a run on: a refused command gives nothing
+unfoldable pub givenAfter : Run sheets → (ℕ → Formula) → List Command → ℕ → Formula
+givenAfter r given [] = given
+givenAfter r given (c ∷ cs) =
+    givenAfter (stepped sheets r c) (cond (isRefusal (sheets .reply (r .state) c)) given (gives (r .store) given c)) cs
 
 -- they are the formulas of the sheet
 abbrev pub FormulasGiven : Type 0
 FormulasGiven =
-    (commands : List Command) (k : ℕ) → formulaAt (after sheets start commands .state .formulas) k ≡ givenAfter unopened (λ i. None) commands k
+    (commands : List Command) (k : ℕ) → formulaAt (after sheets start commands .state .formulas) k ≡ givenAfter start (λ i. None) commands k
 
 -- "zero at opening"
 abbrev pub ZeroAtOpening : Type 0
@@ -132,7 +144,7 @@ HeldRight =
     (commands : List Command) (f : ℕ) (v : ℤ) → let r = after sheets start commands in
     let a = performed (r .state) (entering f v) in
     isRefusal (a .reply) ≡ false
-    → HeldExactly (r .store) (givenAfter unopened (λ i. None) commands) (sheets .plan (a .sheet)) f v (valueAt (r .state .values)) (valueAt (a .sheet .values))
+    → HeldExactly (r .store) (givenAfter start (λ i. None) commands) (sheets .plan (a .sheet)) f v (valueAt (r .state .values)) (valueAt (a .sheet .values))
 
 -- where the touch is accepted and no link sets f, a value is refused with OutOfRange exactly where no values are right; an accepted one has the only ones
 abbrev pub OutOfRangeWhereNone : Type 0

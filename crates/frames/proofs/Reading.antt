@@ -25,7 +25,7 @@ use Rattle.hex.proofs.Stores.{sets-fit}
 use Rattle.frames.specs.declared.Command.{Command}
 use Rattle.frames.specs.declared.Command.the-variants.{Refused}
 use Rattle.frames.specs.declared.Line.{Line}
-use Rattle.frames.specs.Frames.{fitsFormula, fitsKind, isFrame, checkedFrame, badHex, frameOf, pairOf, wordOf, formulaIn, commandBytes}
+use Rattle.frames.specs.Frames.{fitsFormula, fitsKind, hasFields, isFrame, checkedFrame, badHex, frameOf, pairOf, wordOf, formulaIn, commandBytes}
 use Rattle.frames.specs.Reading.{tailOf, keptBytes, LineRead}
 
 -- ---- bit 6 of the field bytes, from a position of a frame on
@@ -53,13 +53,13 @@ module _ (f : List ℕ) (n : ℕ) (size : length f ≡ frameRoom) (short : n ≤
 -- the kinds, as a match on the kind tells them apart
 abbrev pub OtherKind : ℕ → Type 0
 OtherKind k =
-    ((((((Unit {0} × (k ≡ 0x01 → ⊥)) × (k ≡ 0x02 → ⊥)) × (k ≡ 0x03 → ⊥)) × (k ≡ 0x04 → ⊥)) × (k ≡ 0x05 → ⊥)) × (k ≡ 0x07 → ⊥)) × (k ≡ 0x08 → ⊥)
+    (((((((Unit {0} × (k ≡ 0x01 → ⊥)) × (k ≡ 0x02 → ⊥)) × (k ≡ 0x03 → ⊥)) × (k ≡ 0x04 → ⊥)) × (k ≡ 0x05 → ⊥)) × (k ≡ 0x06 → ⊥)) × (k ≡ 0x07 → ⊥)) × (k ≡ 0x08 → ⊥)
 
 pub fits-other : (k form n : ℕ) → OtherKind k → false ≡ fitsKind k form n
 unfolding fitsKind
 fits-other k form n o =
-    let (((((((_, a), b), c), d), e), f), g) = o in
-    simp (ne-eqb k 1 a, ne-eqb k 2 b, ne-eqb k 3 c, ne-eqb k 4 d, ne-eqb k 5 e, ne-eqb k 7 f, ne-eqb k 8 g)
+    let ((((((((_, a), b), c), d), e), f), g), h) = o in
+    simp (ne-eqb k 1 a, ne-eqb k 2 b, ne-eqb k 3 c, ne-eqb k 4 d, ne-eqb k 5 e, ne-eqb k 6 f, ne-eqb k 7 g, ne-eqb k 8 h)
 
 pub fits-at : (k′ k form n : ℕ) → k ≡ k′ → fitsKind k′ form n ≡ fitsKind k form n
 fits-at k′ k form n e = ap (λ (x : ℕ). fitsKind x form n) (sym e)
@@ -97,10 +97,14 @@ fits-short k form n e = go (ltb n frameRoom) refl where
   go true t = ltb-true n frameRoom t
   go false t = absurd (true≢false (sym e ∙ fits-many k form n (ltb-false n frameRoom t)))
 
--- an add, a value and a formula have more than three bytes
+-- an add, a change, a value and a formula have more than three bytes
 pub long-add : (form n : ℕ) → fitsKind 0x02 form n ≡ true → 4 ≤ n
 unfolding fitsKind
 long-add form n e = leb-true 4 n (and-left (leb 4 n) (leb n 11) e)
+
+pub long-change : (form n : ℕ) → fitsKind 0x06 form n ≡ true → 4 ≤ n
+unfolding fitsKind
+long-change form n e = leb-true 4 n (and-left (leb 4 n) (leb n 11) e)
 
 pub long-value : (form n : ℕ) → fitsKind 0x07 form n ≡ true → 4 ≤ n
 unfolding fitsKind
@@ -170,23 +174,23 @@ module _ (f : List ℕ) (n : ℕ) (size : length f ≡ frameRoom) where
     taken-fits : fitsKind k (at (take n f) 2) (length (take n f)) ≡ true
     taken-fits = ap (λ (x : ℕ). fitsKind x (at (take n f) 2) (length (take n f))) (sym kind-taken) ∙ fits-taken f n size ∙ fits
 
-    pub kind-read : eqb k 0x02 && anyOf hasBit6 (drop 3 (take n f)) ≡ false → take n f ≡ checkedFrame (take n f)
+    pub kind-read : hasFields k && anyOf hasBit6 (drop 3 (take n f)) ≡ false → take n f ≡ checkedFrame (take n f)
     unfolding isFrame checkedFrame
     kind-read low = sym (simp (kind-taken, taken-fits, low))
 
-    pub bit6-read : eqb k 0x02 && anyOf hasBit6 (drop 3 (take n f)) ≡ true → 0xFF ∷ refusalBytes BadFrame ≡ checkedFrame (take n f)
+    pub bit6-read : hasFields k && anyOf hasBit6 (drop 3 (take n f)) ≡ true → 0xFF ∷ refusalBytes BadFrame ≡ checkedFrame (take n f)
     unfolding isFrame checkedFrame
     bit6-read high = sym (simp (kind-taken, high, and-false))
 
     -- a kind with one length m: its first m bytes
-    pub exact-read : (m : ℕ) → fitsKind k (at f 2) n ≡ eqb n m → eqb k 0x02 && anyOf hasBit6 (drop 3 (take n f)) ≡ false
+    pub exact-read : (m : ℕ) → fitsKind k (at f 2) n ≡ eqb n m → hasFields k && anyOf hasBit6 (drop 3 (take n f)) ≡ false
         → take m (k ∷ at f 1 ∷ at f 2 ∷ drop 3 f) ≡ checkedFrame (take n f)
     exact-read m one low =
         let e : n ≡ m = eqb-true n m (sym one ∙ fits-at k (at f 0) (at f 2) n kind ∙ fits) in
         ap₂ (λ (i : ℕ) (x : ℕ). take i (x ∷ at f 1 ∷ at f 2 ∷ drop 3 f)) (sym e) (sym kind) ∙ ap (take n) (parts f (omega arith)) ∙ kind-read low
 
     -- a kind with two values and further bytes
-    pub long-read : 4 ≤ n → eqb k 0x02 && anyOf hasBit6 (drop 3 (take n f)) ≡ false
+    pub long-read : 4 ≤ n → hasFields k && anyOf hasBit6 (drop 3 (take n f)) ≡ false
         → k ∷ at f 1 ∷ at f 2 ∷ drop 3 (take n f) ≡ checkedFrame (take n f)
     long-read h low =
         let b : List ℕ = take n f in
@@ -295,7 +299,7 @@ Fits b = (at b 0 ≡ 0xFF → ⊥) → fitsKind (at b 0) (at b 2) (length b) ≡
 
 checked-fits : (b : List ℕ) → Fits (checkedFrame b)
 unfolding checkedFrame isFrame
-checked-fits b = go (fitsKind (at b 0) (at b 2) (length b)) (not (eqb (at b 0) 0x02 && anyOf hasBit6 (drop 3 b))) refl where
+checked-fits b = go (fitsKind (at b 0) (at b 2) (length b)) (not (hasFields (at b 0) && anyOf hasBit6 (drop 3 b))) refl where
   go : (x y : Bool) → fitsKind (at b 0) (at b 2) (length b) ≡ x → Fits (cond (x && y) b (0xFF ∷ refusalBytes BadFrame))
   go true true e h = e
   go true false e h = absurd (h refl)

@@ -10,16 +10,18 @@ ghost use Rattle.hex.specs.Hex.{frameRoom};
 ghost use mathlib.Core.List.{[], _∷_};
 ghost use Rattle.fieldset.specs.Tables.{at};
 ghost use Rattle.values.specs.Words.{valueOf};
-ghost use Rattle.frames.specs.Frames.{fitsFormula, fitsKind, checkedFrame, pairOf, wordOf, formulaIn, formulaBytes, commandBytes, numberOf};
+ghost use Rattle.frames.specs.Frames.{fitsFormula, fitsLink, fitsKind, hasFields, checkedFrame, pairOf, wordOf, formulaIn, formulaBytes, commandBytes, numberOf};
 ghost use Rattle.frames.specs.Reading.{tailOf, LineRead};
 
-// What a line asks. What a frame has behind its third byte stands beside it, in the frame: the field bytes of an add, the rest of a value or of a formula.
+// What a line asks. What a frame has behind its third byte stands beside it, in the frame: the field bytes of a link, the rest of a value or of a
+// formula.
 pub enum Command {
     Open(u8),
     Add(u8, u8),
     Remove(u8),
     Touch(u8),
     Plan,
+    Change(u8, u8),
     // a field, and the first byte of the value
     Enter(u8, u8),
     // a link's number, and the kind of the formula
@@ -45,20 +47,35 @@ fn fits_formula(form: u8, n: usize) -> bool
     }
 }
 
+// Whether n bytes fit a link behind the kind: its number, level and 1 to 8 field bytes.
+fn fits_link(n: usize) -> bool
+    ensures { λ r. ⌜ r ≡ fitsLink n ⌝ }
+{
+    4 <= n && n <= 11
+}
+
 // Whether n bytes fit the kind of a frame, whose third byte is `form`.
 fn fits_kind(kind: u8, form: u8, n: usize) -> bool
     ensures { λ r. ⌜ r ≡ fitsKind kind form n ⌝ }
 {
     match kind {
         0x01 => n == 2,
-        0x02 => 4 <= n && n <= 11,
+        0x02 => fits_link(n),
         0x03 => n == 2,
         0x04 => n == 2,
         0x05 => n == 1,
+        0x06 => fits_link(n),
         0x07 => n == 6,
         0x08 => fits_formula(form, n),
         _ => false,
     }
+}
+
+// Whether a kind has field bytes.
+fn has_fields(kind: u8) -> bool
+    ensures { λ r. ⌜ r ≡ hasFields kind ⌝ }
+{
+    kind == 0x02 || kind == 0x06
 }
 
 // Whether bit 6 is set in a field byte of a frame of n bytes.
@@ -85,17 +102,18 @@ pub fn read_frame(frame: &[u8; hex::FRAME_ROOM], n: usize) -> Command
     if !fits_kind(kind, frame[2], n) {
         return Command::Refused(Refusal::BadFrame);
     }
+    if has_fields(kind) {
+        if has_bit6(frame, n) {
+            return Command::Refused(Refusal::BadFrame);
+        }
+    }
     match kind {
         0x01 => Command::Open(frame[1]),
-        0x02 => {
-            if has_bit6(frame, n) {
-                return Command::Refused(Refusal::BadFrame);
-            }
-            Command::Add(frame[1], frame[2])
-        }
+        0x02 => Command::Add(frame[1], frame[2]),
         0x03 => Command::Remove(frame[1]),
         0x04 => Command::Touch(frame[1]),
         0x05 => Command::Plan,
+        0x06 => Command::Change(frame[1], frame[2]),
         0x07 => Command::Enter(frame[1], frame[2]),
         0x08 => Command::Relate(frame[1], frame[2]),
         _ => Command::Refused(Refusal::BadFrame),
@@ -215,6 +233,7 @@ pub fn number_of(command: Command) -> u8
         Command::Remove(id) => id % 128,
         Command::Touch(_) => 0,
         Command::Plan => 0,
+        Command::Change(id, _) => id % 128,
         Command::Enter(_, _) => 0,
         Command::Relate(id, _) => id % 128,
         Command::Refused(_) => 0,

@@ -10,7 +10,7 @@ use Rattle.ordering.specs.Order.{next, following, order, hasLoop}
 use Rattle.panel.specs.Items.{setterOf, isInForce, itemsOf}
 use Rattle.panel.specs.Panels.{opened, dropped, toFront, moved}
 use Rattle.panel.specs.Solution.{strengthOf, isBlocked, pathFor, reversed, least, leastBlocked, planOf, isLooped, rowsOf}
-use Rattle.panel.specs.Steps.{reverseStep, enterStep, removeStep, touchStep, planStep}
+use Rattle.panel.specs.Steps.{reverseStep, enterStep, removeStep, touchStep, planStep, changeStep}
 use Rattle.panel.specs.Commands.{anyOf, fieldsIn, isRising, areFieldBytes, checked, checkReply}
 use Rattle.values.specs.Ratios.{rounded, scaled}
 use Rattle.values.specs.Sums.{sumℤ, total}
@@ -36,7 +36,7 @@ items-all = refl
 pub items-hold : Hold items
 unfolding characters items outputOf output written tallyAfter replies refusalOf linesOf lineAnswer commandOf frameOf checkedFrame isFrame fitsKind fitsFormula
     tallyBytes threeBytes tallied more lineOf hexOf bytesOf isHex offsetOf areDigits charOf digitOf isDigit checked areFieldBytes isRising fieldsIn anyOf
-    planStep touchStep removeStep enterStep reverseStep rowsOf isLooped planOf leastBlocked least reversed pathFor isBlocked strengthOf moved
+    planStep touchStep changeStep removeStep enterStep reverseStep rowsOf isLooped planOf leastBlocked least reversed pathFor isBlocked strengthOf moved
     toFront dropped opened itemsOf isInForce setterOf tabulate hasLoop order following next path strongest lowestAt strength greatest within only
     without with setOf member lowest any count
 items-hold = refl
@@ -44,7 +44,7 @@ items-hold = refl
 pub further-hold : Hold further
 unfolding characters further outputOf output written tallyAfter replies refusalOf linesOf lineAnswer commandOf frameOf checkedFrame isFrame fitsKind fitsFormula
     tallyBytes threeBytes tallied more lineOf hexOf bytesOf isHex offsetOf areDigits charOf digitOf isDigit checked areFieldBytes isRising fieldsIn anyOf
-    planStep touchStep removeStep enterStep reverseStep rowsOf isLooped planOf leastBlocked least reversed pathFor isBlocked strengthOf moved
+    planStep touchStep changeStep removeStep enterStep reverseStep rowsOf isLooped planOf leastBlocked least reversed pathFor isBlocked strengthOf moved
     toFront dropped opened itemsOf isInForce setterOf tabulate hasLoop order following next path strongest lowestAt strength greatest within only
     without with setOf member lowest any count
     entered checkReply accepted valueOf run computed scaled rounded total sumℤ lowestOf size
@@ -53,7 +53,7 @@ further-hold = refl
 pub values-hold : HoldValues worked
 unfolding characters worked stateAfter linesOf lineAnswer commandOf frameOf checkedFrame isFrame fitsKind fitsFormula
     bytesOf isHex offsetOf areDigits digitOf isDigit checked areFieldBytes isRising fieldsIn anyOf
-    planStep touchStep removeStep enterStep reverseStep rowsOf isLooped planOf leastBlocked least reversed pathFor isBlocked strengthOf moved
+    planStep touchStep changeStep removeStep enterStep reverseStep rowsOf isLooped planOf leastBlocked least reversed pathFor isBlocked strengthOf moved
     toFront dropped opened itemsOf isInForce setterOf tabulate hasLoop order following next path strongest lowestAt strength greatest within only
     without with setOf member lowest any count
     entered checkReply accepted valueOf run computed scaled rounded total sumℤ lowestOf size

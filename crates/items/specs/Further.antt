@@ -80,4 +80,31 @@ further =
     "0000\n0001\n0001\nFF06\n0000\nFF0F\nFF02\nFF06\nEE00000800000400000406\n"
     ∷ item "0103\n020000000182\n08000100010001\n070200000001\n074200000001\n" "0000\n0001\nFF0F\nFF0E\nFF07\nEE00000500000200000307\n"
     ∷ item "0102\n027F000081\n070100000001\n" "0000\n0001\nFF0E\nEE0000030000020000010E\n"
+    -- kind 06 (document 02, request 5): the level. At 9 link 0 waits behind link 1; at 6 it takes the field; at 0 link 1 gets the field and loses it
+    -- again, and "Moved compares the state before with the state after both"
+    ∷ item "0101\n02000580\n02010780\n06000980\n05\n06000680\n05\n06000080\n05\n"
+    "0000\n0001\n0000\n0001\n0001000107\n0001\n0001000006\n0000\n0001000000\nEE00000900000900000000\n"
+    -- the outputs; the link is the same setter where it sets the same field, whatever it reads: "a link of the same number being the same setter"
+    ∷ item "0103\n0200000081\n0600008001\n05\n0600000081\n0600008102\n05\n060000000182\n05\n"
+    "0000\n0001\n0002\n0003018011000000028012\n0002\n0000\n0003008010028012010000\n0002\n0003008010018011020000\nEE00000900000900000000\n"
+    -- a removal that turns two links, and the adding that turns them back: moved 0; at level 4 link 2 waits, and the removal's turning stays
+    ∷ item "0102\n0200008081\n02020380\n02010581\n02030481\n0401\n05\n06020380\n05\n06020480\n05\n"
+    "0000\n0001\n0001\n0000\n0000\n0000\n0002000203010003\n0000\n0002000203010003\n0002\n0002010304000004\nEE00000B00000B00000000\n"
+    -- "then the adding's Conflict or Loop; a refusal changes nothing": link 0 still holds field 0, and link 1 still sets 0
+    ∷ item "0102\n02000080\n02010081\n06000081\n05\n"
+    "0000\n0001\n0001\nFF0A\n0002000000010100\nEE0000050000040000010A\n"
+    -- .. with a Loop
+    ∷ item "0102\n0200000081\n02010080\n0601008001\n05\n"
+    "0000\n0001\n0001\nFF0B\n0002000100010000\nEE0000050000040000010B\n"
+    -- .. behind a removal that turns links: Conflict, then Loop
+    ∷ item "0103\n0200008081\n02020380\n02010581\n02030481\n0204000182\n0401\n06020082\n0602008002\n05\n"
+    "0000\n0001\n0001\n0000\n0000\n0001\n0000\nFF0A\nFF0B\n0003000203010003020400\nEE00000A0000080000020B\n"
+    -- "the removal's Loop, then the adding's Conflict": the removal of link 0 has a Loop; under another number the link could be added, or has a
+    -- Conflict
+    ∷ item "0102\n02000080\n0201000081\n0202018001\n06000080\n06000180\n06000081\n02030180\n02040081\n05\n"
+    "0000\n0001\n0001\n0000\nFF0B\nFF0B\nFF0B\n0000\nFF0A\n0002000000010100\nEE00000A0000060000040A\n"
+    -- "Add's checks up to LinkTaken come first, with NoSuchLink in LinkTaken's place": BadFrame (length, bit 6), BadLink, NoSuchField, NoSuchLink
+    ∷ item
+    "06000080\n0102\n02000080\n060000\n060000808182838485868788\n060000C0\n0600008041\n06800082\n06001082\n0600008180\n06000002\n06010082\n06010080\n06000080\n"
+    "FF04\n0000\n0001\nFF02\nFF02\nFF02\nFF02\nFF06\nFF06\nFF06\nFF06\nFF07\nFF09\n0000\nEE00000E00000300000B09\n"
     ∷ []

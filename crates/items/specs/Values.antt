@@ -1,4 +1,5 @@
--- Worked values (document 02, request 2): the values of the fields after a text, from field 0 on, worked out by hand. Quotations are of that request.
+-- Worked values (document 02, request 2): the values of the fields after a text, from field 0 on, worked out by hand. Quotations are of that request if
+-- not of another.
 use Prim.Native.String.{String}
 use mathlib.Core.Path.{_≡_}
 use mathlib.Core.List.{List, [], _∷_, map}
@@ -53,4 +54,13 @@ worked =
     ∷ valued "0102\n0200000081\n08000101000001\n070000000007\n" (pos 7 ∷ pos 1792 ∷ [])
     -- the plan goes by what is read, not by number: field 2 is read by the setter of field 1, and field 1 by that of field 0
     ∷ valued "0103\n0200008001\n0201008102\n08000100010002\n08010100010003\n070200000005\n" (pos 30 ∷ pos 15 ∷ pos 5 ∷ [])
+    -- kind 06: "its formula kept if the covered fields are the same" (request 5), at another level, and where it sets the other field
+    ∷ valued "0102\n0200008081\n08000100020001\n0600058081\n070000000005\n" (pos 5 ∷ pos 10 ∷ [])
+    ∷ valued "0102\n0200008081\n08000100020001\n070000000005\n0600058001\n070100000007\n" (pos 4 ∷ pos 7 ∷ [])
+    -- "else dropped": with other fields, and with more
+    ∷ valued "0103\n0200000081\n08000100020001\n070000000003\n0600008102\n0600000081\n070000000004\n" (pos 4 ∷ pos 6 ∷ pos 0 ∷ [])
+    ∷ valued "0104\n020000000182\n08000202\n070000000003\n06000000018203\n070000000005\n" (pos 5 ∷ pos 0 ∷ pos 3 ∷ pos 0 ∷ [])
+    -- "a refusal changes nothing": link 0 still sets field 1, by its formula, after a Conflict (link 1 holds field 2) and after a Loop (link 1 reads 1)
+    ∷ valued "0103\n0200000081\n02010082\n08000100020001\n0600000082\n070000000004\n" (pos 4 ∷ pos 8 ∷ pos 0 ∷ [])
+    ∷ valued "0103\n0200000081\n0201000182\n08000100020001\n0600008102\n070000000004\n" (pos 4 ∷ pos 8 ∷ pos 0 ∷ [])
     ∷ []

@@ -2,11 +2,11 @@
 -- refusals that are allowed and what is said of an accepted answer: by cases along its checks (`checked-answer`) and its step. The theorems take
 -- the refusals that they need: all of them for `refused-unchanged`, all but Conflict for the commands that never give it.
 use Prim.Native.Nat.{ℕ, _≤_}
-use mathlib.Core.Path.{_≡_, refl, ap}
+use mathlib.Core.Path.{_≡_, refl, sym, ap, _∙_}
 use mathlib.Core.Bool.{Bool, true, false}
 use mathlib.Core.List.{List, [], _∷_}
 use mathlib.Core.Option.{Option, none, some}
-use mathlib.Core.Logic.{_≢_}
+use mathlib.Core.Logic.{_≢_, _⊎_, inl, inr, ⊎-elim}
 use native.Mathlib.Omega.{arith}
 use borrow.Author.Tests.{eqb-true, not-false}
 use lib.Dec.{eqb}
@@ -23,10 +23,11 @@ use Rattle.panel.specs.Items.{Item, link, stay, linkAt}
 use Rattle.panel.specs.Answers.{Answer, isRefusal, refused, refusalBytes}
 use Rattle.panel.specs.Panels.{opened, dropped, moved}
 use Rattle.panel.specs.Solution.{isBlocked, isLooped, pathFor, reversed, leastBlocked, planOf, rowsOf}
-use Rattle.panel.specs.Steps.{accepted, reverseStep, openStep, enterStep, addStep, settled, dropStep, removeStep, touchStep, planStep}
-use Rattle.panel.specs.Commands.{Command, opening, adding, removing, touching, planning, performed, Check, checked, Passes, isOpen, openChecks, addChecks, removeChecks, touchChecks, planChecks, coveredIn, outputsIn}
+use Rattle.panel.specs.Steps.{accepted, reverseStep, openStep, enterStep, addStep, settled, dropStep, removeStep, touchStep, planStep, changeStep}
+use Rattle.panel.specs.Commands.{Command, opening, adding, removing, touching, planning, changing, performed, Check, checked, Passes, isOpen, openChecks, addChecks, removeChecks, touchChecks, planChecks, changeChecks, coveredIn, outputsIn}
 use Rattle.panel.proofs.Answers.{refusals-apart}
-use Rattle.panel.proofs.Checks.{newLink}
+use Rattle.panel.proofs.Checks.{checked-step, newLink}
+use Rattle.panel.proofs.Performed.{pick}
 use Rattle.optimality.specs.Refusals.{WeakerNeverConflict, TouchNeverConflict, RemoveNeverConflict, RefusedUnchanged}
 
 -- ---- checks
@@ -53,10 +54,6 @@ pub data Outcome (R : Refusal → Type 0) (T : Panel → List ℕ → Type 0) (p
 abbrev pub Any : Panel → List ℕ → Type 0
 Any q bytes = Unit {0}
 
--- one of two answers
-abbrev pub pick : Bool → Answer → Answer → Answer
-pick t x y = elim t [ true ↦ x | false ↦ y ]
-
 -- T allows every panel with its moved count
 module _ (R : Refusal → Type 0) (T : Panel → List ℕ → Type 0) (p : Panel) (t : (q : Panel) → T q (moved p q ∷ [])) where
   pub reverse-outcome : (q : Panel) (c : Item) → R Loop → Outcome R T p (reverseStep p q c)
@@ -67,7 +64,7 @@ module _ (R : Refusal → Type 0) (T : Panel → List ℕ → Type 0) (p : Panel
       go true = no Loop l
       go false = yes _ _ (t _)
 
-  enter-outcome : (q : Panel) (id : ℕ) (x : Link) → R Loop → (x .level ≡ 0 → R Conflict) → Outcome R T p (enterStep p q id x)
+  pub enter-outcome : (q : Panel) (id : ℕ) (x : Link) → R Loop → (x .level ≡ 0 → R Conflict) → Outcome R T p (enterStep p q id x)
   unfolding enterStep
   enter-outcome q id x l k = go _ (isBlocked _ (link id)) (eqb (x .level) 0) refl
     where
@@ -80,9 +77,15 @@ module _ (R : Refusal → Type 0) (T : Panel → List ℕ → Type 0) (p : Panel
   settled-outcome q none l = yes _ _ (t q)
   settled-outcome q (some c) l = reverse-outcome q c l
 
-  drop-outcome : (q : Panel) (s : Standing) → R Loop → Outcome R T p (dropStep p q s)
+  pub drop-outcome : (q : Panel) (s : Standing) → R Loop → Outcome R T p (dropStep p q s)
   drop-outcome q Waiting l = yes _ _ (t q)
   drop-outcome q (Holding v) l = settled-outcome q (leastBlocked q) l
+
+  -- the removal's refusal, or what entering the link in the panel that it leaves gives
+  change-outcome : (a : Answer) → Outcome R Any p a → (id : ℕ) (x : Link) → R Loop → (x .level ≡ 0 → R Conflict)
+      → Outcome R T p (pick (isRefusal (a .reply)) a (enterStep p (a .panel) id x))
+  change-outcome a (no r h) id x l k = no r h
+  change-outcome a (yes q bytes h) id x l k = enter-outcome q id x l k
 
   touch-outcome : (f : ℕ) → R Loop → Outcome R T p (touchStep p f)
   unfolding touchStep
@@ -125,6 +128,13 @@ module _ (R : Refusal → Type 0) (T : Panel → List ℕ → Type 0) (p : Panel
         (given NotOpen (omega arith, omega arith), (given BadLink (omega arith, omega arith), (given NoSuchLink (omega arith, omega arith), tt)))
         (λ n. drop-outcome R T p t (dropped p id) (linkAt (p .links) id .standing) l)
 
+    pub changing-outcome : (id level : ℕ) (bytes : List ℕ) → (level ≡ 0 → R Conflict) → Outcome R T p (performed p (changing id level bytes))
+    unfolding changeStep removeStep
+    changing-outcome id level bytes k =
+        checked-answer (Outcome R T p) p (changeChecks p id level bytes) (changeStep p id level (coveredIn bytes) (outputsIn bytes))
+        (given NotOpen (omega arith, omega arith), (given BadLink (omega arith, omega arith), (given NoSuchField (omega arith, omega arith), (given NoSuchLink (omega arith, omega arith), tt))))
+        (λ n. change-outcome R T p t (removeStep p id) (drop-outcome R Any p (λ q. tt) (dropped p id) (linkAt (p .links) id .standing) l) id (newLink level bytes) l k)
+
     pub touching-outcome : (f : ℕ) → Outcome R T p (performed p (touching f))
     touching-outcome f =
         checked-answer (Outcome R T p) p (touchChecks p f) (touchStep p f)
@@ -141,6 +151,32 @@ unchanged : (R : Refusal → Type 0) (p : Panel) (a : Answer) → Outcome R Any 
 unchanged R p a (no r h) e = refl
 unchanged R p a (yes q bytes t) e = absurd (clash e refl)
 
+-- a refusal is one that R allows
+allowed : (R : Refusal → Type 0) (p : Panel) (a : Answer) → Outcome R Any p a → isRefusal (a .reply) ≡ true → (r : Refusal) × R r × (a ≡ refused p r)
+allowed R p a (no r h) e = (r, h, refl)
+allowed R p a (yes q bytes t) e = absurd (clash e refl)
+
+-- behind its checks a removal is refused with Loop only
+pub removal-loop : (p : Panel) (id : ℕ) → Passes (removeChecks p id) → isRefusal (performed p (removing id) .reply) ≡ true → performed p (removing id) ≡ refused p Loop
+unfolding removeStep
+removal-loop p id n e =
+    let step = checked-step p (removeChecks p id) (removeStep p id) n in
+    let (r, is, a) =
+    allowed (λ r. r ≡ Loop) p (removeStep p id) (drop-outcome (λ r. r ≡ Loop) Any p (λ q. tt) (dropped p id) (linkAt (p .links) id .standing) refl)
+    (sym (ap (λ (a : Answer). isRefusal (a .reply)) step) ∙ e) in
+    step ∙ a ∙ ap (refused p) is
+
+-- and an add with Conflict or Loop only
+pub add-conflict-or-loop : (p : Panel) (id level : ℕ) (bytes : List ℕ) → Passes (addChecks p id level bytes) → let a = performed p (adding id level bytes) in
+    isRefusal (a .reply) ≡ true → (a ≡ refused p Conflict) ⊎ (a ≡ refused p Loop)
+add-conflict-or-loop p id level bytes n e =
+    let step = checked-step p (addChecks p id level bytes) (addStep p id level (coveredIn bytes) (outputsIn bytes)) n in
+    let (r, is, a) =
+    allowed (λ r. (r ≡ Conflict) ⊎ (r ≡ Loop)) p (addStep p id level (coveredIn bytes) (outputsIn bytes))
+    (enter-outcome (λ r. (r ≡ Conflict) ⊎ (r ≡ Loop)) Any p (λ q. tt) p id (newLink level bytes) (inr refl) (λ z. inl refl))
+    (sym (ap (λ (a : Answer). isRefusal (a .reply)) step) ∙ e) in
+    ⊎-elim (λ x. inl (step ∙ a ∙ ap (refused p) x)) (λ x. inr (step ∙ a ∙ ap (refused p) x)) is
+
 -- any command, whatever its panel and its reply
 pub outcome-of : (R : Refusal → Type 0) (p : Panel) → ((r : Refusal) → OfChecks r → R r) → R Conflict → R Loop → (c : Command) → Outcome R Any p (performed p c)
 outcome-of R p early k l (opening n) = opening-outcome R Any p early (λ m. tt) n
@@ -148,6 +184,7 @@ outcome-of R p early k l (adding id level bytes) = adding-outcome R Any p early 
 outcome-of R p early k l (removing id) = removing-outcome R Any p early (λ q. tt) l id
 outcome-of R p early k l (touching f) = touching-outcome R Any p early (λ q. tt) l f
 outcome-of R p early k l planning = planning-outcome R Any p early (λ e. tt)
+outcome-of R p early k l (changing id level bytes) = changing-outcome R Any p early (λ q. tt) l id level bytes (λ e. k)
 
 pub refused-unchanged : RefusedUnchanged
 refused-unchanged p c = unchanged (λ r. Unit {0}) p (performed p c) (outcome-of (λ r. Unit {0}) p (λ r h. tt) tt tt c)

@@ -25,6 +25,7 @@ use Rattle.panel.proofs.Reversed.{reversedSetters}
 use Rattle.panel.proofs.Legal.{LegalBut}
 use Rattle.panel.proofs.Changes.{Enters, add-enters}
 use Rattle.panel.proofs.Checks.{addable, checked-step}
+use Rattle.panel.proofs.Performed.{pick}
 use Rattle.optimality.specs.Condition3.{Store, entry, Pair, AfterEveryList, panels, start}
 use Rattle.optimality.specs.Agreement.{entryFor, Agrees, Sound}
 use Rattle.optimality.specs.States.{HoldsRequired}
@@ -36,7 +37,7 @@ use Rattle.optimality.proofs.Graphs.{graphOf, settersOf, assigned, none
 use Rattle.optimality.proofs.Held.{plan-whole}
 use Rattle.optimality.proofs.Optimum.{matching-matches, matches-matching}
 use Rattle.optimality.proofs.Paths.{path-reversible, after-assigned}
-use Rattle.optimality.proofs.Answers.{pick, reverse-no-conflict}
+use Rattle.optimality.proofs.Answers.{reverse-no-conflict}
 use Rattle.optimality.proofs.Steps.{enter-here, enter-idle, enter-legal, enter-force, enter-agrees, enter-none}
 use Rattle.optimality.proofs.Runs.{after-sound}
 use Rattle.optimality.proofs.States.{required-force}

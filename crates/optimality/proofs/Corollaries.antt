@@ -11,12 +11,12 @@ use Rattle.fieldset.specs.Fields.{member}
 use Rattle.panel.specs.declared.Panel.{Panel}
 use Rattle.panel.specs.Items.{Item, link, stay, outputsOf, waits}
 use Rattle.panel.specs.Solution.{level, strengthOf}
-use Rattle.panel.specs.Commands.{Command, opening, adding, removing, touching, planning, performed}
+use Rattle.panel.specs.Commands.{Command, opening, adding, removing, touching, planning, changing, performed}
 use Rattle.optimality.specs.Condition3.{empty, levelIn, Pair, MaySet, Matching, countUpTo, rows, held, Walk, one, more, Loop, Optimal, System, Run, stepped, after, AfterEveryList, panels, start}
 use Rattle.optimality.specs.States.{Better}
 use Rattle.optimality.specs.Refusals.{Possible, GivesConflict}
 use Rattle.optimality.proofs.Graphs.{legal-whole, waits-true, none-unblocked}
-use Rattle.optimality.proofs.Answers.{opening-outcome, planning-outcome, Any, Not, no-conflict, weaker-never-conflict, touch-never-conflict, remove-never-conflict}
+use Rattle.optimality.proofs.Answers.{opening-outcome, planning-outcome, changing-outcome, Any, Not, no-conflict, weaker-never-conflict, touch-never-conflict, remove-never-conflict}
 use Rattle.optimality.proofs.Runs.{after-sound, every-system, every-start, condition-3}
 use Rattle.optimality.proofs.States.{settled, nothing-blocked, nothing-better}
 
@@ -66,18 +66,22 @@ module _ (commands : List Command) where
 
 -- ---- Conflict
 
--- an add of a required link
-pub data RequiredAdd : Command → Type 0 where
-  required-add : (id : ℕ) (bytes : List ℕ) → RequiredAdd (adding id 0 bytes)
+-- an add of a required link, or a change to one
+pub data EntersRequired : Command → Type 0 where
+  required-add : (id : ℕ) (bytes : List ℕ) → EntersRequired (adding id 0 bytes)
+  required-change : (id : ℕ) (bytes : List ℕ) → EntersRequired (changing id 0 bytes)
 
--- only such an add is refused with Conflict
-pub conflict-required-add : (p : Panel) (c : Command) → GivesConflict p c → RequiredAdd c
-conflict-required-add p (opening n) e = absurd (no-conflict p _ (opening-outcome (Not 10) Any p (λ r h. omega arith) (λ m. tt) n) e)
-conflict-required-add p (adding id zero bytes) e = required-add id bytes
-conflict-required-add p (adding id (suc l) bytes) e = absurd (weaker-never-conflict p id (suc l) bytes (omega arith) e)
-conflict-required-add p (removing id) e = absurd (remove-never-conflict p id e)
-conflict-required-add p (touching f) e = absurd (touch-never-conflict p f e)
-conflict-required-add p planning e = absurd (no-conflict p _ (planning-outcome (Not 10) Any p (λ r h. omega arith) (λ o. tt)) e)
+-- only such a command is refused with Conflict
+pub conflict-required : (p : Panel) (c : Command) → GivesConflict p c → EntersRequired c
+conflict-required p (opening n) e = absurd (no-conflict p _ (opening-outcome (Not 10) Any p (λ r h. omega arith) (λ m. tt) n) e)
+conflict-required p (adding id zero bytes) e = required-add id bytes
+conflict-required p (adding id (suc l) bytes) e = absurd (weaker-never-conflict p id (suc l) bytes (omega arith) e)
+conflict-required p (removing id) e = absurd (remove-never-conflict p id e)
+conflict-required p (touching f) e = absurd (touch-never-conflict p f e)
+conflict-required p planning e = absurd (no-conflict p _ (planning-outcome (Not 10) Any p (λ r h. omega arith) (λ o. tt)) e)
+conflict-required p (changing id zero bytes) e = required-change id bytes
+conflict-required p (changing id (suc l) bytes) e =
+    absurd (no-conflict p _ (changing-outcome (Not 10) Any p (λ r h. omega arith) (λ q. tt) (omega arith) id (suc l) bytes (λ e. absurd (omega arith))) e)
 
 -- ---- another system
 

@@ -15,8 +15,8 @@ use Rattle.ordering.specs.Order.{next, following, order, hasLoop}
 use Rattle.panel.specs.Items.{Item, link, stay, setterOf, isInForce, itemsOf}
 use Rattle.panel.specs.Panels.{opened, dropped, toFront, moved}
 use Rattle.panel.specs.Solution.{strengthOf, isBlocked, pathFor, reversed, least, leastBlocked, planOf, isLooped, rowsOf}
-use Rattle.panel.specs.Steps.{reverseStep, enterStep, removeStep, touchStep, planStep}
-use Rattle.panel.specs.Commands.{Command, opening, adding, removing, touching, planning, anyOf, fieldsIn, isRising, areFieldBytes, checked}
+use Rattle.panel.specs.Steps.{reverseStep, enterStep, removeStep, touchStep, changeStep, planStep}
+use Rattle.panel.specs.Commands.{Command, opening, adding, removing, touching, planning, changing, anyOf, fieldsIn, isRising, areFieldBytes, checked}
 use Rattle.optimality.specs.Condition3.{Store, empty, entered, strike, levelIn, Pair, items, Matching, countUpTo, rows, held, one, more, Loop, Optimal, Run, stepped, after, panels, start}
 use Rattle.optimality.specs.States.{Better}
 use Rattle.optimality.specs.Refusals.{Possible, Loops, reversal}
@@ -213,18 +213,24 @@ before-removal =
 abbrev before-add : List Command
 before-add = opening 2 ∷ adding 0 0 (0x00 ∷ 0x81 ∷ []) ∷ []
 
+-- 0102, 02000080, 0201000081, 0202018001; the change 06000081 does, by its removal, where its adding would meet Conflict
+abbrev before-change : List Command
+before-change = opening 2 ∷ adding 0 0 (0x80 ∷ []) ∷ adding 1 0 (0x00 ∷ 0x81 ∷ []) ∷ adding 2 1 (0x80 ∷ 0x01 ∷ []) ∷ []
+
 abbrev Looping : List Command → Command → Type 0
 Looping cs c = Loops (reversal (after panels start cs .state) c)
 
 -- "If the result has a loop, refuse with Loop": where Loop is given, the state with the path reversed has a loop
 loops-found : Looping before-add (adding 1 0 (0x80 ∷ 0x01 ∷ [])) × Looping before-removal (removing 2) × Looping before-touch (touching 1)
+    × Looping before-change (changing 0 0 (0x81 ∷ []))
 unfolding count any lowest tabulate member setOf with without only within greatest strength lowestAt strongest path next following order
     hasLoop setterOf isInForce opened dropped toFront moved strengthOf isBlocked pathFor reversed least leastBlocked itemsOf isLooped reverseStep
-    enterStep removeStep touchStep anyOf fieldsIn isRising areFieldBytes checked stepped after
+    enterStep removeStep changeStep touchStep anyOf fieldsIn isRising areFieldBytes checked stepped after
 loops-found = (
   loop-exactly before-add (adding 1 0 (0x80 ∷ 0x01 ∷ [])) (refl, (refl, (refl, (refl, tt)))) .0 refl,
   loop-exactly before-removal (removing 2) (refl, (refl, (refl, tt))) .0 refl,
   loop-exactly before-touch (touching 1) (refl, (refl, tt)) .0 refl,
+  loop-exactly before-change (changing 0 0 (0x81 ∷ [])) (refl, (refl, (refl, (refl, tt)))) .0 refl,
 )
 
 -- where it is not given, there is none

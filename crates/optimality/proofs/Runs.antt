@@ -1,8 +1,9 @@
--- Condition 3: every command leaves a sound state sound (`performed-sound`, by cases on the command: opening here, the others in `Steps` and
--- `Removing`), so every state after a list of commands is sound (`kept-after`, by induction on the list), and a sound state is optimal.
+-- Condition 3: every command leaves a sound state sound (`performed-sound`, by cases on the command: opening and a change here, the others in `Steps`
+-- and `Removing`), so every state after a list of commands is sound (`kept-after`, by induction on the list), and a sound state is optimal.
 use Prim.Native.Nat.{ℕ, _≤_, _<_, zero-le}
 use mathlib.Core.Path.{_≡_, refl, ap, _∙_}
-use mathlib.Core.List.{[], _∷_}
+use mathlib.Core.List.{List, [], _∷_}
+use mathlib.Core.Logic.{inl, inr}
 use mathlib.Core.Option.{none}
 use native.Mathlib.Omega.{arith}
 use borrow.Author.Tests.{ltb-true}
@@ -12,12 +13,14 @@ use Rattle.fieldset.proofs.Numbers.{clash}
 use Rattle.panel.specs.declared.Panel.{Panel}
 use Rattle.panel.specs.Items.{Item, link, stay, noLink, isInForce}
 use Rattle.panel.specs.Panels.{opened}
-use Rattle.panel.specs.Steps.{openStep, addStep, removeStep, touchStep, planStep}
-use Rattle.panel.specs.Commands.{Command, opening, adding, removing, touching, planning, performed, openChecks, addChecks, removeChecks, touchChecks, planChecks, coveredIn, outputsIn}
+use Rattle.panel.specs.Steps.{openStep, enterStep, addStep, removeStep, touchStep, planStep, changeStep}
+use Rattle.panel.specs.Answers.{Answer, isRefusal}
+use Rattle.panel.specs.Commands.{Command, opening, adding, removing, touching, planning, changing, performed, openChecks, addChecks, removeChecks, touchChecks, planChecks, changeChecks, Passes, coveredIn, outputsIn}
 use Rattle.panel.proofs.InForce.{unused-off}
 use Rattle.panel.proofs.Reversed.{setter-stay}
 use Rattle.panel.proofs.Changes.{legal-opened, unopened-links, add-enters}
-use Rattle.panel.proofs.Checks.{openable, addable, removable, touchable}
+use Rattle.panel.proofs.Checks.{newLink, openable, addable, removable, touchable, Linkable, changeable, change-removes}
+use Rattle.panel.proofs.Performed.{pick, Keeps, Without, removed-without, without-enters}
 use Rattle.optimality.specs.Condition3.{Store, empty, entered, System, Run, stepped, after, AfterEveryList, panels, start, Condition3}
 use Rattle.optimality.specs.Agreement.{EverySystem, Sound, EveryStart}
 use Rattle.optimality.proofs.Setters.{Waits}
@@ -50,6 +53,23 @@ opened-sound b n few no-links =
 no-links : (b : Store) (p : Panel) → Sound b p → p .size ≡ 0 → (i : ℕ) → b .links i ≡ none
 no-links b p x e i = x .agrees .links i ∙ rw (unopened-links p (x .legal) e) (default-entry i)
 
+-- ---- a change
+
+-- the removal leaves a sound panel, in which the link is entered
+change-sound : (b : Store) (p : Panel) → Sound b p → (id level : ℕ) (bytes : List ℕ) → Passes (changeChecks p id level bytes)
+    → SoundAfter b (entered b (changing id level bytes)) (changeStep p id level (coveredIn bytes) (outputsIn bytes))
+unfolding changeStep
+change-sound b p x id level bytes k =
+    go (removeStep p id) (remove-sound b p x id (new .number) (removable p id (change-removes p id level bytes k) .used)) (removed-without p id)
+  where
+    new : Linkable p id level bytes
+    new = changeable p id level bytes k
+
+    go : (a : Answer) → SoundAfter b (entered b (removing id)) a → Keeps (Without p id) p a
+        → SoundAfter b (entered b (changing id level bytes)) (pick (isRefusal (a .reply)) a (enterStep p (a .panel) id (newLink level bytes)))
+    go a s (inl (r, e)) = rw r (rw r (rw r at s))
+    go a s (inr (r, w)) = rw r (enter-sound (rw r at s) (without-enters w (x .legal) (new .number) level bytes (new .formed)) x)
+
 -- ---- the commands
 
 pub performed-sound : (b : Store) (p : Panel) (c : Command) → Sound b p → SoundAfter b (entered b c) (performed p c)
@@ -66,6 +86,9 @@ performed-sound b p (removing id) x =
 performed-sound b p (touching f) x =
     checked-answer (SoundAfter b (entered b (touching f))) p (touchChecks p f) (touchStep p f) (x, (x, tt)) (λ k. touch-sound b p x f (touchable p f k))
 performed-sound b p planning x = checked-answer (SoundAfter b b) p (planChecks p) (planStep p) (x, tt) (λ k. x)
+performed-sound b p (changing id level bytes) x =
+    checked-answer (SoundAfter b (entered b (changing id level bytes))) p (changeChecks p id level bytes) (changeStep p id level (coveredIn bytes) (outputsIn bytes))
+    (x, (x, (x, (x, tt)))) (λ k. change-sound b p x id level bytes k)
 
 -- ---- lists of commands
 

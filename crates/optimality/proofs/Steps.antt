@@ -30,10 +30,10 @@ use Rattle.panel.proofs.Legal.{LegalBut, filled, force-formed}
 use Rattle.panel.proofs.Setters.{setter-force}
 use Rattle.panel.proofs.Reversal.{blocking, legal-waits, legal-reversed}
 use Rattle.panel.proofs.Changes.{Enters, legal-add, legal-but, legal-front}
+use Rattle.panel.proofs.Performed.{pick}
 use Rattle.optimality.specs.Condition3.{Store, entry, entered}
 use Rattle.optimality.specs.Agreement.{entryFor, Agrees, Sound}
 use Rattle.optimality.proofs.Setters.{Waits, Free, Unblocked}
-use Rattle.optimality.proofs.Answers.{pick}
 use Rattle.optimality.proofs.Changes.{free-le, Change, changed-potential, changed-free, pushed, pushed-mono, pushed-ge, pushed-link, pushed-stay}
 use Rattle.optimality.proofs.Reversal.{reversal-unblocked}
 use Rattle.optimality.proofs.Graphs.{graphOf, settersOf, legal-whole, strength-least, none-unblocked, free-unblocked}

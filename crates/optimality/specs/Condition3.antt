@@ -16,7 +16,7 @@ use Rattle.panel.specs.declared.Panel.{Panel}
 use Rattle.panel.specs.Items.{Item, link, stay}
 use Rattle.panel.specs.Answers.{isRefusal}
 use Rattle.panel.specs.Panels.{opened}
-use Rattle.panel.specs.Commands.{Command, opening, adding, removing, touching, planning, performed, coveredIn, outputsIn}
+use Rattle.panel.specs.Commands.{Command, opening, adding, removing, touching, planning, changing, performed, coveredIn, outputsIn}
 
 -- ---- the constraint store (document 01's book)
 
@@ -44,18 +44,24 @@ unfoldable pub strike : ℕ → List ℕ → List ℕ
 strike f [] = []
 strike f (g ∷ gs) = cond (eqb g f) gs (g ∷ strike f gs)
 
+-- the link of an add or a change
+abbrev pub newEntry : ℕ → List ℕ → Entry
+newEntry level bytes = record { level = level; covered = coveredIn bytes; outputs = outputsIn bytes }
+
 -- what a command that is not refused changes in the store
 abbrev pub entered : Store → Command → Store
 -- "Opening enters the stays of fields 0 to n - 1, in that order"
 entered b (opening n) = record { stays = tabulate (λ f. f) n; links = b .links }
 -- "Add enters the link with its number, level, covered fields and outputs"
-entered b (adding id level bytes) = entry b id (some (record { level = level; covered = coveredIn bytes; outputs = outputsIn bytes }))
+entered b (adding id level bytes) = entry b id (some (newEntry level bytes))
 -- "Remove strikes out the link of that number"
 entered b (removing id) = entry b id none
 -- "Touch f moves f's stay to the front; the other stays keep their order"
 entered b (touching f) = record { stays = f ∷ strike f (b .stays); links = b .links }
 -- "A refused command and a plan change nothing in it"
 entered b planning = b
+-- a change "removes the link and adds it anew as one" (document 02, request 5): it is struck out and entered anew
+entered b (changing id level bytes) = entry (entry b id none) id (some (newEntry level bytes))
 
 abbrev pub levelOf : Option Entry → ℕ
 levelOf none = 0
@@ -200,6 +206,7 @@ panels =
 abbrev pub start : Run panels
 start = record { state = opened 0; store = empty }
 
--- "For every list of commands (opening, add, remove, touch, plan, refused ones included) from an unopened panel" (tender)
+-- "For every list of commands (opening, add, remove, touch, plan, refused ones included) from an unopened panel" (tender); "Kinds of command added later
+-- join the list": a change is one
 abbrev pub Condition3 : Type 0
 Condition3 = AfterEveryList panels start (λ r. Optimal (r .store) (panels .plan (r .state)))

@@ -2,7 +2,7 @@
 use Prim.Native.Nat.{ℕ, _<_}
 use mathlib.Core.Path.{_≡_}
 use mathlib.Core.Logic.{_↔_}
-use mathlib.Core.Bool.{Bool, true, false}
+use mathlib.Core.Bool.{Bool, true, false, cond}
 use mathlib.Core.List.{List}
 use mathlib.Core.Option.{Option, none, some}
 use Rattle.ordering.specs.Walks.{ClosedWalk}
@@ -15,7 +15,7 @@ use Rattle.panel.specs.Items.{Item, link, stay, linkAt}
 use Rattle.panel.specs.Answers.{isRefusal, refused}
 use Rattle.panel.specs.Panels.{waitingLink, withLink, dropped, toFront}
 use Rattle.panel.specs.Solution.{setterReads, isBlocked, pathFor, reversed, leastBlocked}
-use Rattle.panel.specs.Commands.{Command, opening, adding, removing, touching, planning, performed, coveredIn, outputsIn, Check, Passes, openChecks, addChecks, removeChecks, touchChecks, planChecks}
+use Rattle.panel.specs.Commands.{Command, opening, adding, removing, touching, planning, changing, performed, coveredIn, outputsIn, Check, Passes, openChecks, addChecks, removeChecks, touchChecks, planChecks, changeChecks}
 use Rattle.optimality.specs.Condition3.{Store, entered, Pair, Matching}
 use Rattle.optimality.specs.States.{HoldsRequired}
 
@@ -28,6 +28,7 @@ checksOf p (adding id level bytes) = addChecks p id level bytes
 checksOf p (removing id) = removeChecks p id
 checksOf p (touching f) = touchChecks p f
 checksOf p planning = planChecks p
+checksOf p (changing id level bytes) = changeChecks p id level bytes
 
 -- ---- Conflict
 
@@ -83,13 +84,17 @@ dropping q Waiting = none
 dropping q (Holding v) = settling q (leastBlocked q)
 
 -- the reversal that a command makes which passes its checks: Add's and Touch's where the link or stay is blocked, Remove's for the blocked item
--- of least level
+-- of least level; of a change the removal's where that is refused, else the add's, on the panel that the removal leaves
 unfoldable pub reversal : Panel → Command → Option Reversal
 reversal p (opening n) = none
 reversal p (adding id level bytes) = entering p id (waitingLink level (coveredIn bytes) (outputsIn bytes))
 reversal p (removing id) = dropping (dropped p id) (linkAt (p .links) id .standing)
 reversal p (touching f) = let q = toFront p f in reversing (isBlocked q (stay f)) q (stay f)
 reversal p planning = none
+reversal p (changing id level bytes) =
+    let removed = performed p (removing id) in
+    cond (isRefusal (removed .reply)) (dropping (dropped p id) (linkAt (p .links) id .standing))
+    (entering (removed .panel) id (waitingLink level (coveredIn bytes) (outputsIn bytes)))
 
 unfoldable pub reversedPanel : Reversal → Panel
 reversedPanel r = reversed (r .before) (r .item) (pathFor (r .before) (r .item))

@@ -135,7 +135,7 @@ pub record Enters (p : Panel) (i : ℕ) (l : Link) : Type 0 where
   pub rests : l .standing ≡ Waiting
 
 pub add-enters : {p : Panel} {id level : ℕ} {bytes : List ℕ} → Addable p id level bytes → Enters p id (newLink level bytes)
-add-enters a = record { number = a .number; free = unused-off _ (a .free); formed = a .formed; used = refl; rests = refl }
+add-enters a = record { number = a .link .number; free = unused-off _ (a .free); formed = a .link .formed; used = refl; rests = refl }
 
 -- whether the new link is required is left open
 pub legal-add : (p : Panel) (i : ℕ) (l : Link) → Legal p → Enters p i l → LegalBut (link i) (withLink p i l)

@@ -1,13 +1,13 @@
 -- What holds where no check applies, and what a reply of checks says. `checks-say` goes along two lists of checks that agree, check by check; the
--- laws of field bytes go along the list of bytes. `addable`, `removable`, `touchable` and `openable` then read off what a command needs that passes
--- its checks.
+-- laws of field bytes go along the list of bytes. `addable`, `removable`, `changeable`, `touchable` and `openable` then read off what a command needs
+-- that passes its checks.
 use Prim.Native.Nat.{ℕ, zero, suc, _+_, _%_, _^_, _≤_, _<_}
 use mathlib.Core.Path.{_≡_, refl, sym, ap, _∙_, subst}
 use mathlib.Core.Bool.{Bool, true, false, not, _&&_, _||_, or-false, or-comm}
 use mathlib.Core.List.{List, [], _∷_}
 use native.Mathlib.Nat.{mod-eq-of-lt}
 use native.Mathlib.Omega.{arith}
-use borrow.Author.Tests.{ltb-true, ltb-false, leb-true, leb-false, eqb-true, eqb-false, eq-eqb, not-false}
+use borrow.Author.Tests.{ltb-true, ltb-false, le-ltb, leb-true, leb-false, eqb-true, eqb-false, eq-eqb, not-false}
 use lib.Dec.{eqb, leb, ltb}
 use lib.ListN.{length}
 use Rattle.fieldset.specs.Fields.{member, with, without, size}
@@ -17,12 +17,13 @@ use Rattle.fieldset.proofs.Tests.{and-left, and-right}
 use Rattle.panel.specs.declared.Link.{Link}
 use Rattle.panel.specs.declared.Panel.{Panel}
 use Rattle.panel.specs.declared.Refusal.{Refusal}
+use Rattle.panel.specs.declared.Refusal.the-variants.{LinkTaken, NoSuchLink}
 use Rattle.panel.specs.declared.Reply.{Reply}
 use Rattle.panel.specs.declared.Reply.the-variants.{Accepted, Refused}
 use Rattle.panel.specs.Items.{linkAt}
-use Rattle.panel.specs.Answers.{Answer, refused, replyBytes}
+use Rattle.panel.specs.Answers.{Answer, isRefusal, refused, replyBytes}
 use Rattle.panel.specs.Panels.{waitingLink}
-use Rattle.panel.specs.Commands.{fieldOf, isOutput, hasBit6, anyOf, fieldsIn, coveredIn, outputsIn, isRising, areFieldBytes, Check, checked, checkReply, Passes, isOpen, openChecks, addChecks, removeChecks, touchChecks}
+use Rattle.panel.specs.Commands.{fieldOf, isOutput, hasBit6, anyOf, fieldsIn, coveredIn, outputsIn, isRising, areFieldBytes, Check, checked, checkReply, Passes, isOpen, openChecks, linkChecks, addChecks, removeChecks, changeChecks, touchChecks, check}
 use Rattle.panel.specs.Legal.{Formed}
 use Rattle.panel.proofs.Answers.{replies-apart}
 
@@ -33,6 +34,17 @@ pub checked-step : (p : Panel) (cs : List Check) (step : Answer) → Passes cs �
 unfolding checked
 checked-step p [] step n = refl
 checked-step p (c ∷ cs) step n = rw (n .0) (checked-step p cs step (n .1))
+
+-- where one does the answer is its refusal
+pub checked-refusal : (p : Panel) (cs : List Check) (step : Answer) → isRefusal (checkReply cs) ≡ true → checked p cs step ≡ record { panel = p; reply = checkReply cs }
+unfolding checked checkReply
+checked-refusal p [] step e = absurd (clash e refl)
+checked-refusal p (c ∷ cs) step e = go (c .applies) refl (checked-refusal p cs step)
+  where
+    go : (b : Bool) → c .applies ≡ b → (isRefusal (checkReply cs) ≡ true → checked p cs step ≡ record { panel = p; reply = checkReply cs })
+        → checked p (c ∷ cs) step ≡ record { panel = p; reply = checkReply (c ∷ cs) }
+    go true f ih = rw f refl
+    go false f ih = rw f (ih (rw f at e))
 
 -- where no check applies the reply is 00 00
 pub passes-reply : (cs : List Check) → Passes cs → checkReply cs ≡ 0x00 ∷ 0 ∷ []
@@ -63,6 +75,18 @@ Agree (c ∷ cs) (d ∷ ds) = (c .applies ≡ d .applies) × (c .refusal ≡ d .
 pub agree-same : (cs : List Check) → Agree cs cs
 agree-same [] = tt
 agree-same (c ∷ cs) = (refl, refl, λ e. agree-same cs)
+
+-- so they reply the same
+pub agree-reply : (cs ds : List Check) → Agree cs ds → checkReply cs ≡ checkReply ds
+unfolding checkReply
+agree-reply [] [] a = refl
+agree-reply [] (d ∷ ds) a = absurd a
+agree-reply (c ∷ cs) [] a = absurd a
+agree-reply (c ∷ cs) (d ∷ ds) (b, x, a) = go (d .applies) refl (λ e. agree-reply cs ds (a e))
+  where
+    go : (t : Bool) → d .applies ≡ t → (d .applies ≡ false → checkReply cs ≡ checkReply ds) → checkReply (c ∷ cs) ≡ checkReply (d ∷ ds)
+    go true e ih = rw (b, e, x) refl
+    go false e ih = rw (b, e) (ih e)
 
 -- what a reply of checks says of an answer: a refusal is the answer, and acceptance is that the step is carried out
 abbrev Says : Panel → List Check → Answer → Reply → Type 0
@@ -235,19 +259,18 @@ new-formed n level bytes low few some inside = record {
     output-any : anyOf (λ b. isOutput b && eqb f (fieldOf b)) bytes ≡ true
     output-any = found-any isOutput (λ b. isOutput b && eqb f (fieldOf b)) bytes out (rw (out .passes) (eq-eqb f f refl))
 
-pub record Addable (p : Panel) (id level : ℕ) (bytes : List ℕ) : Type 0 where
+-- the numbers and fields of a link that is added or changed
+pub record Linkable (p : Panel) (id level : ℕ) (bytes : List ℕ) : Type 0 where
   pub is-open : 0 < p .size
   pub number : id < 128
-  pub free : linkAt (p .links) id .used ≡ false
   pub rising : isRising bytes ≡ true
   pub formed : Formed (p .size) (newLink level bytes)
 
-pub addable : (p : Panel) (id level : ℕ) (bytes : List ℕ) → Passes (addChecks p id level bytes) → Addable p id level bytes
+pub linkable : (p : Panel) (id level : ℕ) (bytes : List ℕ) (number : Check) → Passes (linkChecks p id level bytes number) → Linkable p id level bytes
 unfolding areFieldBytes
-addable p id level bytes (a, (b, (c, (d, _)))) = record {
+linkable p id level bytes number (a, (b, (c, _))) = record {
   is-open = ltb-true 0 (p .size) (not-false (isOpen p) a);
   number = omega (arith, ltb-false 127 id (parts .0));
-  free = d;
   rising = not-false (isRising bytes) (parts .3);
   formed =
       new-formed (p .size) level bytes (ltb-false 15 level (parts .1))
@@ -267,6 +290,14 @@ addable p id level bytes (a, (b, (c, (d, _)))) = record {
         × (not (anyOf isOutput bytes) ≡ false)
     parts = none-of (ltb 127 id) (ltb 15 level) (not (areFieldBytes bytes)) (not (isRising bytes)) (not (anyOf isOutput bytes)) b
 
+pub record Addable (p : Panel) (id level : ℕ) (bytes : List ℕ) : Type 0 where
+  pub link : Linkable p id level bytes
+  pub free : linkAt (p .links) id .used ≡ false
+
+pub addable : (p : Panel) (id level : ℕ) (bytes : List ℕ) → Passes (addChecks p id level bytes) → Addable p id level bytes
+addable p id level bytes passed =
+    record { link = linkable p id level bytes (check (linkAt (p .links) id .used) LinkTaken) passed; free = passed .1 .1 .1 .0 }
+
 pub record Removable (p : Panel) (id : ℕ) : Type 0 where
   pub is-open : 0 < p .size
   pub number : id < 128
@@ -278,6 +309,20 @@ removable p id (a, (b, (c, _))) = record {
   number = omega (arith, ltb-false 127 id b);
   used = not-false (linkAt (p .links) id .used) c;
 }
+
+-- ---- a change that passes
+
+module _ (p : Panel) (id level : ℕ) (bytes : List ℕ) (passed : Passes (changeChecks p id level bytes)) where
+  pub changeable : Linkable p id level bytes
+  changeable = linkable p id level bytes (check (not (linkAt (p .links) id .used)) NoSuchLink) passed
+
+  -- the removal passes
+  pub change-removes : Passes (removeChecks p id)
+  change-removes = (passed .0, (le-ltb 127 id (omega (arith, changeable .number)), (passed .1 .1 .1 .0, tt)))
+
+  -- and so does the adding to a panel of as many fields in which the number is not in use
+  pub change-adds : (q : Panel) → q .size ≡ p .size → linkAt (q .links) id .used ≡ false → Passes (addChecks q id level bytes)
+  change-adds q same free = (rw same (passed .0), (passed .1 .0, (rw same (passed .1 .1 .0), (free, tt))))
 
 pub touchable : (p : Panel) (f : ℕ) → Passes (touchChecks p f) → f < p .size
 touchable p f (a, (b, _)) = leb-false (p .size) f b

@@ -9,5 +9,6 @@ pub mod Changes
 pub mod Checks
 pub mod Least
 pub mod Performed
+pub mod Changing
 pub mod Outcomes
 pub mod Moved

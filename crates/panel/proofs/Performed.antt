@@ -10,28 +10,30 @@ use mathlib.Core.Logic.{_⊎_, inl, inr}
 use native.Mathlib.Omega.{arith}
 use borrow.Author.Tests.{eqb-false}
 use lib.Dec.{eqb}
+use lib.ListN.{length, set, length-set}
 use Rattle.fieldset.proofs.Numbers.{clash}
 use Rattle.panel.specs.declared.Standing.{Standing}
 use Rattle.panel.specs.declared.Standing.the-variants.{Waiting, Holding}
 use Rattle.panel.specs.declared.Link.{Link}
 use Rattle.panel.specs.declared.Panel.{Panel}
 use Rattle.panel.specs.declared.Refusal.the-variants.{Conflict, Loop}
-use Rattle.panel.specs.Items.{Item, link, stay, linkAt}
+use Rattle.panel.specs.Items.{Item, link, stay, noLink, linkAt}
 use Rattle.panel.specs.Answers.{Answer, isRefusal, refused}
 use Rattle.panel.specs.Panels.{opened, withLink, dropped, toFront}
 use Rattle.panel.specs.Solution.{isBlocked, pathFor, reversed, leastBlocked, isLooped}
-use Rattle.panel.specs.Steps.{accepted, reverseStep, openStep, enterStep, addStep, settled, dropStep, removeStep, touchStep, planStep}
-use Rattle.panel.specs.Commands.{coveredIn, outputsIn, Check, checked, Passes, openChecks, addChecks, removeChecks, touchChecks, planChecks, Command, opening, adding, removing, touching, planning, performed}
-use Rattle.panel.specs.Legal.{Legal}
-use Rattle.panel.proofs.Reversed.{link-here, reversed-size}
+use Rattle.panel.specs.Steps.{accepted, reverseStep, openStep, enterStep, addStep, settled, dropStep, removeStep, touchStep, planStep, changeStep}
+use Rattle.panel.specs.Commands.{coveredIn, outputsIn, Check, checked, Passes, openChecks, addChecks, removeChecks, touchChecks, planChecks, changeChecks, Command, opening, adding, removing, touching, planning, changing, performed}
+use Rattle.panel.specs.Legal.{Formed, Legal}
+use Rattle.panel.proofs.InForce.{unused-off}
+use Rattle.panel.proofs.Reversed.{AllAlike, alike-used, link-here, reversed-alike, reversed-full, reversed-size}
 use Rattle.panel.proofs.Legal.{LegalBut}
 use Rattle.panel.proofs.Reversal.{blocking, legal-waits, legal-reversed}
 use Rattle.panel.proofs.Changes.{legal-opened, Enters, add-enters, legal-add, legal-but, dropped-parts, legal-dropped, legal-front}
-use Rattle.panel.proofs.Checks.{checked-panel, newLink, addable, removable, touchable, openable}
+use Rattle.panel.proofs.Checks.{checked-panel, newLink, addable, removable, changeable, touchable, openable}
 use Rattle.panel.proofs.Least.{LeastBlocked, least-blocked}
 
 -- one of two answers
-abbrev pick : Bool → Answer → Answer → Answer
+abbrev pub pick : Bool → Answer → Answer → Answer
 pick b x y = elim b [ true ↦ x | false ↦ y ]
 
 pub legal-reverse : (p q : Panel) (c : Item) → Legal p → LegalBut c q → isBlocked q c ≡ true → Legal (reverseStep p q c .panel)
@@ -94,36 +96,13 @@ legal-touch-step p f h l = go (isBlocked q (stay f)) refl
     go true e = legal-reverse p q (stay f) h (legal-waits q (stay f) k (blocking q (stay f) e .waits-now)) e
     go false e = k
 
--- ---- the commands
-
-pub legal-performed : (p : Panel) (c : Command) → Legal p → Legal (performed p c .panel)
-unfolding planStep
-legal-performed p (opening n) h =
-    checked-panel Legal p (openChecks p n) (openStep n) h (λ k. legal-opened n (openable p n k .2))
-legal-performed p (adding id level bytes) h =
-    checked-panel Legal p (addChecks p id level bytes) (addStep p id level (coveredIn bytes) (outputsIn bytes)) h
-    (λ k. legal-enter-step p p id (newLink level bytes) h h (add-enters (addable p id level bytes k)))
-legal-performed p (removing id) h =
-    checked-panel Legal p (removeChecks p id) (removeStep p id) h (λ k. legal-remove-step p id h (removable p id k .number))
-legal-performed p (touching f) h =
-    checked-panel Legal p (touchChecks p f) (touchStep p f) h (λ k. legal-touch-step p f h (touchable p f k))
-legal-performed p planning h = checked-panel Legal p (planChecks p) (planStep p) h (λ k. h)
-
--- ---- what a command keeps
+-- ---- what a step keeps
 
 -- a refusal leaves the panel; of any other answer's panel P holds
 abbrev pub Keeps : (Panel → Type 0) → Panel → Answer → Type 0
 Keeps P p a = ((isRefusal (a .reply) ≡ true) × (a .panel ≡ p)) ⊎ ((isRefusal (a .reply) ≡ false) × P (a .panel))
 
--- P holds after the change that a command makes before it reverses a path, where it passes its checks
-abbrev pub Changes : (Panel → Type 0) → Panel → Command → Type 0
-Changes P p (opening n) = Passes (openChecks p n) → P (opened n)
-Changes P p (adding id level bytes) = Passes (addChecks p id level bytes) → P (withLink p id (newLink level bytes))
-Changes P p (removing id) = Passes (removeChecks p id) → P (dropped p id)
-Changes P p (touching f) = Passes (touchChecks p f) → P (toFront p f)
-Changes P p planning = P p
-
--- what holds after that change, and is kept by every reversal, holds after the command
+-- what holds before a reversal, and is kept by every one, holds after the step
 module _ (P : Panel → Type 0) (turns : (q : Panel) (c : Item) (vs : List ℕ) → P q → P (reversed q c vs)) (p : Panel) where
   kept-reverse : (q : Panel) (c : Item) → P q → Keeps P p (reverseStep p q c)
   unfolding reverseStep
@@ -167,15 +146,103 @@ module _ (P : Panel → Type 0) (turns : (q : Panel) (c : Item) (vs : List ℕ) 
       go true e ih = rw e (inl (refl, refl))
       go false e ih = rw e (ih e)
 
+-- ---- what a removal leaves
+
+-- as many fields, no link of the number, and of every other link only the standing may be another
+pub record Without (p : Panel) (id : ℕ) (q : Panel) : Type 0 where
+  pub size : q .size ≡ p .size
+  pub full : length (q .links) ≡ length (p .links)
+  pub links : AllAlike (q .links) (set (p .links) id noLink)
+
+pub removed-without : (p : Panel) (id : ℕ) → Keeps (Without p id) p (removeStep p id)
+unfolding removeStep
+removed-without p id = kept-drop (Without p id) turns p (dropped p id) (linkAt (p .links) id .standing) drop
+  where
+    turns : (q : Panel) (c : Item) (vs : List ℕ) → Without p id q → Without p id (reversed q c vs)
+    turns q c vs w =
+        record {
+          size = reversed-size q c vs ∙ w .size;
+          full = reversed-full q c vs ∙ w .full;
+          links = λ i. reversed-alike q c vs i ∙ w .links i;
+        }
+
+    drop : Without p id (dropped p id)
+    drop =
+        let e = dropped-parts p id .1 in
+        record { size = dropped-parts p id .0; full = rw e (length-set (p .links) id noLink); links = λ i. rw e refl }
+
+module _ {p q : Panel} {id : ℕ} (w : Without p id q) (h : Legal p) (small : id < 128) where
+  pub without-unused : linkAt (q .links) id .used ≡ false
+  without-unused =
+      alike-used (q .links) (set (p .links) id noLink) (w .links) id
+      ∙ ap (λ (l : Link). l .used) (link-here (p .links) id noLink (omega (arith, h .links-length)))
+
+  -- so a link may be entered under the number
+  pub without-enters : (level : ℕ) (bytes : List ℕ) → Formed (p .size) (newLink level bytes) → Enters q id (newLink level bytes)
+  without-enters level bytes f =
+      record { number = small; free = unused-off _ without-unused; formed = rw (w .size) f; used = refl; rests = refl }
+
+pub legal-change-step : (p : Panel) (id level : ℕ) (bytes : List ℕ) → Legal p → id < 128 → Formed (p .size) (newLink level bytes)
+    → Legal (changeStep p id level (coveredIn bytes) (outputsIn bytes) .panel)
+unfolding changeStep
+legal-change-step p id level bytes h small f = go (removeStep p id) (legal-remove-step p id h small) (removed-without p id)
+  where
+    go : (a : Answer) → Legal (a .panel) → Keeps (Without p id) p a → Legal (pick (isRefusal (a .reply)) a (enterStep p (a .panel) id (newLink level bytes)) .panel)
+    go a k (inl (r, e)) = rw r k
+    go a k (inr (r, w)) = rw r (legal-enter-step p (a .panel) id (newLink level bytes) h k (without-enters w h small level bytes f))
+
+-- ---- the commands
+
+pub legal-performed : (p : Panel) (c : Command) → Legal p → Legal (performed p c .panel)
+unfolding planStep
+legal-performed p (opening n) h =
+    checked-panel Legal p (openChecks p n) (openStep n) h (λ k. legal-opened n (openable p n k .2))
+legal-performed p (adding id level bytes) h =
+    checked-panel Legal p (addChecks p id level bytes) (addStep p id level (coveredIn bytes) (outputsIn bytes)) h
+    (λ k. legal-enter-step p p id (newLink level bytes) h h (add-enters (addable p id level bytes k)))
+legal-performed p (removing id) h =
+    checked-panel Legal p (removeChecks p id) (removeStep p id) h (λ k. legal-remove-step p id h (removable p id k .number))
+legal-performed p (touching f) h =
+    checked-panel Legal p (touchChecks p f) (touchStep p f) h (λ k. legal-touch-step p f h (touchable p f k))
+legal-performed p planning h = checked-panel Legal p (planChecks p) (planStep p) h (λ k. h)
+legal-performed p (changing id level bytes) h =
+    checked-panel Legal p (changeChecks p id level bytes) (changeStep p id level (coveredIn bytes) (outputsIn bytes)) h
+    (λ k. let l = changeable p id level bytes k in legal-change-step p id level bytes h (l .number) (l .formed))
+
+-- ---- what a command keeps
+
+-- P holds after the change that a command makes before it reverses a path, where it passes its checks; kind 06 makes two, and this is the second
+abbrev pub Changes : (Panel → Type 0) → Panel → Command → Type 0
+Changes P p (opening n) = Passes (openChecks p n) → P (opened n)
+Changes P p (adding id level bytes) = Passes (addChecks p id level bytes) → P (withLink p id (newLink level bytes))
+Changes P p (removing id) = Passes (removeChecks p id) → P (dropped p id)
+Changes P p (touching f) = Passes (touchChecks p f) → P (toFront p f)
+Changes P p planning = P p
+Changes P p (changing id level bytes) =
+    Passes (changeChecks p id level bytes) → (q : Panel) → Without p id q → P (withLink q id (newLink level bytes))
+
+-- what holds after that change, and is kept by every reversal, holds after the command
+module _ (P : Panel → Type 0) (turns : (q : Panel) (c : Item) (vs : List ℕ) → P q → P (reversed q c vs)) (p : Panel) where
+  kept-change : (id level : ℕ) (bytes : List ℕ) → ((q : Panel) → Without p id q → P (withLink q id (newLink level bytes)))
+      → Keeps P p (changeStep p id level (coveredIn bytes) (outputsIn bytes))
+  unfolding changeStep
+  kept-change id level bytes k = go (removeStep p id) (removed-without p id)
+    where
+      go : (a : Answer) → Keeps (Without p id) p a → Keeps P p (pick (isRefusal (a .reply)) a (enterStep p (a .panel) id (newLink level bytes)))
+      go a (inl (r, e)) = rw r (inl (r, e))
+      go a (inr (r, w)) = rw r (kept-enter P turns p (a .panel) id (newLink level bytes) (k (a .panel) w))
+
   pub kept-performed : (c : Command) → Changes P p c → Keeps P p (performed p c)
   unfolding removeStep planStep
-  kept-performed (opening n) k = kept-checked (openChecks p n) (openStep n) (λ a. inr (refl, k a))
+  kept-performed (opening n) k = kept-checked P turns p (openChecks p n) (openStep n) (λ a. inr (refl, k a))
   kept-performed (adding id level bytes) k =
-      kept-checked (addChecks p id level bytes) (addStep p id level (coveredIn bytes) (outputsIn bytes)) (λ a. kept-enter p id (newLink level bytes) (k a))
+      kept-checked P turns p (addChecks p id level bytes) (addStep p id level (coveredIn bytes) (outputsIn bytes)) (λ a. kept-enter P turns p p id (newLink level bytes) (k a))
   kept-performed (removing id) k =
-      kept-checked (removeChecks p id) (removeStep p id) (λ a. kept-drop (dropped p id) (linkAt (p .links) id .standing) (k a))
-  kept-performed (touching f) k = kept-checked (touchChecks p f) (touchStep p f) (λ a. kept-touch f (k a))
-  kept-performed planning k = kept-checked (planChecks p) (planStep p) (λ a. inr (refl, k))
+      kept-checked P turns p (removeChecks p id) (removeStep p id) (λ a. kept-drop P turns p (dropped p id) (linkAt (p .links) id .standing) (k a))
+  kept-performed (touching f) k = kept-checked P turns p (touchChecks p f) (touchStep p f) (λ a. kept-touch P turns p f (k a))
+  kept-performed planning k = kept-checked P turns p (planChecks p) (planStep p) (λ a. inr (refl, k))
+  kept-performed (changing id level bytes) k =
+      kept-checked P turns p (changeChecks p id level bytes) (changeStep p id level (coveredIn bytes) (outputsIn bytes)) (λ a. kept-change id level bytes (k a))
 
 -- an open panel keeps its number of fields
 pub performed-size : (p : Panel) (c : Command) → 0 < p .size → performed p c .panel .size ≡ p .size
@@ -191,6 +258,7 @@ performed-size p c is-open = go (kept-performed Same (λ q d vs k. reversed-size
     same (removing id) = λ a. dropped-parts p id .0
     same (touching f) = λ a. refl
     same planning = refl
+    same (changing id level bytes) = λ a q w. w .size
 
     go : Keeps Same p (performed p c) → performed p c .panel .size ≡ p .size
     go (inl (r, q)) = ap (λ (x : Panel). x .size) q
@@ -203,6 +271,16 @@ removed-number p id e = go (kept-performed (λ q. id < 128) (λ q c vs h. h) p (
     go : Keeps (λ q. id < 128) p (performed p (removing id)) → id < 128
     go (inl (r, q)) = absurd (clash r e)
     go (inr (r, l)) = l
+
+-- a change that is not refused passes its checks
+pub changed-passes : (p : Panel) (id level : ℕ) (bytes : List ℕ) → isRefusal (performed p (changing id level bytes) .reply) ≡ false
+    → Passes (changeChecks p id level bytes)
+changed-passes p id level bytes e =
+    go (kept-performed (λ q. Passes (changeChecks p id level bytes)) (λ q c vs h. h) p (changing id level bytes) (λ a q w. a))
+  where
+    go : Keeps (λ q. Passes (changeChecks p id level bytes)) p (performed p (changing id level bytes)) → Passes (changeChecks p id level bytes)
+    go (inl (r, q)) = absurd (clash r e)
+    go (inr (r, k)) = k
 
 -- an opening that is not refused meets an unopened panel
 pub opened-unopened : (p : Panel) (n : ℕ) → isRefusal (performed p (opening n) .reply) ≡ false → p .size ≡ 0

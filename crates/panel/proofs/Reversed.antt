@@ -237,6 +237,14 @@ unfolding reversed
 reversed-alike p c [] i = waiting-alike p c i
 reversed-alike p c (v ∷ vs) i = reversed-alike (holding p c v) (setterOf (p .setter) v) vs i ∙ holding-alike p v c i
 
+pub reversed-full : (p : Panel) (c : Item) (vs : List ℕ) → length (reversed p c vs .links) ≡ length (p .links)
+unfolding reversed
+reversed-full p (link i) [] = length-set (p .links) i (standing (linkAt (p .links) i) Waiting)
+reversed-full p (stay g) [] = refl
+reversed-full p (link i) (v ∷ vs) =
+    reversed-full (holding p (link i) v) (setterOf (p .setter) v) vs ∙ length-set (p .links) i (standing (linkAt (p .links) i) (Holding v))
+reversed-full p (stay g) (v ∷ vs) = reversed-full (holding p (stay g) v) (setterOf (p .setter) v) vs
+
 module _ (p : Panel) (c : Item) (vs : List ℕ) where
   pub reversed-level : (place : List ℕ) (d : Item) → levelOf (reversed p c vs .links) place d ≡ levelOf (p .links) place d
   reversed-level = alike-level (reversed p c vs .links) (p .links) (reversed-alike p c vs)

@@ -12,7 +12,7 @@ use Rattle.panel.specs.declared.Refusal.{Refusal}
 use Rattle.panel.specs.declared.Refusal.the-variants.{AlreadyOpen, NotOpen, BadSize, BadLink, NoSuchField, LinkTaken, NoSuchLink}
 use Rattle.panel.specs.Items.{linkAt}
 use Rattle.panel.specs.Answers.{Answer, refusalBytes, refused}
-use Rattle.panel.specs.Steps.{openStep, addStep, removeStep, touchStep, planStep}
+use Rattle.panel.specs.Steps.{openStep, addStep, removeStep, touchStep, planStep, changeStep}
 
 -- ---- field bytes
 
@@ -86,15 +86,19 @@ checkOpen size n = check (ltb 0 size) AlreadyOpen ∷ check (eqb n 0 || ltb 64 n
 abbrev pub openChecks : Panel → ℕ → List Check
 openChecks p n = checkOpen (p .size) n
 
--- NotOpen "(any other kind before)", BadLink "(id over 127 .., level over 15, fields not rising, no output)", NoSuchField "(a field of n or
--- more)", LinkTaken "(added number in use)"; what no frame can hold (bit 6 set, no or over eight field bytes) is a BadLink too
-abbrev pub addChecks : Panel → ℕ → ℕ → List ℕ → List Check
-addChecks p id level bytes =
+-- of a link that is added or changed, before what is asked of its number: NotOpen "(any other kind before)", BadLink "(id over 127 .., level over 15,
+-- fields not rising, no output)", NoSuchField "(a field of n or more)"; what no frame can hold (bit 6 set, no or over eight field bytes) is a BadLink too
+abbrev pub linkChecks : Panel → ℕ → ℕ → List ℕ → Check → List Check
+linkChecks p id level bytes number =
     check (not (isOpen p)) NotOpen
     ∷ check (ltb 127 id || ltb 15 level || not (areFieldBytes bytes) || not (isRising bytes) || not (anyOf isOutput bytes)) BadLink
     ∷ check (anyOf (λ b. leb (p .size) (fieldOf b)) bytes) NoSuchField
-    ∷ check (linkAt (p .links) id .used) LinkTaken
+    ∷ number
     ∷ []
+
+-- LinkTaken "(added number in use)"
+abbrev pub addChecks : Panel → ℕ → ℕ → List ℕ → List Check
+addChecks p id level bytes = linkChecks p id level bytes (check (linkAt (p .links) id .used) LinkTaken)
 
 -- NoSuchLink "(removed number not in use)"
 abbrev pub checkRemove : ℕ → ℕ → Bool → List Check
@@ -102,6 +106,10 @@ checkRemove size id used = check (not (ltb 0 size)) NotOpen ∷ check (ltb 127 i
 
 abbrev pub removeChecks : Panel → ℕ → List Check
 removeChecks p id = checkRemove (p .size) id (linkAt (p .links) id .used)
+
+-- "Add's checks up to LinkTaken come first, with NoSuchLink in LinkTaken's place" (document 02, request 5)
+abbrev pub changeChecks : Panel → ℕ → ℕ → List ℕ → List Check
+changeChecks p id level bytes = linkChecks p id level bytes (check (not (linkAt (p .links) id .used)) NoSuchLink)
 
 abbrev pub checkTouch : ℕ → ℕ → List Check
 checkTouch size f = check (not (ltb 0 size)) NotOpen ∷ check (leb size f) NoSuchField ∷ []
@@ -114,13 +122,15 @@ planChecks p = check (not (isOpen p)) NotOpen ∷ []
 
 -- ---- commands
 
--- "A command is an opening, add, remove, touch or plan with any numbers"; an add has the list of its field bytes
+-- "A command is an opening, add, remove, touch or plan with any numbers"; an add has the list of its field bytes. "Kinds of command added later join":
+-- frame 06, a change, "with the body of frame 02" (document 02, request 5)
 pub data Command : Type 0 where
   opening : ℕ → Command
   adding : ℕ → ℕ → List ℕ → Command
   removing : ℕ → Command
   touching : ℕ → Command
   planning : Command
+  changing : ℕ → ℕ → List ℕ → Command
 
 -- the panel after a command, and the reply
 abbrev pub performed : Panel → Command → Answer
@@ -130,3 +140,5 @@ performed p (adding id level bytes) =
 performed p (removing id) = checked p (removeChecks p id) (removeStep p id)
 performed p (touching f) = checked p (touchChecks p f) (touchStep p f)
 performed p planning = checked p (planChecks p) (planStep p)
+performed p (changing id level bytes) =
+    checked p (changeChecks p id level bytes) (changeStep p id level (coveredIn bytes) (outputsIn bytes))

@@ -1,4 +1,5 @@
--- The four steps, on a command that has passed the checks: what is refused with Conflict or Loop, and what is done.
+-- The steps, on a command that has passed the checks: what is refused with Conflict or Loop, and what is done. Document 01 has four; a change is two of
+-- them in a row.
 use Prim.Native.Nat.{ℕ}
 use mathlib.Core.Bool.{true, false}
 use mathlib.Core.List.{[], _∷_}
@@ -10,7 +11,7 @@ use Rattle.panel.specs.declared.Link.{Link}
 use Rattle.panel.specs.declared.Panel.{Panel}
 use Rattle.panel.specs.declared.Refusal.the-variants.{Conflict, Loop}
 use Rattle.panel.specs.Items.{Item, link, stay, linkAt}
-use Rattle.panel.specs.Answers.{Answer, refused}
+use Rattle.panel.specs.Answers.{Answer, isRefusal, refused}
 use Rattle.panel.specs.Panels.{opened, waitingLink, withLink, dropped, toFront, moved}
 use Rattle.panel.specs.Solution.{isBlocked, pathFor, reversed, leastBlocked, planOf, isLooped, rowsOf}
 
@@ -63,3 +64,10 @@ touchStep p f =
 -- "for a plan 00 n, then n times field, setter .., strength"
 unfoldable pub planStep : Panel → Answer
 planStep p = record { panel = p; reply = 0x00 ∷ p .size ∷ rowsOf p (planOf p) }
+
+-- "removes the link and adds it anew as one" (document 02, request 5): "the removal's Loop, then the adding's Conflict or Loop; a refusal changes nothing".
+-- "Moved compares the state before with the state after both, a link of the same number being the same setter"
+unfoldable pub changeStep : Panel → ℕ → ℕ → ℕ → ℕ → Answer
+changeStep p id level covered outputs =
+    let removed = removeStep p id in
+    elim (isRefusal (removed .reply)) [ true ↦ removed | false ↦ enterStep p (removed .panel) id (waitingLink level covered outputs) ]

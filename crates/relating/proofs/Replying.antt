@@ -1,30 +1,17 @@
 -- The reply of checks over numbers is that of a panel's checks which agree with them. Assumes nothing.
 use Prim.Native.Nat.{ℕ, _%_}
 use mathlib.Core.Path.{_≡_, refl, ap}
-use mathlib.Core.Bool.{Bool, true, false, not}
-use mathlib.Core.List.{List, [], _∷_}
+use mathlib.Core.Bool.{not}
 use borrow.Author.Tests.{ltb-false}
 use native.Mathlib.Omega.{arith}
 use Rattle.panel.specs.declared.Link.{Link}
 use Rattle.panel.specs.declared.Panel.{Panel}
 use Rattle.panel.specs.Items.{linkAt}
-use Rattle.panel.specs.Commands.{Check, checkReply}
-use Rattle.panel.proofs.Checks.{Agree, named-link}
+use Rattle.panel.specs.Commands.{checkReply}
+use Rattle.panel.proofs.Checks.{agree-reply, named-link}
 use Rattle.formulas.specs.declared.Formula.{Formula}
 use Rattle.formulas.specs.Formulas.{accepted}
 use Rattle.sheet.specs.Commands.{checkFormula, formulaChecks}
-
--- checks that agree reply the same
-agree-reply : (cs ds : List Check) → Agree cs ds → checkReply cs ≡ checkReply ds
-unfolding checkReply
-agree-reply [] [] a = refl
-agree-reply [] (d ∷ ds) a = absurd a
-agree-reply (c ∷ cs) [] a = absurd a
-agree-reply (c ∷ cs) (d ∷ ds) (b, x, a) = go (d .applies) refl (λ e. agree-reply cs ds (a e))
-  where
-    go : (t : Bool) → d .applies ≡ t → (d .applies ≡ false → checkReply cs ≡ checkReply ds) → checkReply (c ∷ cs) ≡ checkReply (d ∷ ds)
-    go true e ih = rw (b, e, x) refl
-    go false e ih = rw (b, e) (ih e)
 
 -- the link of a number below 128 is the one under its remainder
 pub formula-agrees : (p : Panel) (named : Link) (id : ℕ) (formula : Formula) → named ≡ linkAt (p .links) (id % 128)

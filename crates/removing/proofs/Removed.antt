@@ -1,7 +1,7 @@
 -- What a removal decides: by its checks, by the link's standing, and by what is blocked then. The checks agree with the command's (`remove-agree`). A
 -- waiting link is dropped and nothing else (`remove-waiting`). For one that holds v the tables with v's stay are the panel's without the link
 -- (`tabled`), so what is chosen is the definition's least blocked item; with none the drop is the step, else the verdict on it gives the answer
--- (`comes`), by the laws of a reversal (`found-refused`, `decides-path`).
+-- (`settles`), by the laws of a reversal (`found-refused`, `decides-path`).
 use mathlib.Core.Path.{_≡_, refl, sym, ap, _∙_, subst}
 use mathlib.Core.Logic.{_≢_, _⊎_, inl, inr}
 use mathlib.Core.Bool.{true, not}
@@ -42,7 +42,7 @@ use Rattle.panel.proofs.Legal.{Filled, LegalBut, force-formed}
 use Rattle.panel.proofs.Setters.{outputs-inside, waits-force}
 use Rattle.panel.proofs.Reversal.{Blocking, blocking, legal-waits}
 use Rattle.panel.proofs.Changes.{freed-parts}
-use Rattle.panel.proofs.Checks.{Agree, passes-reply, reply-refused, reply-accepted, named-link, removable}
+use Rattle.panel.proofs.Checks.{Agree, checked-step, passes-reply, reply-refused, reply-accepted, named-link, removable}
 use Rattle.panel.proofs.Outcomes.{decides-unchanged}
 use Rattle.tables.specs.Tables.{Tabled}
 use Rattle.tables.proofs.Tables.{greatest-same, panel-acyclic, panel-among, all-strengths, table-strengths, table-full}
@@ -58,6 +58,7 @@ use Rattle.scanning.specs.Scan.{Finds, Scanned}
 use Rattle.scanning.proofs.Dropped.{sets-holds, field-small, Held, rest, dropped-rest, legal-rest, found-blocked, dropped-setter}
 use Rattle.removing.specs.declared.Chosen.{Chosen}
 use Rattle.removing.specs.Choice.{OfField, chosenOf}
+use Rattle.removing.specs.Settled.{Settles}
 use Rattle.removing.specs.Scans.{countAfter, scanCount}
 
 -- ---- the checks
@@ -159,6 +160,15 @@ pub record Removal (p : Panel) (id v : ℕ) (levels others reads : List ℕ) : T
   pub held : Held p id v levels others reads
   pub step : performed p (removing id) ≡ removeStep p id
 
+pub removal : {p : Panel} {v : ℕ} {levels others reads : List ℕ} → Legal p → Tabled p levels others reads → v < 64 → at (p .setter) v < 128
+    → Removal p (at (p .setter) v) v levels others reads
+removal {p} {v} h t l small =
+    let holds = h .setter-holds v l small in
+    record {
+      held = record { legal = h; tabled = t; small = small; holds = holds };
+      step = checked-step p (removeChecks p (at (p .setter) v)) (removeStep p (at (p .setter) v)) (held-passes p h (at (p .setter) v) v holds);
+    }
+
 module _ {p : Panel} {id v : ℕ} {levels others reads : List ℕ} (x : Removal p id v levels others reads) where
   -- the panel without the link
   abbrev pub q : Panel
@@ -197,8 +207,8 @@ module _ {p : Panel} {id v : ℕ} {levels others reads : List ℕ} (x : Removal 
     tabled : Tabled q L O R
     tabled = subst (λ (r : Panel). Tabled r L O R) (dropped-setter (x .held)) filled
 
-    pub scan-counts : (n : ℕ) → worked ≡ scanCount n p id
-    scan-counts n = scan .once ∙ count-standing p (x .held .legal) id n (Holding v) (x .held .holds)
+    pub scan-counts : worked ≡ p .size
+    scan-counts = scan .once
 
     pub scan-finds : Finds q b
     scan-finds = scan .finds
@@ -260,12 +270,6 @@ module _ {p : Panel} {id v : ℕ} {levels others reads : List ℕ} (x : Removal 
             ((outputs ≢ 0) × (s : ℕ) × (s ≡ greatest (member outputs) (at table) 64) × Decided L O (p .size) s outputs covered R path t)
             ⊎ ((outputs ≡ 0) × (t ≡ Free) × (length path ≡ 64))
 
-        -- the step, or a refusal
-        abbrev Comes : Verdict → Type 0
-        Comes Free = Decides p id (removing id) path (stepOf Free (p .size) (p .place) noLink (Holding v) number)
-        Comes Looped = (performed p (removing id) ≡ refused p Loop) × (length path ≡ 64)
-        Comes (Path count m) = Decides p id (removing id) path (stepOf (Path count m) (p .size) (p .place) noLink (Holding v) number)
-
         step : performed p (removing id) ≡ settled p q (leastBlocked q)
         unfolding removeStep
         step = x .step ∙ ap (dropStep p (dropped p id)) (x .held .holds) ∙ ap (λ (r : Panel). settled p r (leastBlocked r)) (dropped-rest (x .held))
@@ -273,13 +277,13 @@ module _ {p : Panel} {id v : ℕ} {levels others reads : List ℕ} (x : Removal 
         change-is : Change p id (p .size) (p .place) noLink (Holding v)
         change-is = change p (x .held .legal) id (x .held .small) (Holding v) (x .held .holds)
 
-        comes : (t : Verdict) → Judged t → Comes t
-        comes t judged = go choice t judged
+        pub settles : (t : Verdict) → Judged t → Settles p id v path number t
+        settles t judged = go choice t judged
           where
-            go : Choice number outputs covered → (t : Verdict) → Judged t → Comes t
+            go : Choice number outputs covered → (t : Verdict) → Judged t → Settles p id v path number t
             go (inl (free, z)) t (inl (ne, s, top, d)) = absurd (ne z)
             go (inl (free, z)) t (inr (_, e, long)) =
-                subst Comes (sym e)
+                subst (Settles p id v path number) (sym e)
                 (decides-free p id (p .size) (p .place) noLink (Holding v) change-is (removing id) path long number (step ∙ ap (settled p q) free))
             go (inr (d, found, en, eo, ec)) t (inr (z, _, _)) = absurd (omega (arith, some-output d found, eo, z))
             go (inr (d, found, en, eo, ec)) Free (inl (ne, s, top, never)) = absurd never
@@ -294,19 +298,25 @@ module _ {p : Panel} {id v : ℕ} {levels others reads : List ℕ} (x : Removal 
                 (decides-path p id (p .size) (p .place) noLink (Holding v) change-is (removing id) path d (but d found .carrying) (legal .loopless) (force d found) L O R
                 tabled (blocked d found) s count m (is-greatest d found s (rw eo at top)) (rw (eo, ec) at f) em (step ∙ ap (settled p q) found))
 
-        -- the reply of a loop, and the step, whose parts are the code's
-        module _ (t : Verdict) (judged : Judged t) (s : Step) where
-          pub remove-looped : (old : Link) → old ≡ linkAt (p .links) (id % 128) → t ≡ Looped → s ≡ unchanged (p .size) (p .place) old (Refused Loop)
-              → Decides p (id % 128) (removing id) path s
-          remove-looped old same e is =
-              let (loops, long) = subst Comes e (comes t judged) in
-              rw is (decides-unchanged p (id % 128) old (Refused Loop) same (removing id) path long (refused p Loop) loops refl refl)
+-- ---- the step
 
-          pub remove-reversed : (l : Link) (u : ℕ) → l ≡ noLink → v ≡ u → t ≢ Looped → s ≡ stepOf t (p .size) (p .place) l (Holding u) number
-              → Decides p (id % 128) (removing id) path s
-          remove-reversed l u el same ne is = rw (mod-eq-of-lt (x .held .small), is, el, ← same) (go t (comes t judged) ne)
-            where
-              go : (t : Verdict) → Comes t → t ≢ Looped → Decides p id (removing id) path (stepOf t (p .size) (p .place) noLink (Holding v) number)
-              go Free d ne = d
-              go Looped d ne = absurd (ne refl)
-              go (Path count m) d ne = d
+-- a link that holds v is dropped: the reply of a loop, and the step, whose parts are the code's
+module _ (p : Panel) (h : Legal p) (id v : ℕ) (small : id < 128) (holds : linkAt (p .links) id .standing ≡ Holding v) (path : List ℕ) (number : ℕ) (t : Verdict)
+    (d : Settles p (at (p .setter) v) v path number t) (s : Step) where
+  own : Settles p id v path number t
+  own = rw (h .holding-sets id v small holds) at d
+
+  pub remove-looped : (old : Link) → old ≡ linkAt (p .links) (id % 128) → t ≡ Looped → s ≡ unchanged (p .size) (p .place) old (Refused Loop)
+      → Decides p (id % 128) (removing id) path s
+  remove-looped old same e is =
+      let (loops, long) = subst (Settles p id v path number) e own in
+      rw is (decides-unchanged p (id % 128) old (Refused Loop) same (removing id) path long (refused p Loop) loops refl refl)
+
+  pub remove-reversed : (l : Link) (u : ℕ) → l ≡ noLink → v ≡ u → t ≢ Looped → s ≡ stepOf t (p .size) (p .place) l (Holding u) number
+      → Decides p (id % 128) (removing id) path s
+  remove-reversed l u el same ne is = rw (mod-eq-of-lt small, is, el, ← same) (go t own ne)
+    where
+      go : (t : Verdict) → Settles p id v path number t → t ≢ Looped → Decides p id (removing id) path (stepOf t (p .size) (p .place) noLink (Holding v) number)
+      go Free d ne = d
+      go Looped d ne = absurd (ne refl)
+      go (Path count m) d ne = d

@@ -28,12 +28,6 @@ no-loop Free h e = let z : _≡_ {A = ℕ} 0 1 = cc in omega arith
 no-loop Looped h e = ⊎-elim (λ e. omega arith) (λ e. omega arith) h
 no-loop (Path k m) h e = let z : _≡_ {A = ℕ} 0 1 = cc in omega arith
 
--- a verdict by which something is to be done
-pub no-free : (t : Verdict) → (tagOf the-type t ≡ 1) ⊎ (tagOf the-type t ≡ 2) → t ≢ Free
-no-free Free h e = ⊎-elim (λ e. omega arith) (λ e. omega arith) h
-no-free Looped h e = let z : _≡_ {A = ℕ} 0 1 = cc in omega arith
-no-free (Path k m) h e = let z : _≡_ {A = ℕ} 0 1 = cc in omega arith
-
 -- the step of the parts
 pub step-is : (t : Verdict) (n : ℕ) (place : List ℕ) (link : Link) (held : Standing) (c s k m h u r : ℕ) → s ≡ setterBy t c → k ≡ countBy t → m ≡ fieldsBy t
     → h ≡ heldField held → u ≡ union m h → r ≡ size u

@@ -132,8 +132,8 @@ fn held_field(s: Standing) -> u64
     }
 }
 
-// How many fields a set has.
-fn count_of(set: u64) -> u8
+// How many fields a set has, in a byte.
+pub fn count_of(set: u64) -> u8
     ensures { λ r. ⌜ r ≡ size set ⌝ }
 {
     size(set) as u8

@@ -1,14 +1,15 @@
--- Every command leaves a legal sheet legal. A command of document 01 leaves each link its covered fields and its number's use but for the link that it
--- adds, which had no formula, and the one that it removes, which then has none (`fits-solved`); a run of the plan leaves every value within the limits
--- (`run-within`) and reaches no field past the panel's (`run-others`). Assumes nothing.
+-- Every command leaves a legal sheet legal. A command of the panel leaves each link its covered fields and its number's use but for the link that it
+-- adds, which had no formula, the one that it removes, which then has none, and the one that it changes (`fits-solved`, `changed-here`); a run of
+-- the plan leaves every value within the limits (`run-within`) and reaches no field past the panel's (`run-others`). Assumes nothing.
 use Prim.Native.Nat.{ℕ, _≤_, _<_}
 use mathlib.Core.Path.{_≡_, refl, sym, ap, subst, _∙_}
-use mathlib.Core.Bool.{Bool, true, false}
+use mathlib.Core.Bool.{Bool, true, false, cond}
 use mathlib.Core.List.{List, [], _∷_}
 use mathlib.Core.Logic.{_⊎_, inl, inr, _≢_}
 use native.Mathlib.Decide.{ℕ-discrete, decLt}
 use native.Mathlib.Omega.{arith}
-use borrow.Author.Tests.{ltb-false, not-false}
+use borrow.Author.Tests.{ltb-false, not-false, eqb-true}
+use lib.Dec.{eqb}
 use lib.IntN.{ℤ, pos}
 use lib.ListN.{length, set, length-set, length-replicate, getD-replicate, List·getD-eq-default}
 use lib.Seq.{getD-set-same, getD-set-other}
@@ -24,12 +25,12 @@ use Rattle.panel.specs.Answers.{refusalBytes, isRefusal}
 use Rattle.panel.specs.Panels.{opened, toFront}
 use Rattle.panel.specs.Solution.{setterReads, reversed, planOf, isLooped}
 use Rattle.panel.specs.Commands as panel
-use Rattle.panel.specs.Commands.{opening, adding, removing, touching, planning, Passes, Check, checkReply}
+use Rattle.panel.specs.Commands.{opening, adding, removing, touching, planning, changing, coveredIn, Passes, Check, checkReply}
 use Rattle.panel.specs.Legal.{Legal}
-use Rattle.panel.proofs.Reversed.{AllAlike, alike-covered, alike-used, link-there, reversed-alike, reversed-size}
+use Rattle.panel.proofs.Reversed.{AllAlike, alike-covered, alike-used, link-here, link-there, reversed-alike, reversed-size}
 use Rattle.panel.proofs.Changes.{unopened-links, dropped-parts}
-use Rattle.panel.proofs.Checks.{addable, removable, touchable, openable, newLink}
-use Rattle.panel.proofs.Performed.{legal-performed, Keeps, Changes, kept-performed, performed-size}
+use Rattle.panel.proofs.Checks.{addable, removable, changeable, touchable, openable, newLink}
+use Rattle.panel.proofs.Performed.{legal-performed, Keeps, Without, Changes, kept-performed, performed-size}
 use Rattle.values.specs.Limits.{valueAt, outside}
 use Rattle.formulas.specs.declared.Formula.{Formula}
 use Rattle.formulas.specs.declared.Formula.the-variants.{None}
@@ -51,20 +52,17 @@ abbrev FitsAll : (ℕ → Formula) → List Link → Type 0
 FitsAll formula links = (k : ℕ) → Fits (formula k) (linkAt links k)
 
 -- they go by the covered fields and the numbers in use
-fits-alike : (formula : ℕ → Formula) (a b : List Link) → AllAlike a b → FitsAll formula b → FitsAll formula a
-fits-alike formula a b h f k = go (f k)
-  where
-    go : Fits (formula k) (linkAt b k) → Fits (formula k) (linkAt a k)
-    go (inl e) = inl e
-    go (inr (u, e)) = inr (alike-used a b h k ∙ u, ap (accepted (formula k)) (alike-covered a b h k) ∙ e)
+fits-alike : {formula : Formula} (a b : List Link) → AllAlike a b → (k : ℕ) → Fits formula (linkAt b k) → Fits formula (linkAt a k)
+fits-alike a b h k (inl e) = inl e
+fits-alike {formula} a b h k (inr (u, e)) = inr (alike-used a b h k ∙ u, ap (accepted formula) (alike-covered a b h k) ∙ e)
 
--- a link without formula may be another
-fits-set : (formula : ℕ → Formula) (links : List Link) (i : ℕ) (l : Link) → formula i ≡ None → ((k : ℕ) → k ≢ i → Fits (formula k) (linkAt links k))
-    → FitsAll formula (set links i l)
-fits-set formula links i l none f k = go (ℕ-discrete k i)
+-- a link may be another that its formula fits
+fits-set : (formula : ℕ → Formula) (links : List Link) (i : ℕ) (l : Link) → i < length links → Fits (formula i) l
+    → ((k : ℕ) → k ≢ i → Fits (formula k) (linkAt links k)) → FitsAll formula (set links i l)
+fits-set formula links i l here fits f k = go (ℕ-discrete k i)
   where
     go : Dec (k ≡ i) → Fits (formula k) (linkAt (set links i l) k)
-    go (yes e) = inl (ap formula e ∙ none)
+    go (yes e) = rw (e, link-here links i l here) fits
     go (no d) = subst (Fits (formula k)) (sym (link-there links i k l d)) (f k d)
 
 -- a number that is not in use has no formula
@@ -127,7 +125,7 @@ entered-formulas s f v = go (entering-cases s f v)
 
 module _ (s : Sheet) (h : LegalSheet s) where
   abbrev after : panel.Command → ℕ → Formula
-  after c = formulaAt (formulasAfter (s .formulas) c)
+  after c = formulaAt (formulasAfter s c)
 
   dropped-there : (id k : ℕ) → k ≢ id → after (removing id) k ≡ formulaAt (s .formulas) k
   dropped-there id k d = ap (λ (r : Rule). r .formula) (getD-set-other (s .formulas .of) id k noRule noRule d)
@@ -136,30 +134,66 @@ module _ (s : Sheet) (h : LegalSheet s) where
   dropped-here id l =
       ap (λ (r : Rule). r .formula) (getD-set-same (s .formulas .of) id noRule noRule (omega (arith, h .formulas-length)))
 
+  -- the formula of a link that is changed fits it: the covered fields are the same, or there is none
+  changed-here : (id level : ℕ) (bytes : List ℕ) → id < 128 → Fits (after (changing id level bytes) id) (newLink level bytes)
+  changed-here id level bytes l = go (eqb (linkAt (s .panel .links) id .covered) (coveredIn bytes)) refl (h .fits id)
+    where
+      go : (b : Bool) → eqb (linkAt (s .panel .links) id .covered) (coveredIn bytes) ≡ b → Fits (formulaAt (s .formulas) id) (linkAt (s .panel .links) id)
+          → Fits (formulaAt (cond b (s .formulas) (withFormula (s .formulas) id None)) id) (newLink level bytes)
+      go true e (inl n) = inl n
+      go true e (inr (u, a)) = inr (refl, rw (← eqb-true (linkAt (s .panel .links) id .covered) (coveredIn bytes) e) a)
+      go false e f = inl (dropped-here id l)
+
+  changed-there : (id level : ℕ) (bytes : List ℕ) (k : ℕ) → k ≢ id → (q : Panel) → Without (s .panel) id q
+      → Fits (after (changing id level bytes) k) (linkAt (q .links) k)
+  changed-there id level bytes k d q w = go (eqb (linkAt (s .panel .links) id .covered) (coveredIn bytes)) (kept (h .fits k))
+    where
+      -- of another link only the standing may be another
+      kept : Fits (formulaAt (s .formulas) k) (linkAt (s .panel .links) k) → Fits (formulaAt (s .formulas) k) (linkAt (q .links) k)
+      kept f =
+          fits-alike (q .links) (set (s .panel .links) id noLink) (w .links) k
+          (subst (Fits (formulaAt (s .formulas) k)) (sym (link-there (s .panel .links) id k noLink d)) f)
+
+      go : (b : Bool) → Fits (formulaAt (s .formulas) k) (linkAt (q .links) k)
+          → Fits (formulaAt (cond b (s .formulas) (withFormula (s .formulas) id None)) k) (linkAt (q .links) k)
+      go true f = f
+      go false f = subst (λ (x : Formula). Fits x (linkAt (q .links) k)) (sym (dropped-there id k d)) f
+
   fits-solved : (c : panel.Command) → Changes (λ q. FitsAll (after c) (q .links)) (s .panel) c
   unfolding opened toFront
   fits-solved (opening n) = λ a. subst (FitsAll (after (opening n))) (unopened-links (s .panel) (h .panel) (openable (s .panel) n a .0)) (h .fits)
   fits-solved (adding id level bytes) = λ a.
-      fits-set (after (adding id level bytes)) (s .panel .links) id (newLink level bytes)
-      (unused-none (formulaAt (s .formulas) id) (linkAt (s .panel .links) id) (h .fits id) (addable (s .panel) id level bytes a .free)) (λ k d. h .fits k)
+      let new = addable (s .panel) id level bytes a in
+      fits-set (after (adding id level bytes)) (s .panel .links) id (newLink level bytes) (omega (arith, h .panel .links-length, new .link .number))
+      (inl (unused-none (formulaAt (s .formulas) id) (linkAt (s .panel .links) id) (h .fits id) (new .free))) (λ k d. h .fits k)
   fits-solved (removing id) = λ a.
       subst (FitsAll (after (removing id))) (sym (dropped-parts (s .panel) id .1))
-      (fits-set (after (removing id)) (s .panel .links) id noLink (dropped-here id (removable (s .panel) id a .number))
+      (fits-set (after (removing id)) (s .panel .links) id noLink (omega (arith, h .panel .links-length, removable (s .panel) id a .number))
+      (inl (dropped-here id (removable (s .panel) id a .number)))
       (λ k d. subst (λ (x : Formula). Fits x (linkAt (s .panel .links) k)) (sym (dropped-there id k d)) (h .fits k)))
   fits-solved (touching f) = λ a. h .fits
   fits-solved planning = h .fits
+  fits-solved (changing id level bytes) = λ a q w.
+      let small = changeable (s .panel) id level bytes a .number in
+      fits-set (after (changing id level bytes)) (q .links) id (newLink level bytes) (omega (arith, w .full, h .panel .links-length)) (changed-here id level bytes small)
+      (λ k d. changed-there id level bytes k d q w)
 
-  after-length : (c : panel.Command) → length (formulasAfter (s .formulas) c .of) ≡ 128
+  after-length : (c : panel.Command) → length (formulasAfter s c .of) ≡ 128
   after-length (opening n) = h .formulas-length
   after-length (adding id level bytes) = h .formulas-length
   after-length (removing id) = length-set (s .formulas .of) id noRule ∙ h .formulas-length
   after-length (touching f) = h .formulas-length
   after-length planning = h .formulas-length
+  after-length (changing id level bytes) = go (eqb (linkAt (s .panel .links) id .covered) (coveredIn bytes))
+    where
+      go : (b : Bool) → length (cond b (s .formulas) (withFormula (s .formulas) id None) .of) ≡ 128
+      go true = h .formulas-length
+      go false = length-set (s .formulas .of) id noRule ∙ h .formulas-length
 
   legal-solved : (c : panel.Command) → LegalSheet (performed s (solving c) .sheet)
   legal-solved c =
       go (panel.performed (s .panel) c) (legal-performed (s .panel) c (h .panel)) (grows (decLt 0 (s .panel .size)))
-      (kept-performed Fitting (λ q d vs. fits-alike (after c) (reversed q d vs .links) (q .links) (reversed-alike q d vs)) (s .panel) c (fits-solved c))
+      (kept-performed Fitting (λ q d vs f k. fits-alike (reversed q d vs .links) (q .links) (reversed-alike q d vs) k (f k)) (s .panel) c (fits-solved c))
     where
       Fitting : Panel → Type 0
       Fitting q = FitsAll (after c) (q .links)
@@ -194,7 +228,7 @@ module _ (s : Sheet) (h : LegalSheet s) where
     where
       turns : (q : Panel) (c : Item) (vs : List ℕ) → Touched f q → Touched f (reversed q c vs)
       turns q c vs t = record {
-        fits = fits-alike (formulaAt (s .formulas)) (reversed q c vs .links) (q .links) (reversed-alike q c vs) (t .fits);
+        fits = λ k. fits-alike (reversed q c vs .links) (q .links) (reversed-alike q c vs) k (t .fits k);
         size = reversed-size q c vs ∙ t .size;
         low = t .low;
       }

@@ -1,8 +1,8 @@
--- Document 01's commands on a sheet, and the commands of document 02, request 2. Quotations are of that request.
+-- The panel's commands on a sheet, and the commands of document 02, request 2. Quotations are of that request if not of another.
 use Prim.Native.Nat.{ℕ}
 use mathlib.Core.Bool.{Bool, false, not, cond}
 use mathlib.Core.List.{List, [], _∷_}
-use lib.Dec.{leb, ltb}
+use lib.Dec.{eqb, leb, ltb}
 use lib.IntN.{ℤ}
 use lib.ListN.{set}
 use Rattle.fieldset.specs.Tables.{at}
@@ -13,7 +13,7 @@ use Rattle.panel.specs.Items.{linkAt}
 use Rattle.panel.specs.Answers as answers
 use Rattle.panel.specs.Answers.{refusalBytes, isRefusal}
 use Rattle.panel.specs.Commands as panel
-use Rattle.panel.specs.Commands.{opening, adding, removing, touching, planning, Check, check, checkReply}
+use Rattle.panel.specs.Commands.{opening, adding, removing, touching, planning, changing, coveredIn, Check, check, checkReply}
 use Rattle.formulas.specs.declared.Formula.{Formula}
 use Rattle.formulas.specs.declared.Formula.the-variants.{None, Ratio, Sum}
 use Rattle.formulas.specs.declared.Formulas.{Formulas}
@@ -23,7 +23,7 @@ use Rattle.sheet.specs.declared.Sheet.{Sheet}
 use Rattle.sheet.specs.Sheets.{withFormula, evaluated}
 
 pub data Command : Type 0 where
-  -- one of document 01's
+  -- one of the panel's
   solving : panel.Command → Command
   -- "Frame 07 f and four bytes"
   entering : ℕ → ℤ → Command
@@ -38,22 +38,25 @@ pub record Answer : Type 0 where
 abbrev pub refused : Sheet → Refusal → Answer
 refused s r = record { sheet = s; reply = 0xFF ∷ refusalBytes r }
 
--- ---- document 01's commands
+-- ---- the panel's commands
 
--- the formulas after a command that is not refused: "removal drops it"
-abbrev pub formulasAfter : Formulas → panel.Command → Formulas
-formulasAfter formulas (opening n) = formulas
-formulasAfter formulas (adding id level bytes) = formulas
-formulasAfter formulas (removing id) = withFormula formulas id None
-formulasAfter formulas (touching f) = formulas
-formulasAfter formulas planning = formulas
+-- the formulas after a command that is not refused: "removal drops it"; of a change, "its formula kept if the covered fields are the same, else dropped"
+-- (request 5)
+abbrev pub formulasAfter : Sheet → panel.Command → Formulas
+formulasAfter s (opening n) = s .formulas
+formulasAfter s (adding id level bytes) = s .formulas
+formulasAfter s (removing id) = withFormula (s .formulas) id None
+formulasAfter s (touching f) = s .formulas
+formulasAfter s planning = s .formulas
+formulasAfter s (changing id level bytes) =
+    cond (eqb (linkAt (s .panel .links) id .covered) (coveredIn bytes)) (s .formulas) (withFormula (s .formulas) id None)
 
 -- no value changes
 abbrev pub solved : Sheet → panel.Command → answers.Answer → Answer
 solved s c a =
     record {
       sheet =
-          record { panel = a .panel; formulas = cond (isRefusal (a .reply)) (s .formulas) (formulasAfter (s .formulas) c); values = s .values };
+          record { panel = a .panel; formulas = cond (isRefusal (a .reply)) (s .formulas) (formulasAfter s c); values = s .values };
       reply = a .reply;
     }
 

@@ -18,8 +18,9 @@ use Rattle.fieldset.proofs.Fields.{without-only}
 use Rattle.panel.specs.declared.Link.{Link}
 use Rattle.panel.specs.declared.Panel.{Panel}
 use Rattle.panel.specs.Items.{Item, link, linkAt, setterOf, levelOf, outputsOf, readsOf, itemOf}
+use Rattle.panel.specs.Panels.{withLink}
 use Rattle.panel.specs.Legal.{Legal}
-use Rattle.panel.proofs.Reversed.{setter-link, setter-stay}
+use Rattle.panel.proofs.Reversed.{setter-link, setter-stay, link-there}
 use Rattle.tables.specs.declared.Entry.{Entry}
 use Rattle.tables.specs.Tables.{EntryOf, Setting, TabledTo, Tabled, Places, levelWith}
 
@@ -100,6 +101,17 @@ tabled-same p q same t = record {
   reads-full = t .reads-full;
   setting = λ f k. same f _ _ _ k (t .setting f k);
 }
+
+-- another link of a number that sets no field is in none of the tables
+pub tabled-link : (p : Panel) (i : ℕ) (l : Link) → ((f : ℕ) → f < 64 → at (p .setter) f < 128 → at (p .setter) f ≢ i) → {levels others reads : List ℕ}
+    → Tabled p levels others reads → Tabled (withLink p i l) levels others reads
+tabled-link p i l unset =
+    tabled-same p (withLink p i l)
+    (λ f a b c k s. placed-setting p (withLink p i l) f refl (λ n. link-there (p .links) i (at (p .setter) f) l (unset f k n)) (kept f a s (ltb (at (p .setter) f) 128) refl) s)
+  where
+    kept : (f a : ℕ) {b c : ℕ} → Setting p f a b c → (t : Bool) → ltb (at (p .setter) f) 128 ≡ t → a ≡ levelWith (at (p .setter) f) (at (p .place) f) a
+    kept f a s true e = rw e refl
+    kept f a s false e = rw e (s .level-is ∙ rw (setter-stay (p .setter) f (ltb-false (at (p .setter) f) 128 e)) refl)
 
 -- with another entry of v: it is q's, and the others were
 pub tabled-set : (p q : Panel) (n m : ℕ) {l o r : List ℕ} (v x y z : ℕ) → v < 64

@@ -78,13 +78,13 @@ tabled-waiting p c t =
     tabled-same p (waiting p c)
     (λ f x y z k s. alike-setting p (waiting p c) f x y z (ap (λ (a : List ℕ). setterOf a f) (waiting-setter p c)) (waiting-place p c) (waiting-alike p c) s) t
 
--- the tables without the entry of one field
-pub tabled-but : (p : Panel) (v : ℕ) {l o r : List ℕ} → v < 64 → Tabled p l o r → TabledBut p (Holding v) l o r
-tabled-but p v k t = record {
+-- the tables are the panel's own, whatever is freed
+pub tabled-but : (p : Panel) (s : Standing) {l o r : List ℕ} → ((v : ℕ) → s ≡ Holding v → v < 64) → Tabled p l o r → TabledBut p s l o r
+tabled-but p s field t = record {
   levels-full = t .levels-full;
   others-full = t .others-full;
   reads-full = t .reads-full;
-  field = λ w e. let d : v ≡ w = cc in omega arith;
+  field = field;
   setting = λ f h. inr (t .setting f h);
 }
 
@@ -213,7 +213,7 @@ module _ (n : ℕ) (path : List ℕ) {whole : Panel} (long : n ≤ length path) 
             );
         full = length-set (p .setter) k m ∙ h .full;
         placed = h .placed;
-        tabled = rw (same, ek) (tabled-holding p c v (h .full) lv e (rw (ej, ek) at is) (tabled-but p v lv (h .tabled)));
+        tabled = rw (same, ek) (tabled-holding p c v (h .full) lv e (rw (ej, ek) at is) (tabled-but p (Holding v) (λ w d. let z : v ≡ w = cc in omega (arith, lv)) (h .tabled)));
       }
 
   pub reversing-ends : {p : Panel} {c i : ℕ} {levels others reads : List ℕ} {j : ℕ} {l : Link}

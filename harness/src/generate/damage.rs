@@ -34,7 +34,7 @@ fn bad_frame(rng: &mut Rng, mut frame: Vec<u8>) -> Vec<u8> {
         5 => frame = vec![4, *rng.pick(&[0, 1, 62, 63, 64, 128, 255])],
         6 => frame = bad_value(rng),
         7 => frame = bad_formula(rng),
-        _ => frame = bad_add(rng),
+        _ => frame = bad_link(rng),
     }
     frame
 }
@@ -56,9 +56,10 @@ fn bad_formula(rng: &mut Rng) -> Vec<u8> {
     frame
 }
 
-/// An add frame with something wrong, as a rule.
-fn bad_add(rng: &mut Rng) -> Vec<u8> {
-    let mut frame = vec![2, rng.byte() % 128, rng.byte() % 16];
+/// The frame of an add or a change with something wrong, as a rule.
+fn bad_link(rng: &mut Rng) -> Vec<u8> {
+    let ids = *rng.pick(&[4, 128]);
+    let mut frame = vec![*rng.pick(&[2, 2, 6]), rng.byte() % ids, rng.byte() % 16];
     let first = rng.byte() % 4;
     match rng.below(9) {
         0 => frame.extend([first, first + 1]),

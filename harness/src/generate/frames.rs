@@ -1,7 +1,7 @@
 //! Random well-formed frames for a panel, in different mixes.
 
 use super::rng::Rng;
-use super::values;
+use super::{changes, values};
 use std::collections::BTreeMap;
 
 /// What the frames of a text are drawn from. Pairs are the least and the
@@ -20,8 +20,9 @@ pub struct Mix {
     pub output_percent: usize,
     /// Number of frames after the opening.
     pub frames: (usize, usize),
-    /// Weights of add, remove, touch, plan, value (kind 07) and formula (kind 08).
-    pub weights: [usize; 6],
+    /// Weights of add, remove, touch, plan, value (kind 07), formula (kind 08) and
+    /// change (kind 06).
+    pub weights: [usize; 7],
     /// Chance of a line to be damaged, in those texts that have damaged lines.
     pub damaged_percent: usize,
 }
@@ -36,7 +37,7 @@ const MIDDLE: Mix = Mix {
     covered: (1, 4),
     output_percent: 60,
     frames: (10, 80),
-    weights: [50, 25, 20, 5, 15, 10],
+    weights: [50, 25, 20, 5, 15, 10, 15],
     damaged_percent: 10,
 };
 
@@ -69,7 +70,7 @@ pub const MIXES: &[Mix] = &[
         ids: 20,
         levels: &[1, 2, 2, 3, 3, 4],
         covered: (1, 3),
-        weights: [50, 40, 5, 5, 10, 5],
+        weights: [50, 40, 5, 5, 10, 5, 25],
         ..MIDDLE
     },
     // Fewer links than fields, often touched: blocked stays.
@@ -79,7 +80,7 @@ pub const MIXES: &[Mix] = &[
         levels: &[0, 0, 3],
         covered: (2, 5),
         output_percent: 80,
-        weights: [35, 25, 35, 5, 20, 10],
+        weights: [35, 25, 35, 5, 20, 10, 20],
         ..MIDDLE
     },
     // Long walks over many fields.
@@ -99,7 +100,7 @@ pub const MIXES: &[Mix] = &[
         levels: ALL_LEVELS,
         covered: (1, 8),
         frames: (100, 300),
-        weights: [80, 5, 10, 5, 10, 10],
+        weights: [80, 5, 10, 5, 10, 10, 10],
         ..MIDDLE
     },
     // All link numbers in use at last.
@@ -110,7 +111,7 @@ pub const MIXES: &[Mix] = &[
         covered: (1, 2),
         output_percent: 95,
         frames: (250, 400),
-        weights: [95, 0, 3, 2, 3, 2],
+        weights: [95, 0, 3, 2, 3, 2, 2],
         damaged_percent: 1,
     },
     // Rows of ratios in both directions.
@@ -119,7 +120,7 @@ pub const MIXES: &[Mix] = &[
         levels: &[0, 0, 2, 7],
         covered: (2, 2),
         output_percent: 85,
-        weights: [12, 8, 3, 2, 50, 25],
+        weights: [12, 8, 3, 2, 50, 25, 10],
         ..MIDDLE
     },
     // Sums, many of them in one direction.
@@ -128,7 +129,7 @@ pub const MIXES: &[Mix] = &[
         levels: &[0, 2, 7],
         covered: (2, 5),
         output_percent: 40,
-        weights: [12, 8, 3, 2, 50, 25],
+        weights: [12, 8, 3, 2, 50, 25, 10],
         ..MIDDLE
     },
     // Any number of fields, any level.
@@ -159,7 +160,7 @@ pub const MIXES: &[Mix] = &[
         fields: (2, 10),
         ids: 30,
         frames: (300, 1500),
-        weights: [40, 35, 20, 5, 20, 10],
+        weights: [40, 35, 20, 5, 20, 10, 20],
         damaged_percent: 2,
         ..MIDDLE
     },
@@ -200,7 +201,7 @@ fn frames_while(
     frames
 }
 
-/// The link numbers taken to be in use, each with the fields that it covers.
+/// The link numbers taken to be in use, each with its body (see `body`).
 type Used = BTreeMap<u8, Vec<u8>>;
 
 /// One frame.
@@ -209,10 +210,10 @@ fn frame(rng: &mut Rng, mix: &Mix, fields: usize, used: &mut Used) -> Vec<u8> {
         _ if rng.percent(1) => vec![1, rng.between(1, 64) as u8],
         0 => {
             let id = unused_id(rng, mix, used);
-            let frame = add(rng, mix, fields, id);
+            let body = body(rng, mix, fields);
+            let frame = [&[2, id], &body[..]].concat();
             // An add of a number in use is refused.
-            let covered = || frame[3..].iter().map(|byte| byte % 128).collect();
-            used.entry(id).or_insert_with(covered);
+            used.entry(id).or_insert(body);
             frame
         }
         1 => {
@@ -223,10 +224,23 @@ fn frame(rng: &mut Rng, mix: &Mix, fields: usize, used: &mut Used) -> Vec<u8> {
         2 => vec![4, rng.below(fields) as u8],
         3 => vec![5],
         4 => values::store(rng, fields),
+        5 => {
+            let id = used_id(rng, mix, used);
+            let field_bytes = used.get(&id).map_or(&[][..], |body| &body[1..]);
+            let covered: Vec<u8> = field_bytes.iter().map(|byte| byte % 128).collect();
+            values::formula(rng, id, &covered, fields)
+        }
         _ => {
             let id = used_id(rng, mix, used);
-            let covered = used.get(&id).map_or(&[][..], Vec::as_slice);
-            values::formula(rng, id, covered, fields)
+            let body = match used.get_mut(&id) {
+                Some(body) => {
+                    changes::change(rng, mix, fields, body);
+                    body.clone()
+                }
+                // A change of a number not in use is refused.
+                None => body(rng, mix, fields),
+            };
+            [&[6, id], &body[..]].concat()
         }
     }
 }
@@ -264,16 +278,23 @@ fn used_id(rng: &mut Rng, mix: &Mix, used: &Used) -> u8 {
     }
 }
 
-/// An add frame over fields that the panel has.
-fn add(rng: &mut Rng, mix: &Mix, fields: usize, id: u8) -> Vec<u8> {
+/// The body of an add or a change, its level and its field bytes, over fields that
+/// the panel has.
+pub(super) fn body(rng: &mut Rng, mix: &Mix, fields: usize) -> Vec<u8> {
     let covered = rng.between(mix.covered.0, mix.covered.1).min(fields);
-    let sure_output = rng.below(covered);
-    let mut frame = vec![2, id, *rng.pick(mix.levels)];
-    for (place, field) in some_fields(rng, fields, covered).into_iter().enumerate() {
+    let mut body = vec![*rng.pick(mix.levels)];
+    body.extend(some_fields(rng, fields, covered));
+    draw_outputs(rng, mix, &mut body[1..]);
+    body
+}
+
+/// Draws which of these fields are outputs.
+pub(super) fn draw_outputs(rng: &mut Rng, mix: &Mix, field_bytes: &mut [u8]) {
+    let sure_output = rng.below(field_bytes.len());
+    for (place, byte) in field_bytes.iter_mut().enumerate() {
         let output = place == sure_output || rng.percent(mix.output_percent);
-        frame.push(field + if output { 0x80 } else { 0 });
+        *byte = *byte % 128 + if output { 0x80 } else { 0 };
     }
-    frame
 }
 
 /// So many different fields, rising.

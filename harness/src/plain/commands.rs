@@ -17,6 +17,7 @@ impl Run {
             Command::Remove(id) => self.remove(id)?,
             Command::Touch(field) => self.panel.touch(field)?,
             Command::Plan => return self.panel.plan().map(Reply::Plan),
+            Command::Change(id, level, ref field_bytes) => self.change(id, level, field_bytes)?,
             Command::Store(field, value) => self.store(field, value)?,
             Command::Formula(id, formula) => self.give_formula(id, formula)?,
         };
@@ -36,6 +37,20 @@ impl Run {
         self.scans.extend(self.panel.scan_of_remove(id));
         let moved = self.panel.remove(id)?;
         self.formulas.remove(&id);
+        Ok(moved)
+    }
+
+    /// Kind 06 "removes the link and adds it anew as one, its formula kept if the
+    /// covered fields are the same, else dropped". The scan that the removal needs
+    /// goes on record once the checks are passed, whatever refuses the change then.
+    fn change(&mut self, id: u8, level: u8, field_bytes: &[u8]) -> Result<u8, Refusal> {
+        let link = self.panel.changed_link(id, level, field_bytes)?;
+        let same_fields = link.covered == self.panel.links[&id].covered;
+        self.scans.extend(self.panel.scan_of_remove(id));
+        let moved = self.panel.change(id, link)?;
+        if !same_fields {
+            self.formulas.remove(&id);
+        }
         Ok(moved)
     }
 

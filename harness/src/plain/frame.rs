@@ -17,6 +17,8 @@ pub enum Command {
     Touch(u8),
     /// 05
     Plan,
+    /// 06 id level, then the field bytes
+    Change(u8, u8, Vec<u8>),
     /// 07 f and a value
     Store(u8, i32),
     /// 08 id and a formula
@@ -63,10 +65,12 @@ fn bad_hex(offset: usize) -> Refusal {
 pub fn read_frame(frame: &[u8]) -> Result<Command, Refusal> {
     match *frame {
         [1, n] => Ok(Command::Open(n)),
-        [2, id, level, ref field_bytes @ ..] => read_add(id, level, field_bytes),
+        [2, id, level, ref rest @ ..] => Ok(Command::Add(id, level, field_bytes(rest)?)),
         [3, id] => Ok(Command::Remove(id)),
         [4, field] => Ok(Command::Touch(field)),
         [5] => Ok(Command::Plan),
+        // "Frame 06, with the body of frame 02".
+        [6, id, level, ref rest @ ..] => Ok(Command::Change(id, level, field_bytes(rest)?)),
         [7, field, a, b, c, d] => {
             let value = i32::from_be_bytes([a, b, c, d]);
             Ok(Command::Store(field, value))
@@ -80,14 +84,14 @@ pub fn read_frame(frame: &[u8]) -> Result<Command, Refusal> {
     }
 }
 
-/// "02 id level, then 1 to 8 field bytes: add. Field byte: low six bits the
-/// field, bit 7 set if it is an output, bit 6 zero."
-fn read_add(id: u8, level: u8, field_bytes: &[u8]) -> Result<Command, Refusal> {
-    let right_length = (1..=8).contains(&field_bytes.len());
-    if !right_length || field_bytes.iter().any(|&byte| has_bit_6(byte)) {
+/// The rest of a frame as field bytes: "02 id level, then 1 to 8 field bytes: add.
+/// Field byte: low six bits the field, bit 7 set if it is an output, bit 6 zero."
+fn field_bytes(rest: &[u8]) -> Result<Vec<u8>, Refusal> {
+    let right_length = (1..=8).contains(&rest.len());
+    if !right_length || rest.iter().any(|&byte| has_bit_6(byte)) {
         return Err(Refusal::BadFrame);
     }
-    Ok(Command::Add(id, level, field_bytes.to_vec()))
+    Ok(rest.to_vec())
 }
 
 /// Bytes as digits, two a byte.

@@ -1,4 +1,5 @@
-//! "The four steps", the opening, and the checks in front of them.
+//! "The four steps", the opening, the change of a link (document 02, request 5),
+//! and the checks in front of them.
 
 use super::panel::{Item, Link, Panel, Standing};
 use super::refusal::Refusal;
@@ -33,16 +34,22 @@ impl Panel {
 
     /// Add, with its checks.
     pub fn add(&mut self, id: u8, level: u8, field_bytes: &[u8]) -> Result<u8, Refusal> {
-        self.must_be_open()?;
-        let link = new_link(id, level, field_bytes).ok_or(Refusal::BadLink)?;
-        for &field in &link.covered {
-            self.must_have_field(field)?;
-        }
+        let link = self.sound_link(id, level, field_bytes)?;
         if self.links.contains_key(&id) {
             return Err(Refusal::LinkTaken);
         }
         let after = self.after_add(id, link)?;
         Ok(self.replace_with(after))
+    }
+
+    /// The waiting link of an add or a change, after the checks of its numbers.
+    fn sound_link(&self, id: u8, level: u8, field_bytes: &[u8]) -> Result<Link, Refusal> {
+        self.must_be_open()?;
+        let link = new_link(id, level, field_bytes).ok_or(Refusal::BadLink)?;
+        for &field in &link.covered {
+            self.must_have_field(field)?;
+        }
+        Ok(link)
     }
 
     /// Remove, with its checks.
@@ -51,6 +58,29 @@ impl Panel {
         Panel::must_be_number(id)?;
         self.must_have_link(id)?;
         let after = self.after_remove(id)?;
+        Ok(self.replace_with(after))
+    }
+
+    /// The waiting link of a change: "Add's checks up to LinkTaken come first, with
+    /// NoSuchLink in LinkTaken's place".
+    pub(super) fn changed_link(
+        &self,
+        id: u8,
+        level: u8,
+        field_bytes: &[u8],
+    ) -> Result<Link, Refusal> {
+        let link = self.sound_link(id, level, field_bytes)?;
+        self.must_have_link(id)?;
+        Ok(link)
+    }
+
+    /// Change, behind its checks: it "removes the link and adds it anew as one";
+    /// "then the removal's Loop, then the adding's Conflict or Loop; a refusal
+    /// changes nothing". "Moved compares the state before with the state after
+    /// both, a link of the same number being the same setter."
+    pub(super) fn change(&mut self, id: u8, link: Link) -> Result<u8, Refusal> {
+        let removed = self.after_remove(id)?;
+        let after = removed.after_add(id, link)?;
         Ok(self.replace_with(after))
     }
 
@@ -98,7 +128,8 @@ impl Panel {
         }
     }
 
-    /// "NoSuchLink (removed number not in use)", or one that gets a formula.
+    /// "NoSuchLink (removed number not in use)", or one that is changed or gets a
+    /// formula.
     pub(super) fn must_have_link(&self, id: u8) -> Result<(), Refusal> {
         match self.links.contains_key(&id) {
             true => Ok(()),
@@ -214,10 +245,10 @@ impl Panel {
     }
 }
 
-/// The waiting link of an add, or nothing where BadLink applies: "id over 127
-/// in any kind that names a link, level over 15, fields not rising, no output".
-/// Also nothing for what no frame can hold: no field byte, more than eight,
-/// bit 6 set.
+/// The waiting link of an add or a change, or nothing where BadLink applies: "id
+/// over 127 in any kind that names a link, level over 15, fields not rising, no
+/// output". Also nothing for what no frame can hold: no field byte, more than
+/// eight, bit 6 set.
 pub fn new_link(id: u8, level: u8, field_bytes: &[u8]) -> Option<Link> {
     let covered: Vec<u8> = field_bytes.iter().map(|byte| byte % 64).collect();
     let outputs: Vec<u8> = (field_bytes.iter().filter(|&&byte| byte >= 128))

@@ -69,8 +69,8 @@ pub struct Run {
     /// By link number.
     pub formulas: BTreeMap<u8, Formula>,
     pub tally: Tally,
-    /// For each scan for blocked links and stays that a removal needed, in order,
-    /// its number of strengths.
+    /// For each scan for blocked links and stays that a removal needed, that of a
+    /// change included, in order, its number of strengths.
     pub scans: Vec<u8>,
 }
 

@@ -1,6 +1,6 @@
 //! Full panels: 64 fields, up to 128 links, up to eight outputs a link.
 
-use super::{add, push, Lines, Worked};
+use super::{add, change, push, Lines, Worked};
 use crate::plain::hex;
 
 /// Every text of this file.
@@ -11,6 +11,7 @@ pub fn all() -> Vec<Worked> {
         chain_planned(),
         row_with_127_links(),
         row_with_128_links(),
+        row_changed(),
         threes_touched(),
         threes_turned(),
     ]
@@ -95,13 +96,18 @@ fn row() -> Lines {
     let mut lines = opening();
     let held = (1..64).map(|id| (add(id, 0, [id - 1, id | 0x80]), "0001".to_string()));
     lines.extend(held);
-    let others = [0].into_iter().chain(64..127);
-    let waiting = others.zip(0..).map(|(id, place): (u8, u8)| {
-        let first = 1 + place % 56;
-        (add(id, 5, outputs(first..first + 8)), "0000".to_string())
-    });
-    lines.extend(waiting);
+    let waiting = row_waiting();
+    lines.extend(waiting.map(|(id, fields)| (add(id, 5, outputs(fields)), "0000".to_string())));
     lines
+}
+
+/// The numbers of the row's links that wait, each with the fields that it may set.
+fn row_waiting() -> impl Iterator<Item = (u8, std::ops::Range<u8>)> {
+    let places = [0].into_iter().chain(64..127).zip(0..);
+    places.map(|(id, place): (u8, u8)| {
+        let first = 1 + place % 56;
+        (id, first..first + 8)
+    })
 }
 
 /// The row's plan, with the setter and the strength of field 63.
@@ -136,6 +142,31 @@ fn row_with_128_links() -> Worked {
     push(&mut lines, &[("033F", "0001"), ("05", &row_plan(118, 5))]);
     push(&mut lines, &[("033F", "FF09"), ("043F", "0000")]);
     Worked::new("row with 128 links", &lines, "EE00008800008500000309")
+}
+
+/// All numbers are in use and each link is changed in its turn; the plan is as before.
+///
+/// Links 1 to 63 to what they are. Without link i the stay of i blocks the waiting links
+/// that may set i. The lowest number of them would set it and read its other seven
+/// fields. For i up to 7 that is link 0, over fields 1 to 8: it would read i + 1, whose
+/// link reads i, a loop. For the others the seven are i - 7 to i - 1, and then link i
+/// takes field i back, of strength 5: moved 0.
+///
+/// The others to level 6, at which they wait too, and to level 0, a Conflict.
+fn row_changed() -> Worked {
+    let mut lines = row();
+    push(&mut lines, &[("027F0FBF", "0000"), ("027F0FBF", "FF08")]);
+    for id in 1..64 {
+        let same = change(id, 0, [id - 1, id | 0x80]);
+        push(&mut lines, &[(&same, if id < 8 { "FF0B" } else { "0000" })]);
+    }
+    for (id, fields) in row_waiting().chain([(127, 63..64)]) {
+        let weaker = change(id, 6, outputs(fields.clone()));
+        let required = change(id, 0, outputs(fields));
+        push(&mut lines, &[(&weaker, "0000"), (&required, "FF0A")]);
+    }
+    push(&mut lines, &[("05", &row_plan(63, 0))]);
+    Worked::new("row changed", &lines, "EE0001440000FB0000490A")
 }
 
 /// 128 links on 21 threes of fields a, a + 1, a + 2, a being 3b, and field 63.

@@ -39,7 +39,7 @@ pub struct Part {
 }
 
 impl Valued {
-    fn new(name: &str) -> Valued {
+    pub(super) fn new(name: &str) -> Valued {
         Valued {
             name: name.to_string(),
             parts: Vec::new(),
@@ -47,12 +47,12 @@ impl Valued {
     }
 
     /// A further part, after which each held formula is right.
-    fn part(self, lines: &[(&str, &str)], values: &[i32]) -> Valued {
+    pub(super) fn part(self, lines: &[(&str, &str)], values: &[i32]) -> Valued {
         self.with(owned(lines), values, true)
     }
 
     /// A further part, after which some held formula is not right.
-    fn unsettled(self, lines: &[(&str, &str)], values: &[i32]) -> Valued {
+    pub(super) fn unsettled(self, lines: &[(&str, &str)], values: &[i32]) -> Valued {
         self.with(owned(lines), values, false)
     }
 
@@ -81,7 +81,7 @@ impl Valued {
     }
 
     /// The whole text, and the text up to each part with looks at all its values.
-    fn looked_at(&self) -> Vec<Worked> {
+    pub(super) fn looked_at(&self) -> Vec<Worked> {
         let whole = self.lines_up_to(self.parts.len() - 1);
         let mut texts = vec![Worked::of_lines(&self.name, &whole)];
         let parts = self.parts.iter().enumerate();

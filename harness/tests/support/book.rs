@@ -33,8 +33,9 @@ impl Book {
     /// "A refused command and a plan change nothing in it. Opening enters the
     /// stays of fields 0 to n - 1, in that order. Add enters the link. Remove
     /// strikes out the link of that number. Touch f moves f's stay to the
-    /// front; the other stays keep their order." Kind 07 touches too. Beside it
-    /// stand the formulas, which a removal drops.
+    /// front; the other stays keep their order." Kind 07 touches too, and kind 06
+    /// is Remove and Add. Beside it stand the formulas, which a removal drops, and
+    /// a change where the covered fields are not the same.
     pub fn feed(&mut self, frame: &[u8], refused: bool) {
         match *frame {
             _ if refused => {}
@@ -47,6 +48,14 @@ impl Book {
             [4, f] | [7, f, ..] => {
                 self.stays.retain(|&field| field != f);
                 self.stays.insert(0, f);
+            }
+            [6, id, ..] => {
+                let (old, new) = (self.member(Name::Link(id)), link(frame));
+                if old.covered != new.covered {
+                    self.rules.remove(&id);
+                }
+                self.links.retain(|link| link.name != new.name);
+                self.links.push(new);
             }
             [8, id, ..] => drop(self.rules.insert(id, rule(frame))),
             _ => {}
@@ -107,7 +116,7 @@ impl Book {
     }
 }
 
-/// The link of an add frame.
+/// The link of the frame of an add or a change.
 pub fn link(frame: &[u8]) -> Member {
     let field_bytes = &frame[3..];
     let outputs = field_bytes.iter().filter(|&&byte| byte >= 0x80);

@@ -1,20 +1,17 @@
--- `adding::add` meets its contract. A refusal of the checks is the command's (`add-refused`). An add that passes enters a link (`entering`), with a
--- verdict on it: a loop refuses it (`add-looped`), a required link that is not blocked meets Conflict (`add-conflict`), else the step is the
--- command's (`add-done`).
-use mathlib.Core.Path.{_≡_}
-use mathlib.Core.Logic.{⊎-elim}
+-- `adding::add` meets its contract. A refusal of the checks is the command's (`add-refused`). An add that passes enters a link (`passed`), and the
+-- verdict on it refuses it (`entry-refused`) or gives the command's step (`entry-done`).
+use mathlib.Core.Path.{_≡_, sym, _∙_}
 use Prim.Native.Nat.{_%_}
 use borrow.Author.Needs.{needs}
 use Rattle.panel.specs.Commands.{adding}
 use Rattle.panel.proofs.Outcomes.{decides-refused}
-use Rattle.reversal.proofs.Verdicts.{no-loop, no-free}
-use Rattle.adding.proofs.Adding.{Entering, add-refused, add-passes, new-unresolved, add-looped, add-conflict, add-done}
+use Rattle.adding.proofs.Adding.{Entering, add-refused, add-passes, new-unresolved, entry-refused, entry-done}
 use Rattle.adding.proofs.add.Statement.{statement}
 use Rattle.adding.proofs.add.Tie as tie
 
 -- ---- the places: the checks made, the checks passed, the verdict
 
-abbrev start : tie.After-check-add → tie.Start
+abbrev start : tie.After-check-link → tie.Start
 start c = c .before .before .before .before
 
 abbrev begin : tie.After-enum-told2 → tie.Start
@@ -26,7 +23,7 @@ passed c =
     let checked = c .before .before in
     let s = start checked in
     add-passes (s .args .p) (s .args .id) (s .args .level) (s .args .bytes .now) _ _ _ (checked .before .read-fields .ensures) (s .args .old) (s .pre .2)
-    (checked .check-add .result) (checked .check-add .ensures) (s .pre .0) _ (c .enum-told2 .given .1)
+    (checked .check-link .result) (checked .check-link .ensures) (s .pre .0) _ (c .enum-told2 .given .1)
 
 abbrev entered : tie.After-resolve → tie.After-enum-told2
 entered c = c .before .before
@@ -40,7 +37,7 @@ returns c =
     let s = start checked in
     decides-refused _ _ _ _ (adding (s .args .id) (s .args .level) (s .args .bytes .now)) _ (s .pre .3) _ _ (s .pre .2) (told .enum-told .given .1)
     (add-refused (s .args .p) (s .args .id) (s .args .level) (s .args .bytes .now) _ _ _ (checked .before .read-fields .ensures) (s .args .old) (s .pre .2)
-    (checked .check-add .result) (checked .check-add .ensures) _ (told .enum-told .given .1))
+    (checked .check-link .result) (checked .check-link .ensures) _ (told .enum-told .given .1))
     (c .unchanged .ensures)
 
 resolve-requires : tie.Need-resolve-requires
@@ -49,29 +46,23 @@ resolve-requires c κs = let told = c .before in new-unresolved (passed told .1)
 returns-2 : tie.Need-returns-2
 returns-2 c =
     let told = c .before .before in
-    let verdict = told .before .before in
+    let checked = told .before .before in
+    let verdict = checked .before in
     let e = entered verdict in
-    add-looped (passed e .1) (begin e .pre .1) _ _ (verdict .resolve .ensures .0) _ _ (begin e .pre .2) (told .enum-told3 .given .1) (c .unchanged2 .ensures)
+    let s = begin e in
+    let is = told .enum-told3 .given .1 in
+    let (refuses, long) = entry-refused (passed e .1) (s .pre .1) _ (verdict .resolve .result) (verdict .resolve .ensures .0) _ (sym (checked .check-verdict .ensures) ∙ is) in
+    decides-refused (s .args .p) _ _ _ (adding (s .args .id) (s .args .level) (s .args .bytes .now)) _ long _ _ (s .pre .2) is refuses (c .unchanged2 .ensures)
 
 returns-3 : tie.Need-returns-3
 returns-3 c =
-    let told = c .before .before in
-    let required = told .before .before in
-    let verdict = required .before .before in
-    let e = entered verdict in
-    add-conflict (passed e .1) (begin e .pre .1) _ _ (verdict .resolve .ensures .0) _ _ (begin e .pre .2) (required .if1 .taken) (told .enum-told4 .given .1)
-    (c .unchanged3 .ensures)
-
-returns-4 : tie.Need-returns-4
-returns-4 c =
     let made = c .before in
-    let joined = made .before .before in
-    let verdict = joined .before .before in
-    let t = verdict .resolve .result in
+    let told = made .before .before in
+    let checked = told .before .before in
+    let verdict = checked .before in
     let e = entered verdict in
-    add-done (passed e .1) (begin e .pre .1) _ t (verdict .resolve .ensures .0) _ _ _ (made .waiting-link .ensures) (passed e .0)
-    (no-loop t (joined .before .match2 .keys2))
-    (λ free. ⊎-elim (λ required. absurd (no-free t (required .1 .keys2) free)) (λ weaker. weaker .left) (joined .if1 .came)) (c .step-of .ensures)
+    entry-done (passed e .1) (begin e .pre .1) _ (verdict .resolve .result) (verdict .resolve .ensures .0) _ (sym (checked .check-verdict .ensures) ∙ told .enum-told4 .given .1)
+    _ _ _ (made .waiting-link .ensures) (passed e .0) (c .step-of .ensures)
 
 pub add-spec : {M : Type 1} → statement M
 add-spec =
@@ -84,12 +75,11 @@ add-spec =
     returns
     (λ c. search needs)
     resolve-requires
+    (λ c κs. search needs)
     (λ c. search needs)
     (λ c κs. search needs)
     returns-2
     (λ c. search needs)
     (λ c κs. search needs)
-    returns-3
     (λ c κs. search needs)
-    (λ c κs. search needs)
-    returns-4)
+    returns-3)

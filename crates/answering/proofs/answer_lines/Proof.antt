@@ -6,7 +6,7 @@ use borrow.Author.Needs.{needs}
 use borrow.Author.Tests.{leb-true, leb-false}
 use mathlib.Core.Path.{_≡_, refl, sym, ap, _∙_, subst}
 use mathlib.Core.Logic.{⊎-elim}
-use mathlib.Core.List.{List}
+use mathlib.Core.List.{List, [], _∷_}
 use Prim.Native.Nat.{ℕ, _+_, _-_, _≤_, _<_}
 use native.Mathlib.Omega.{arith}
 use mir.Facts.{toZ-ofZ}
@@ -15,6 +15,8 @@ use lib.Seq.{sets, length-sets}
 use Rattle.panel.specs.declared.Panel.{Panel}
 use Rattle.panel.specs.Items.{linkAt}
 use Rattle.panel.specs.Legal.{Legal}
+use Rattle.panel.specs.Outcomes.{Takes}
+use Rattle.formulas.specs.declared.Formulas.{Formulas}
 use Rattle.sheet.specs.declared.Sheet.{Sheet}
 use Rattle.sheet.specs.Sheets.{sheetOf, formulaAt, withFormula}
 use Rattle.sheet.specs.Legal.{LegalSheet}
@@ -23,16 +25,19 @@ use Rattle.taking.proofs.Taking.{Taken, places-taken, taken-reversed, tabled-al
 use Rattle.hex.specs.Hex.{lineOf}
 use Rattle.tally.specs.Tallies.{tallied}
 use Rattle.frames.specs.declared.Command.{Command}
+use Rattle.frames.specs.declared.Command.the-variants.{Change}
+use Rattle.frames.proofs.Command.{the-type}
+use denote.Enum.Declared.{tagOf}
 use Rattle.frames.specs.Frames.{numberOf, commandAnswer, lineAnswer}
 use Rattle.lines.proofs.Lines.{end-within, behind-on}
 use Rattle.panel.specs.Answers.{rowsLength}
 use Rattle.replies.specs.Replies.{restOf, wholeReply}
 use Rattle.replies.proofs.Replies.{rows-tell-none, reply-short}
 use Rattle.frames.specs.Reading.{tailOf}
-use Rattle.deciding.specs.Lines.{Framed, formulaAfter, setsFormula, LineStep, TouchStep}
-use Rattle.deciding.proofs.Arms.{framed, entered-touch, decided-step}
+use Rattle.deciding.specs.Lines.{Framed, formulaAfter, setsFormula, Replied, TouchStep}
+use Rattle.deciding.proofs.Arms.{OneOf, framed, entered-touch}
 use Rattle.answering.specs.Scans.{lineScan}
-use Rattle.answering.proofs.LineAnswers.{removed-scan, no-scan, answer-legal, removed-step, touch-taken, touch-setters, entered-step, formulas-same, did}
+use Rattle.answering.proofs.LineAnswers.{removal-no-change, removed-scan, no-scan, removed-step, touch-taken, touch-setters, entered-step, stepPanel, Stepped, step-legal, decided-stepped, step-panel, changed-panel, changed-tabled, changed-rest, changed-worked, formulas-same, did}
 use Rattle.answering.proofs.Going.{Did, Going, start, line-done, finish-end, finish-full}
 use Rattle.answering.proofs.answer_lines.Statement.{statement}
 use Rattle.answering.proofs.answer_lines.Tie as tie
@@ -181,17 +186,16 @@ same-command : (c : tie.At-match-came Inv-loop μ-loop) → c .match .command �
 same-command c = ⊎-elim (λ w. w .14 ∙ sym (w .1 .given .1)) (⊎-elim (λ w. w .26 ∙ sym (w .8 .given .1)) (λ w. w .13)) (c .match .came)
 
 stepped : (c : tie.At-match-came Inv-loop μ-loop)
-    → let n = c .before in let m = c .match in LineStep (sheet-of n) (n .before .wide .result) (command-of n) (tail-at n) (m .path) (m .rows) (m .values) (m .step)
+    → let n = c .before in let m = c .match in Stepped (sheet-of n) (numberOf (command-of n)) (command-of n) (tail-at n) (m .path) (m .rows) (m .values) (m .step)
 stepped c =
     let n = c .before in
     let m = c .match in
     let l = looped n .loop in
-    subst (λ (k : ℕ). LineStep (sheet-of n) k (command-of n) (tail-at n) (m .path) (m .rows) (m .values) (m .step)) (sym (number-is n))
-    (⊎-elim
+    ⊎-elim
     (λ w.
     let path = w .8 .last .1 .1 .1 .1 .1 .1 .0 in
     rw (w .9, w .11, w .12, w .15)
-    (subst (λ (x : Command). LineStep (sheet-of n) (numberOf x) x (tail-at n) path (l .rows) (l .values) (w .8 .result)) (sym (w .1 .given .1))
+    (subst (λ (x : Command). Stepped (sheet-of n) (numberOf x) x (tail-at n) path (l .rows) (l .values) (w .8 .result)) (sym (w .1 .given .1))
     (removed-step (sheet-of n) _ _ _ _ (l .inv .0) _ (w .8 .ensures .0))))
     (⊎-elim
     (λ w.
@@ -200,16 +204,25 @@ stepped c =
     let after = w .20 .last .1 .1 .1 .1 .1 .1 .1 .1 .0 in
     let t = entered-touch _ _ (tail-at n) _ _ _ (command-of n) _ _ (w .8 .given .1) (w .6 .ensures) in
     rw (w .21, w .23, w .24, w .27)
-    (subst (λ (x : Command). LineStep (sheet-of n) (numberOf x) x (tail-at n) path rows after (w .20 .result)) (sym (w .8 .given .1))
+    (subst (λ (x : Command). Stepped (sheet-of n) (numberOf x) x (tail-at n) path rows after (w .20 .result)) (sym (w .8 .given .1))
     (entered-step (sheet-of n) _ _ (tail-at n) path rows _ (toZ-ofZ (record { sfits = w .16 .ok }) ∙ w .16 .ensures) (t .rows-full) _ (t .decides) after _ (w .20 .ensures))))
-    (λ w. rw (w .8, w .10, w .11, w .14) (decided-step _ _ _ _ _ _ _ (command-of n) (w .0 .keys2) (w .7 .keys2) (w .6 .ensures) (l .formulas) (l .values))))
-    (m .came))
+    (λ w. rw (w .8, w .10, w .11, w .14)
+    (decided-stepped _ _ _ _ _ _ _ (command-of n) (w .0 .keys2) (w .7 .keys2) (named-at n) (w .6 .ensures) (l .formulas) (l .values))))
+    (m .came)
+
+-- the step, of the link that the code names
+takes-at : (c : tie.At-match-came Inv-loop μ-loop)
+    → let n = c .before in let m = c .match in Takes (looped n .loop .q) (n .before .wide .result) (m .path) (m .step) (stepPanel (sheet-of n) (tail-at n) (command-of n))
+takes-at c =
+    let n = c .before in
+    let m = c .match in
+    subst (λ (k : ℕ). Takes (looped n .loop .q) k (m .path) (m .step) (stepPanel (sheet-of n) (tail-at n) (command-of n))) (sym (number-is n)) (stepped c .takes)
 
 abbrev after-of : tie.At-match-came Inv-loop μ-loop → Panel
-after-of c = let n = c .before in commandAnswer (sheet-of n) (command-of n) (tail-at n) .state .panel
+after-of c = let n = c .before in stepPanel (sheet-of n) (tail-at n) (command-of n)
 
 legal-after : (c : tie.At-match-came Inv-loop μ-loop) → Legal (after-of c)
-legal-after c = let n = c .before in answer-legal (sheet-of n) (command-of n) (tail-at n) (is-legal n) .panel
+legal-after c = let n = c .before in step-legal (sheet-of n) (tail-at n) (command-of n) (is-legal n)
 
 mul-link : tie.Need-mul-link Inv-loop μ-loop
 mul-link c = omega (arith, number-small (met c .before .before))
@@ -220,13 +233,13 @@ element-set-from-link c = number-small (met c .before .before)
 stay-levels-requires : tie.Need-stay-levels-requires Inv-loop μ-loop
 stay-levels-requires c κs =
     let m = met (c .before .before .before .before) in
-    (places-taken (stepped m .takes) (legal-after m), looped (m .before) .loop .inv .2 .levels-full)
+    (places-taken (takes-at m) (legal-after m), looped (m .before) .loop .inv .2 .levels-full)
 
 reverse-requires : tie.Need-reverse-requires Inv-loop μ-loop
 reverse-requires c κs =
     let k = changes (c .before .before .before) in
     let m = met (parts k) in
-    let t = stepped m .takes in (
+    let t = takes-at m in (
       t .path-of,
       places-taken t (legal-after m),
       tabled-altered t (legal-after m) (is-legal (m .before) .panel) (number-small (m .before .before)) (looped (m .before) .loop .inv .2) (k .stay-levels .ensures),
@@ -241,10 +254,60 @@ taken j =
     let m = joined j in
     let l = j .before .before .stay-levels .ensures in
     ⊎-elim
-    (λ w. rw (w .6, w .7, w .8, w .9) (taken-reversed (stepped m .takes) (legal-after m) (w .5 .ensures .0) (w .5 .ensures .1)))
+    (λ w. rw (w .6, w .7, w .8, w .9) (taken-reversed (takes-at m) (legal-after m) (w .5 .ensures .0) (w .5 .ensures .1)))
     (λ w. rw (w .1, w .2, w .3, w .4)
-    (taken-unmoved (stepped m .takes) (legal-after m) (is-legal (m .before) .panel) (number-small (m .before .before)) (looped (m .before) .loop .inv .2) l (w .0 .left)))
+    (taken-unmoved (takes-at m) (legal-after m) (is-legal (m .before) .panel) (number-small (m .before .before)) (looped (m .before) .loop .inv .2) l (w .0 .left)))
     (j .if2 .came)
+
+-- ---- a change, where it is asked
+
+changed-requires : tie.Need-changed-requires Inv-loop μ-loop
+changed-requires c κs =
+    let j = c .before .before .before .before .before .before in
+    let t = taken j in
+    (t .legal, t .tabled, framed-at (joined j .before))
+
+-- the arms meet: the panel after the line, its tables, and the rest of the answer
+abbrev met-again : tie.At-match3-came Inv-loop μ-loop → tie.At-match-came Inv-loop μ-loop
+met-again c = joined (c .before)
+
+-- the command is a change, or another
+asks : (c : tie.After-enum-told Inv-loop μ-loop) → command-of (joined (c .before .before) .before) ≡ Change (c .enum-told .given .0 .0) (c .enum-told .given .0 .1 .0)
+asks c = sym (same-command (joined (c .before .before))) ∙ c .enum-told .given .1
+
+other : (c : tie.At-match3-keys2 Inv-loop μ-loop) → OneOf (0 ∷ 1 ∷ 2 ∷ 3 ∷ 4 ∷ 6 ∷ 7 ∷ 8 ∷ []) (tagOf the-type (command-of (joined (c .before) .before)))
+other c = subst (λ (x : Command). OneOf (0 ∷ 1 ∷ 2 ∷ 3 ∷ 4 ∷ 6 ∷ 7 ∷ 8 ∷ []) (tagOf the-type x)) (same-command (joined (c .before))) (c .match3 .keys2)
+
+rest-is : (c : tie.At-match3-came Inv-loop μ-loop) → let m = met-again c in let n = m .before in
+    Replied (sheet-of n) (numberOf (command-of n)) (command-of n) (tail-at n) (m .match .rows) (m .match .values) (c .match3 .reply)
+rest-is c =
+    let m = met-again c in
+    let n = m .before in
+    ⊎-elim
+    (λ w. rw (w .13)
+    (changed-rest (sheet-of n) (command-of n) (tail-at n) _ _ _ _ (stepped m) _ _ (sym (same-command m) ∙ w .1 .given .1) _ (taken (c .before) .panel) _ _ _ _ _ (w .6 .result)
+    (w .6 .ensures)))
+    (λ w. rw (w .6) (step-panel (command-of n) (other (record { before = c .before; match3 = w .0 })) (stepped m) .1)) (c .match3 .came)
+
+panel-is : (c : tie.At-match3-came Inv-loop μ-loop) → let n = met-again c .before in c .match3 .q ≡ commandAnswer (sheet-of n) (command-of n) (tail-at n) .state .panel
+panel-is c =
+    let m = met-again c in
+    let n = m .before in
+    ⊎-elim
+    (λ w. w .8
+    ∙ changed-panel (sheet-of n) (command-of n) (tail-at n) _ _ _ _ (stepped m) _ _ (sym (same-command m) ∙ w .1 .given .1) _ (taken (c .before) .panel) _ _ _ _ _ (w .6 .result)
+    (w .6 .ensures))
+    (λ w. w .1 ∙ taken (c .before) .panel ∙ step-panel (command-of n) (other (record { before = c .before; match3 = w .0 })) (stepped m) .0) (c .match3 .came)
+
+tabled-is : (c : tie.At-match3-came Inv-loop μ-loop) → let t = c .match3 in Tabled (t .q) (t .levels) (t .others) (t .reads)
+tabled-is c =
+    let m = met-again c in
+    let n = m .before in
+    ⊎-elim
+    (λ w. rw (w .8, w .10, w .11, w .12)
+    (changed-tabled (sheet-of n) (command-of n) (tail-at n) _ _ _ _ (stepped m) _ _ (sym (same-command m) ∙ w .1 .given .1) _ (taken (c .before) .panel) _ _ _ _ _ (w .6 .result)
+    (w .6 .ensures)))
+    (λ w. rw (w .1, w .3, w .4, w .5) (taken (c .before) .tabled)) (c .match3 .came)
 
 -- ---- what one line does
 
@@ -252,72 +315,97 @@ taken j =
 abbrev line-of : tie.After-old Inv-loop μ-loop → List ℕ
 line-of c = let l = looped c in take (ended c .line-end .result - l .loop .at) (drop (l .loop .at) (text-of l))
 
-abbrev reply-of : tie.Joined2 Inv-loop μ-loop → List ℕ
-reply-of j = let m = joined j in wholeReply (command-of (m .before)) (m .match .step .reply) (m .match .rows)
+abbrev reply-of : tie.At-match3-came Inv-loop μ-loop → List ℕ
+reply-of j = let m = met-again j in wholeReply (command-of (m .before)) (j .match3 .reply) (m .match .rows)
 
 -- the formulas afterwards
-abbrev turned : tie.After-rule-after-arg Inv-loop μ-loop → tie.Joined2 Inv-loop μ-loop
+abbrev turned : tie.After-rule-after-arg Inv-loop μ-loop → tie.At-match3-came Inv-loop μ-loop
 turned c = c .before .before .before
 
 mul-rule-after : tie.Need-mul-rule-after Inv-loop μ-loop
-mul-rule-after c = omega (arith, number-small (joined (c .before .before) .before .before))
+mul-rule-after c = omega (arith, number-small (met-again (c .before .before) .before .before))
 
 element-copy-out-rule-after : tie.Need-element-copy-out-rule-after Inv-loop μ-loop
-element-copy-out-rule-after c = number-small (joined (c .before .before) .before .before)
+element-copy-out-rule-after c = number-small (met-again (c .before .before) .before .before)
 
 rule-after-requires : tie.Need-rule-after-requires Inv-loop μ-loop
-rule-after-requires c κs = framed-at (joined (turned c) .before)
+rule-after-requires c κs = framed-at (met-again (turned c) .before)
 
-mul-t94 : tie.Need-mul-t94 Inv-loop μ-loop
-mul-t94 c = omega (arith, number-small (joined (turned (c .before)) .before .before))
+mul-t100 : tie.Need-mul-t100 Inv-loop μ-loop
+mul-t100 c = omega (arith, number-small (met-again (turned (c .before)) .before .before))
 
 element-set-from-formulas : tie.Need-element-set-from-formulas Inv-loop μ-loop
-element-set-from-formulas c = number-small (joined (turned (c .before)) .before .before)
+element-set-from-formulas c = number-small (met-again (turned (c .before)) .before .before)
 
-abbrev ruled : tie.Joined3 Inv-loop μ-loop → tie.Joined2 Inv-loop μ-loop
+abbrev ruled : tie.Joined3 Inv-loop μ-loop → tie.At-match3-came Inv-loop μ-loop
 ruled c = c .before .before
 
-rule-is : (c : tie.Joined3 Inv-loop μ-loop) → let m = joined (ruled c) in let n = m .before in let k = n .before .wide .result in
-    c .if3 .formulas ≡ withFormula (looped n .loop .formulas) k (formulaAfter (command-of n) (tail-at n) (m .match .step .reply) (formulaAt (looped n .loop .formulas) k))
-rule-is c =
-    let m = joined (ruled c) in
+-- with the formula that the line leaves the link of number k
+abbrev ruledBy : tie.At-match3-came Inv-loop μ-loop → ℕ → Formulas
+ruledBy j k =
+    let n = met-again j .before in
+    let l = looped n .loop in
+    withFormula (l .formulas) k (formulaAfter (command-of n) (tail-at n) (j .match3 .reply) (linkAt (l .q .links) k .covered) (formulaAt (l .formulas) k))
+
+rule-at : (c : tie.Joined3 Inv-loop μ-loop) → c .if3 .formulas ≡ ruledBy (ruled c) (met-again (ruled c) .before .before .wide .result)
+rule-at c =
+    let j = ruled c in
+    let m = met-again j in
     let n = m .before in
     let k = n .before .wide .result in
     ⊎-elim (λ w. w .3 ∙ ap (withFormula (looped n .loop .formulas) k) (w .2 .ensures))
-    (λ w. w .1 ∙ formulas-same (sheet-of n) k (command-of n) (tail-at n) (m .match .step .reply)
+    (λ w. w .1 ∙ formulas-same (sheet-of n) k (command-of n) (tail-at n) (j .match3 .reply) _
     (ap setsFormula (sym (same-command m)) ∙ sym (c .before .sets-formula .ensures) ∙ w .0 .left)) (c .if3 .came)
 
-line-does : (c : tie.Joined3 Inv-loop μ-loop) → let j = ruled c in let m = joined j in let n = m .before in
-    Did lineAnswer LegalSheet (sheet-of n) (line-of n) (sheetOf (j .if2 .q) (c .if3 .formulas) (m .match .values)) (reply-of j)
+rule-is : (c : tie.Joined3 Inv-loop μ-loop) → c .if3 .formulas ≡ ruledBy (ruled c) (numberOf (command-of (met-again (ruled c) .before)))
+rule-is c = rule-at c ∙ ap (ruledBy (ruled c)) (number-is (met-again (ruled c) .before))
+
+line-does : (c : tie.Joined3 Inv-loop μ-loop) → let j = ruled c in let m = met-again j in let n = m .before in
+    Did lineAnswer LegalSheet (sheet-of n) (line-of n) (sheetOf (j .match3 .q) (c .if3 .formulas) (m .match .values)) (reply-of j)
 line-does c =
     let j = ruled c in
-    let m = joined j in
-    let n = m .before in
-    did (sheet-of n) (line-of n) _ (tail-at n) (read n .read-line .ensures .bytes) _ _ _ _ _ (stepped m) _ (taken j .panel) _ (rule-is c) (is-legal n)
+    let n = met-again j .before in
+    did (sheet-of n) (line-of n) _ (tail-at n) (read n .read-line .ensures .bytes) _ _ _ _ (rest-is j) _ (panel-is j) _ (rule-is c) (is-legal n)
 
--- the scan of the line
-scans : (c : tie.At-match-came Inv-loop μ-loop) → let n = c .before in c .match .worked ≡ lineScan (looped n .loop .worked) (sheet-of n) (line-of n)
+-- the scan of the line: before a change none was made
+unscanned : (c : tie.At-match-came Inv-loop μ-loop) (id level : ℕ) → command-of (c .before) ≡ Change id level → c .match .worked ≡ looped (c .before) .loop .worked
+unscanned c id level e =
+    ⊎-elim (λ w. absurd (removal-no-change (sym (w .1 .given .1) ∙ e))) (⊎-elim (λ w. w .22) (λ w. w .9)) (c .match .came)
+
+scans : (c : tie.At-match3-came Inv-loop μ-loop) → let n = met-again c .before in c .match3 .worked ≡ lineScan (looped n .loop .worked) (sheet-of n) (line-of n)
 scans c =
-    let n = c .before in
+    let m = met-again c in
+    let n = m .before in
+    let l = looped n .loop in
     let framed = read n .read-line .ensures .bytes in
-    ⊎-elim (λ w. w .10 ∙ w .8 .ensures .1 ∙ removed-scan (looped n .loop .worked) (sheet-of n) (line-of n) (command-of n) (tail-at n) framed _ (w .1 .given .1))
-    (⊎-elim (λ w. w .22 ∙ no-scan (looped n .loop .worked) (sheet-of n) (line-of n) (command-of n) (tail-at n) framed (w .0 .keys2))
-    (λ w. w .9 ∙ no-scan (looped n .loop .worked) (sheet-of n) (line-of n) (command-of n) (tail-at n) framed (w .0 .keys2))) (c .match .came)
+    ⊎-elim
+    (λ w.
+    let is = sym (same-command m) ∙ w .1 .given .1 in
+    w .9 ∙ changed-worked (sheet-of n) (command-of n) (tail-at n) _ _ _ _ (stepped m) _ _ is _ (taken (c .before) .panel) _ _ _ _ _ (w .6 .result) (w .6 .ensures) (line-of n) framed
+    ∙ ap (λ (b : ℕ). lineScan b (sheet-of n) (line-of n)) (unscanned m _ _ is))
+    (λ v.
+    let not-change = other (record { before = c .before; match3 = v .0 }) in
+    v .2
+    ∙ ⊎-elim (λ w. w .10 ∙ w .8 .ensures .1 ∙ removed-scan (l .worked) (sheet-of n) (line-of n) (command-of n) (tail-at n) framed _ (w .1 .given .1))
+    (⊎-elim (λ w. w .22 ∙ no-scan (l .worked) (sheet-of n) (line-of n) (command-of n) (tail-at n) framed (w .0 .keys2) not-change)
+    (λ w. w .9 ∙ no-scan (l .worked) (sheet-of n) (line-of n) (command-of n) (tail-at n) framed (w .0 .keys2) not-change)) (m .match .came))
+    (c .match3 .came)
 
-is-written : (j : tie.Joined2 Inv-loop μ-loop) → let m = joined j in wholeReply (m .match .command) (m .match .step .reply) (m .match .rows) ≡ reply-of j
-is-written j = let m = joined j in ap (λ (k : Command). wholeReply k (m .match .step .reply) (m .match .rows)) (same-command m)
+is-written : (j : tie.At-match3-came Inv-loop μ-loop) → let m = met-again j in wholeReply (m .match .command) (j .match3 .reply) (m .match .rows) ≡ reply-of j
+is-written j = let m = met-again j in ap (λ (k : Command). wholeReply k (j .match3 .reply) (m .match .rows)) (same-command m)
 
 slice-aggregate-put-reply : tie.Need-slice-aggregate-put-reply Inv-loop μ-loop
-slice-aggregate-put-reply c = sym (stepped (joined (ruled (c .before .before))) .rows-full)
+slice-aggregate-put-reply c = sym (stepped (met-again (ruled (c .before .before))) .rows-full)
 
 put-reply-requires : tie.Need-put-reply-requires Inv-loop μ-loop
 put-reply-requires c κs =
-    let m = joined (ruled (c .before .before)) in
+    let j = ruled (c .before .before) in
+    let m = met-again j in
     let l = looped (m .before) in
-    let d = stepped m in
-    let few = ap (λ (k : Command). restOf k (m .match .step .reply)) (same-command m) in
-    let short = reply-short (m .match .command) (m .match .step .reply) (m .match .rows) (omega (arith, few, d .rest)) in
-    (omega (arith, few, d .rest, d .rows-full), omega (arith, short, l .loop .inv .3 .fits, begin (l .before .before) .pre .1))
+    let few = ap (λ (k : Command). restOf k (j .match3 .reply)) (same-command m) in
+    let rest = rest-is j .rest in
+    let short = reply-short (m .match .command) (j .match3 .reply) (m .match .rows) (omega (arith, few, rest)) in
+    (omega (arith, few, rest, stepped m .rows-full), omega (arith, short, l .loop .inv .3 .fits, begin (l .before .before) .pre .1))
 
 -- the reply is written, and its refusal told
 abbrev step-taken : tie.After-put-reply Inv-loop μ-loop → tie.Joined3 Inv-loop μ-loop
@@ -328,7 +416,7 @@ replied c = c .before .before .before
 
 loop-less : tie.Need-loop-less Inv-loop μ-loop
 loop-less c =
-    let e = ended (joined (ruled (step-taken (replied (c .before .before)))) .before) in
+    let e = ended (met-again (ruled (step-taken (replied (c .before .before)))) .before) in
     let l = e .before .before .before in
     omega (arith, c .behind .ensures, behind-on (text-of l) (l .loop .at) (e .line-end .result) (e .before .before .loop-test .taken) (e .line-end .ensures), ends e)
 
@@ -337,19 +425,19 @@ loop-again c =
     let r = replied (c .before .before) in
     let t = step-taken r in
     let j = ruled t in
-    let m = joined j in
+    let m = met-again j in
     let n = m .before in
     let l = looped n .loop in
     let e = ended n in
     let w = r .put-reply .ensures in (
       stepped m .rows-full,
       stepped m .takes .path-of .full,
-      taken j .tabled,
+      tabled-is j,
       line-done _ _ _ _ _ _ _ _ _ _ _ (l .inv .3) (e .before .before .loop-test .taken) (leb-true _ _ (e .before .if1 .taken)) (e .line-end .result) (e .line-end .ensures)
           (line-of n) refl _ _ (reply-of j) (line-does t)
           (w .0 ∙ ap (λ (b : List ℕ). sets (l .out) (l .n) (lineOf b)) (is-written j)) (w .1 ∙ ap (λ (b : List ℕ). l .n + length (lineOf b)) (is-written j))
-          (c .before .tallied-line .ensures ∙ ap (tallied (l .t)) (c .before .before .refusal-of .ensures ∙ rows-tell-none (command-of n) (m .match .step .reply) (m .match .rows))) (c .behind .ensures)
-          (scans m),
+          (c .before .tallied-line .ensures ∙ ap (tallied (l .t)) (c .before .before .refusal-of .ensures ∙ rows-tell-none (command-of n) (j .match3 .reply) (m .match .rows))) (c .behind .ensures)
+          (scans j),
     )
 
 same-length : tie.Need-same-length Inv-loop μ-loop
@@ -391,11 +479,13 @@ answer-lines-spec =
     element-set-from-link
     stay-levels-requires
     reverse-requires
+    (λ c. search needs)
+    changed-requires
     (λ c κs. search needs)
     mul-rule-after
     element-copy-out-rule-after
     rule-after-requires
-    mul-t94
+    mul-t100
     element-set-from-formulas
     slice-aggregate-put-reply
     put-reply-requires

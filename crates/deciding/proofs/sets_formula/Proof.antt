@@ -4,8 +4,17 @@ use Rattle.deciding.proofs.Arms.{sets-none}
 use Rattle.deciding.proofs.sets_formula.Statement.{statement}
 use Rattle.deciding.proofs.sets_formula.Tie as tie
 
-returns-3 : tie.Need-returns-3
-returns-3 c = sets-none (c .before .args .command) (c .match .keys3)
+returns-4 : tie.Need-returns-4
+returns-4 c = sets-none (c .before .args .command) (c .match .keys4)
 
 pub sets-formula-spec : {M : Type 1} → statement M
-sets-formula-spec = tie.close (tie.spec (λ c. search needs) (λ c. search needs) (λ c. search needs) (λ c. search needs) returns-3)
+sets-formula-spec =
+    tie.close
+    (tie.spec
+    (λ c. search needs)
+    (λ c. search needs)
+    (λ c. search needs)
+    (λ c. search needs)
+    (λ c. search needs)
+    (λ c. search needs)
+    returns-4)

@@ -1,5 +1,4 @@
--- `frames::number_of` meets its contract, by cases on the command: the number of an add, of a removal and of a formula is a remainder of 128, the
--- others name none.
+-- `frames::number_of` meets its contract, by cases on the command: the number of a link is a remainder of 128, and the others name none.
 use mathlib.Core.Path.{sym, ap}
 use native.Mathlib.Omega.{arith}
 use borrow.Author.Needs.{needs}
@@ -13,8 +12,11 @@ returns-2 c = (sym (ap numberOf (c .before .command .given .1)), omega arith)
 returns-3 : tie.Need-returns-3
 returns-3 c = (sym (ap numberOf (c .before .command2 .given .1)), omega arith)
 
-returns-7 : tie.Need-returns-7
-returns-7 c = (sym (ap numberOf (c .before .command3 .given .1)), omega arith)
+returns-6 : tie.Need-returns-6
+returns-6 c = (sym (ap numberOf (c .before .command3 .given .1)), omega arith)
+
+returns-8 : tie.Need-returns-8
+returns-8 c = (sym (ap numberOf (c .before .command4 .given .1)), omega arith)
 
 pub number-of-spec : {M : Type 1} → statement M
 number-of-spec =
@@ -29,10 +31,12 @@ number-of-spec =
     (λ c. search needs)
     (λ c. search needs)
     (λ c. search needs)
+    (λ c. search needs)
     returns-2
     returns-3
     (λ c. search needs)
     (λ c. search needs)
+    returns-6
     (λ c. search needs)
-    returns-7
+    returns-8
     (λ c. search needs))

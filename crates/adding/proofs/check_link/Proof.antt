@@ -1,11 +1,11 @@
--- `adding::check_add` meets its contract: at each return the comparisons made decide the checks.
+-- `adding::check_link` meets its contract: at each return the comparisons made decide the checks.
 use mathlib.Core.Path.{refl}
 use native.Mathlib.Omega.{arith}
 use borrow.Author.Needs.{needs}
 use borrow.Author.Tests.{lt-ltb, le-ltb}
 use Rattle.panel.specs.Commands.{checkReply}
-use Rattle.adding.proofs.check_add.Statement.{statement}
-use Rattle.adding.proofs.check_add.Tie as tie
+use Rattle.adding.proofs.check_link.Statement.{statement}
+use Rattle.adding.proofs.check_link.Tie as tie
 
 -- ---- the places: an open panel, its link looked at, its fields looked at
 
@@ -71,8 +71,8 @@ returns-5 c =
       c .if4 .left,
     ) refl
 
-pub check-add-spec : {M : Type 1} → statement M
-check-add-spec =
+pub check-link-spec : {M : Type 1} → statement M
+check-link-spec =
     tie.close
     (tie.spec
     returns
