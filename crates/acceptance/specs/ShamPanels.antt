@@ -45,12 +45,12 @@ solvesFirstLinkOnly s line =
     let a = lineAnswer s line in
     record { state = cond (any (λ i. linkAt (s .panel .links) i .used) 128) s (a .state); reply = a .reply }
 
--- "one that invents the moved count": one more than it is, for each add, remove, touch and value (kinds 02 to 04 and 07) that is not refused
+-- "one that invents the moved count": one more than it is, for each add, remove, touch, change and value (kinds 02 to 04, 06 and 07) that is not refused
 unfoldable pub inventsMoved : LineAnswer Sheet
 inventsMoved s line =
     let a = lineAnswer s line in
     let kind = at (frameOf line) 0 in
-    let counts = ((ltb 1 kind && ltb kind 5) || eqb kind 7) && not (isRefusal (a .reply)) in
+    let counts = ((ltb 1 kind && ltb kind 5) || eqb kind 6 || eqb kind 7) && not (isRefusal (a .reply)) in
     record { state = a .state; reply = cond counts (0x00 ∷ (at (a .reply) 1 + 1) ∷ []) (a .reply) }
 
 -- ---- each with a text

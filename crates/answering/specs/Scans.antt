@@ -11,7 +11,7 @@ use Rattle.sheet.specs.Commands as sheet
 use Rattle.sheet.specs.Commands.{solving, entering, relating}
 use Rattle.frames.specs.Frames.{frameOf, commandOf}
 
--- how many strengths the last scan worked out, after a command: only a removal makes one, a change's too
+-- how many strengths the last scan worked out, after a command: only a removal makes one, that of a change too
 abbrev pub commandScan : ℕ → Panel → Option sheet.Command → ℕ
 commandScan before p none = before
 commandScan before p (some (solving (opening n))) = before

@@ -106,8 +106,8 @@ module _ (p : Panel) (h : Legal p) (id : ℕ) (small : id < 128) (passed : Passe
       decides Looped d ne = absurd (ne refl)
       decides (Path count m) d ne = d
 
-      pub drop-loops : t ≡ Looped → (performed p (removing id) ≡ refused p Loop) × (length path ≡ 64)
-      drop-loops e = subst (Settles p id v path number) e own
+      pub drop-loops : t ≡ Looped → performed p (removing id) ≡ refused p Loop
+      drop-loops e = subst (Settles p id v path number) e own .0
 
       pub drop-path : t ≢ Looped → PathOf path (countBy t)
       drop-path ne = decides t own ne .takes .path-of
@@ -126,8 +126,8 @@ module _ (p : Panel) (h : Legal p) (id level : ℕ) (bytes : List ℕ) (c o : �
   -- by the reply of the verdict
   module _ {levels others reads : List ℕ} (tab : Tabled p levels others reads) (path : List ℕ) (t : Verdict)
       (resolved : Resolved levels others (p .size) level o c reads path t) (reply : Reply) (is : reply ≡ verdictReply t level) where
-    pub enter-refused : (x : Refusal) → reply ≡ Refused x → (performed p (adding id level bytes) ≡ refused p x) × (length path ≡ 64)
-    enter-refused x e = let (refuses, long) = entry-refused enters tab path t resolved x (sym is ∙ e) in (sym refuses, long)
+    pub enter-refused : (x : Refusal) → reply ≡ Refused x → performed p (adding id level bytes) ≡ refused p x
+    enter-refused x e = sym (entry-refused enters tab path t resolved x (sym is ∙ e) .0)
 
     decided : (m : ℕ) → reply ≡ Accepted m → Decides p id (adding id level bytes) path (stepOf t (p .size) (p .place) (waitingLink level c o) Waiting id)
     decided m e = entry-done enters tab path t resolved m (sym is ∙ e) _ id _ refl refl refl

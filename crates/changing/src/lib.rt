@@ -71,7 +71,7 @@ fn left(p: Panel, reply: Reply) -> Changed
 
 // Changes a link; `old` is the link that stands under its number. It is removed and added anew on copies, and the panel and its tables become these
 // only where both are accepted. Where the removal makes a scan, `worked` becomes the number of strengths that were worked out for it.
-// Both halves stand here: a function for each would copy the panel.
+// Both halves stand here: a function for each would copy the panel more often.
 // The contract rules out, for instance, a removal that a refused add leaves and a count from after the removal (must-fail: removal_kept,
 // moved_from_after_the_removal).
 pub fn change(
@@ -96,16 +96,17 @@ pub fn change(
     }
     let mut fresh = *levels;
     let mut outs = *others;
-    let mut read = *reads;
+    let mut reading = *reads;
     let mut path = [0u8; 64];
     let place = p.place;
+    // the removal: `settle` is given the panel as it was, since it looks through it without the link itself
     let k = wide(id);
     let mut q = p;
     q.links[k] = no_link();
     let s = old.standing;
     if let Standing::Holding(h) = s {
         let v = wide(h);
-        let settled = settle(p, v, &mut fresh, &mut outs, &mut read, &mut path, worked);
+        let settled = settle(p, v, &mut fresh, &mut outs, &mut reading, &mut path, worked);
         let verdict = settled.verdict;
         if let Verdict::Looped = verdict {
             return left(p, Reply::Refused(Refusal::Loop));
@@ -113,14 +114,15 @@ pub fn change(
         q.setter[v] = STAY;
         if let Verdict::Path(_, _) = verdict {
             let step = path_step(verdict, n, &place, settled.number);
-            q = reverse(q, step, &path, &mut fresh, &mut outs, &mut read);
+            q = reverse(q, step, &path, &mut fresh, &mut outs, &mut reading);
         }
     }
     let before = p.setter;
+    // the adding
     let entry = resolve(
         &fresh,
         &outs,
-        &read,
+        &reading,
         n,
         level,
         fields.outputs,
@@ -134,11 +136,11 @@ pub fn change(
     q.links[k] = waiting_link(level, fields);
     if let Verdict::Path(_, _) = entry {
         let step = path_step(entry, n, &place, id);
-        q = reverse(q, step, &path, &mut fresh, &mut outs, &mut read);
+        q = reverse(q, step, &path, &mut fresh, &mut outs, &mut reading);
     }
     *levels = fresh;
     *others = outs;
-    *reads = read;
+    *reads = reading;
     let after = q.setter;
     let moved = count_of(changed_fields(&before, &after));
     Changed {

@@ -126,13 +126,13 @@ DecidedLine p k named tail path rows s Plan = PanelStep p k Plan tail path rows 
 DecidedLine p k named tail path rows s (Relate id form) = PanelStep p k (Relate id form) tail path rows s
 DecidedLine p k named tail path rows s (Refused r) = PanelStep p k (Refused r) tail path rows s
 
--- nothing was asked: the panel and its tables are as they were, and no scan was made
+-- nothing was asked: the panel and its tables are as they were, and no scan was made; nobody reads the reply
 pub record Unasked (p : Panel) (levels others reads : List ℕ) (before worked : ℕ) (r : Changed) : Type 0 where
   pub is : r ≡ record { panel = p; reply = Accepted 0 }
   pub tabled : Tabled p levels others reads
   pub scan : worked ≡ before
 
--- the change that a line asks was carried out; `tail` stands beside the command
+-- the change that a line asks was carried out, of another line nothing; `tail` stands beside the command
 abbrev pub ChangedLine : Panel → List ℕ → List ℕ → List ℕ → List ℕ → ℕ → ℕ → Changed → Command → Type 0
 ChangedLine p tail levels others reads before worked r (Change id level) = Changes p id level tail levels others reads before worked r
 ChangedLine p tail levels others reads before worked r (Open n) = Unasked p levels others reads before worked r

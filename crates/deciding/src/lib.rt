@@ -1,4 +1,4 @@
-// The step of one line, by its command.
+// The step of one line, by its command; the change that a line asks, and what the line leaves of its link's formula.
 use changing::Changed;
 use changing::change;
 use fieldbytes::read_fields;
@@ -153,7 +153,7 @@ pub fn decide_line(
 }
 
 // The panel and the reply after the change that a line asks, with the panel's tables. Where the removal makes a scan, `worked` becomes the number of
-// strengths that were worked out for it. A line that asks no change is not answered here.
+// strengths that were worked out for it. A line that asks no change leaves all as it is; its reply is not this one.
 pub fn changed(
     p: Panel,
     levels: &mut [u8; 64],

@@ -44,7 +44,7 @@ use Rattle.optimality.proofs.Agreement.{entry-force}
 use Rattle.optimality.proofs.Optimum.{sound-optimal}
 use Rattle.optimality.proofs.Answers.{touch-never-conflict}
 use Rattle.optimality.proofs.States.{sound-settled, optimal-best}
-use Rattle.optimality.proofs.Conflict.{sound-conflict-exactly}
+use Rattle.optimality.proofs.Conflict.{sound-conflict-exactly, sound-change-conflict-exactly}
 use Rattle.optimality.proofs.Removing.{looks-alike}
 use Rattle.optimality.proofs.Loops.{command-exactly}
 use Rattle.optimality.proofs.Runs.{performed-sound, kept-after, every-system, after-sound}
@@ -101,7 +101,7 @@ pub either-reading : EitherReading
 either-reading commands = looks-alike (sound-after commands)
 
 pub conflict-and-loop : ConflictAndLoop
-conflict-and-loop commands = let x = sound-after commands in (sound-conflict-exactly x, command-exactly _ (x .legal))
+conflict-and-loop commands = let x = sound-after commands in (sound-conflict-exactly x, sound-change-conflict-exactly x, command-exactly _ (x .legal))
 
 pub entering-never-conflict : EnteringNeverConflict
 entering-never-conflict s f v =

@@ -24,7 +24,7 @@ use Rattle.sheet.specs.Legal.{Fits}
 use Rattle.optimality.specs.Condition3 as store
 use Rattle.optimality.specs.Condition3.{Entry, Store, empty, held, Optimal, System, Run, stepped, after, AfterEveryList}
 use Rattle.optimality.specs.States.{Settled, NothingBlocked, LooksAlike, NothingBetter}
-use Rattle.optimality.specs.Refusals.{ConflictExactly, LoopExactly}
+use Rattle.optimality.specs.Refusals.{ConflictExactly, ChangeConflictExactly, LoopExactly}
 use Rattle.exactness.specs.Values.{EnteredExactly, OutOfRangeExactly, ValuesOnly}
 
 -- what a command that is not refused changes in the store: kind 07 "touches f", kind 08 enters and strikes out nothing
@@ -63,9 +63,11 @@ EveryState =
 abbrev pub EitherReading : Type 0
 EitherReading = AfterEveryList sheets start (λ r. LooksAlike (r .state .panel))
 
--- Conflict and Loop are given exactly when document 01 says so
+-- Conflict and Loop are given exactly when document 01 says so, of a change Conflict where its removal is accepted
 abbrev pub ConflictAndLoop : Type 0
-ConflictAndLoop = AfterEveryList sheets start (λ r. ConflictExactly (r .store) (r .state .panel) × LoopExactly (r .state .panel))
+ConflictAndLoop =
+    AfterEveryList sheets start
+    (λ r. ConflictExactly (r .store) (r .state .panel) × ChangeConflictExactly (r .store) (r .state .panel) × LoopExactly (r .state .panel))
 
 -- a value that is entered never meets Conflict, since "Touch and Remove never give Conflict"
 abbrev pub EnteringNeverConflict : Type 0

@@ -1,4 +1,4 @@
--- Laws of field bytes: of the sets of their fields, of the scan that reads them, and of the check of an add. By induction on the bytes; that they
+-- Laws of field bytes: of the sets of their fields, of the scan that reads them, and of the check of a link. By induction on the bytes; that they
 -- rise from a field on (`goodFrom`) lets a scan go from the front. Bytes that rise have as many fields as bytes, so the count of ones is their number
 -- and the two forms of the check are equal (`add-check`).
 use Prim.Native.Nat.{ℕ, suc, _+_, _/_, _%_, _^_, _≤_, _<_}
@@ -226,7 +226,7 @@ module _ (b f low : ℕ) (r r′ : Bool) where
   pub reads-rising : low ≤ f → hasBit6 b ≡ false → r′ ≡ r → r′ ≡ (r && (leb low f && not (hasBit6 b)))
   reads-rising h k e = rw (le-leb low f h, k, and-true r) e
 
--- ---- the check of an add
+-- ---- the check of a link
 
 -- where the fields do not rise
 check-unordered : (x y z w v o : Bool) → (x || y || true || o) ≡ (x || true || z || w || v)

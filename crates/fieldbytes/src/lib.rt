@@ -10,7 +10,7 @@ pub struct Fields {
     pub rising: bool,
 }
 
-// Reads the field bytes of an add.
+// Reads the field bytes of an add or a change.
 pub fn read_fields(bytes: &[u8]) -> Fields
     ensures { λ r. ⌜ FieldsOf (now (bytes .entry)) (r .covered) (r .outputs) (r .rising) ⌝ }
 {

@@ -48,6 +48,13 @@ ConflictExactly b p =
     (id : ℕ) (bytes : List ℕ) → Passes (addChecks p id 0 bytes)
     → GivesConflict p (adding id 0 bytes) ↔ (Possible (entered b (adding id 0 bytes)) → ⊥)
 
+-- the same of a change to level 0 that passes its checks, where the removal is not refused: it may meet "the removal's Loop" before "the adding's
+-- Conflict" (document 02, request 5)
+abbrev pub ChangeConflictExactly : Store → Panel → Type 0
+ChangeConflictExactly b p =
+    (id : ℕ) (bytes : List ℕ) → Passes (changeChecks p id 0 bytes) → isRefusal (performed p (removing id) .reply) ≡ false
+    → GivesConflict p (changing id 0 bytes) ↔ (Possible (entered b (changing id 0 bytes)) → ⊥)
+
 -- "a weaker new link never meets it"
 abbrev pub WeakerNeverConflict : Type 0
 WeakerNeverConflict = (p : Panel) (id level : ℕ) (bytes : List ℕ) → 0 < level → GivesConflict p (adding id level bytes) → ⊥

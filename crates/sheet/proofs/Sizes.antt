@@ -1,5 +1,5 @@
--- An open sheet keeps its number of fields, whatever the command: by the panel's law (`performed-size`) for document 01's commands and for the touch
--- of kind 07; kind 08 leaves the panel. Assumes nothing.
+-- An open sheet keeps its number of fields, whatever the command: by the panel's law (`performed-size`) for the panel's commands and for the touch of
+-- kind 07; kind 08 leaves the panel. Assumes nothing.
 use Prim.Native.Nat.{_<_}
 use mathlib.Core.Path.{_≡_, refl, ap, _∙_}
 use mathlib.Core.Logic.{_⊎_, inl, inr}

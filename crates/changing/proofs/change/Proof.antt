@@ -147,7 +147,7 @@ returns-2 c =
     let b = s .args in
     let e = k .settle .ensures in
     let loops = drop-loops (b .p) (s .pre .0) (b .id) (number-small t) (removes t) _ (holds w) _ _ (k .settle .result .verdict) (e .0) (c .before .enum-told3 .given .1) in
-    let (same, told) = refused-parts (b .p) _ (Refused Loop) Loop refl (removal-refused (b .p) (s .pre .0) (b .id) (b .level) (b .bytes .now) (passed t) Loop (loops .0)) in
+    let (same, told) = refused-parts (b .p) _ (Refused Loop) Loop refl (removal-refused (b .p) (s .pre .0) (b .id) (b .level) (b .bytes .now) (passed t) Loop loops) in
     rw (c .left2 .ensures) (record { panel = same; reply = told; tabled = s .pre .1; scan = e .1 .1 ∙ scanned k ∙ counts t })
 
 element-write-q : tie.Need-element-write-q
@@ -179,7 +179,7 @@ reverse-requires c κs =
 -- ---- the removal is carried out
 
 dropped : (c : tie.At-match2-came) → let s = begin (checked (c .before)) .args in let m = c .match2 in
-    Done (s .p) (removing (s .id)) (m .fresh) (m .outs) (m .read) (m .path) (m .q)
+    Done (s .p) (removing (s .id)) (m .fresh) (m .outs) (m .reading) (m .path) (m .q)
 dropped c =
     let t = checked (c .before) in
     let s = begin t in
@@ -252,18 +252,18 @@ resolve-requires : tie.Need-resolve-requires
 resolve-requires c κs =
     let m = c .before .before .before .before .before in
     let f = checked (m .before) .before .before .before .before .read-fields .result in
-    subst (λ n. Unresolved (m .match2 .outs) n (f .outputs) (f .covered) (m .match2 .read) (m .match2 .path)) (size-between m)
+    subst (λ n. Unresolved (m .match2 .outs) n (f .outputs) (f .covered) (m .match2 .reading) (m .match2 .path)) (size-between m)
     (new-unresolved (entered m) (dropped m .tabled) (m .match2 .path) (dropped m .full))
 
 -- the verdict on the link, of the panel that the removal leaves
 resolved : (c : tie.After-resolve) → let m = met c in let k = checked (m .before) .before .before in let b = start k .args in let f = k .before .before .read-fields .result in
-    Resolved (m .match2 .fresh) (m .match2 .outs) (m .match2 .q .size) (b .level) (f .outputs) (f .covered) (m .match2 .read) (path-of c)
+    Resolved (m .match2 .fresh) (m .match2 .outs) (m .match2 .q .size) (b .level) (f .outputs) (f .covered) (m .match2 .reading) (path-of c)
     (c .resolve .result)
 resolved c =
     let m = met c in
     let k = checked (m .before) .before .before in
     let f = k .before .before .read-fields .result in
-    subst (λ n. Resolved (m .match2 .fresh) (m .match2 .outs) n (start k .args .level) (f .outputs) (f .covered) (m .match2 .read) (path-of c) (c .resolve .result))
+    subst (λ n. Resolved (m .match2 .fresh) (m .match2 .outs) n (start k .args .level) (f .outputs) (f .covered) (m .match2 .reading) (path-of c) (c .resolve .result))
     (sym (size-between m)) (c .resolve .ensures .0)
 
 returns-3 : tie.Need-returns-3
@@ -277,7 +277,7 @@ returns-3 c =
     let b = s .args in
     let d = dropped m in
     let e = told-it .enum-told6 .given .1 in
-    let (refuses, long) = enter-refused (m .match2 .q) (between m .0) (b .id) (b .level) (b .bytes .now) _ _ _ (fields-of m) (between m .1) (d .tabled) _ (v .resolve .result)
+    let refuses = enter-refused (m .match2 .q) (between m .0) (b .id) (b .level) (b .bytes .now) _ _ _ (fields-of m) (between m .1) (d .tabled) _ (v .resolve .result)
     (resolved v) _ (k .check-verdict .ensures) _ e in
     let (same, told) =
     refused-parts (b .p) _ (k .check-verdict .result) _ e
@@ -297,10 +297,10 @@ put-new : (c : tie.After-waiting-link) → let m = met (resolved-at c) in let n 
 put-new c = let m = met (resolved-at c) in ap₂ (withLink (m .match2 .q)) (m .before .before .wide .ensures) (c .waiting-link .ensures)
 
 new-tables : (c : tie.After-waiting-link) → let m = met (resolved-at c) in
-    Tabled (withLink (m .match2 .q) (m .before .before .wide .result) (c .waiting-link .result)) (m .match2 .fresh) (m .match2 .outs) (m .match2 .read)
+    Tabled (withLink (m .match2 .q) (m .before .before .wide .result) (c .waiting-link .result)) (m .match2 .fresh) (m .match2 .outs) (m .match2 .reading)
 new-tables c =
     let m = met (resolved-at c) in
-    subst (λ (q : Panel). Tabled q (m .match2 .fresh) (m .match2 .outs) (m .match2 .read)) (sym (put-new c)) (new-tabled (entered m) (dropped m .tabled))
+    subst (λ (q : Panel). Tabled q (m .match2 .fresh) (m .match2 .outs) (m .match2 .reading)) (sym (put-new c)) (new-tabled (entered m) (dropped m .tabled))
 
 mul-t37 : tie.Need-mul-t37
 mul-t37 c = omega (arith, number-at c)
@@ -341,7 +341,7 @@ enters-with c r turned tab =
     (c .before .before .before .check-verdict .ensures) _ (c .before .enum-told7 .given .1) (put-new c) r turned tab
 
 added : (c : tie.At-match6-came) → let v = resolved-at (c .before) in let b = begin (checked (met v .before)) .args in
-    Done (met v .match2 .q) (adding (b .id) (b .level) (b .bytes .now)) (c .match6 .fresh) (c .match6 .outs) (c .match6 .read) (path-of v) (c .match6 .q)
+    Done (met v .match2 .q) (adding (b .id) (b .level) (b .bytes .now)) (c .match6 .fresh) (c .match6 .outs) (c .match6 .reading) (path-of v) (c .match6 .q)
 added c =
     let w = c .before in
     let v = resolved-at w in
