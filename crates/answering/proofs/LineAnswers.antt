@@ -38,7 +38,7 @@ use Rattle.frames.specs.declared.Command.the-variants.{Open, Add, Remove, Touch
 use Rattle.frames.specs.Frames.{frameOf, wordOf, formulaIn, commandBytes, commandOf, numberOf, answered, commandAnswer, lineAnswer}
 use Rattle.replies.specs.Replies.{wholeReply}
 use Rattle.replies.proofs.Replies.{reply-short}
-use Rattle.deciding.specs.Lines.{formulaAfter, setsFormula, Replied, DecidedLine, ChangedLine}
+use Rattle.deciding.specs.Lines.{formulaAfter, setsFormula, AnswerRest, DecidedLine, ChangedLine}
 use Rattle.deciding.proofs.Arms.{OneOf, not-among, formula-kept, given-kept, solved-replied, solved-step}
 use Rattle.removing.specs.Scans.{scanCount}
 use Rattle.changing.specs.declared.Changed.{Changed}
@@ -123,15 +123,15 @@ stepPanel s tail (Refused x) = commandAnswer s (Refused x) tail .state .panel
 
 -- what else is known then: the rest of the answer, and of a change that no value has changed
 abbrev StepRest : Sheet → ℕ → List ℕ → List ℕ → List ℤ → Reply → Command → Type 0
-StepRest s k tail rows values r (Open n) = Replied s k (Open n) tail rows values r
-StepRest s k tail rows values r (Add id level) = Replied s k (Add id level) tail rows values r
-StepRest s k tail rows values r (Remove id) = Replied s k (Remove id) tail rows values r
-StepRest s k tail rows values r (Touch f) = Replied s k (Touch f) tail rows values r
-StepRest s k tail rows values r Plan = Replied s k Plan tail rows values r
+StepRest s k tail rows values r (Open n) = AnswerRest s k (Open n) tail rows values r
+StepRest s k tail rows values r (Add id level) = AnswerRest s k (Add id level) tail rows values r
+StepRest s k tail rows values r (Remove id) = AnswerRest s k (Remove id) tail rows values r
+StepRest s k tail rows values r (Touch f) = AnswerRest s k (Touch f) tail rows values r
+StepRest s k tail rows values r Plan = AnswerRest s k Plan tail rows values r
 StepRest s k tail rows values r (Change id level) = values ≡ s .values
-StepRest s k tail rows values r (Enter f b) = Replied s k (Enter f b) tail rows values r
-StepRest s k tail rows values r (Relate id form) = Replied s k (Relate id form) tail rows values r
-StepRest s k tail rows values r (Refused x) = Replied s k (Refused x) tail rows values r
+StepRest s k tail rows values r (Enter f b) = AnswerRest s k (Enter f b) tail rows values r
+StepRest s k tail rows values r (Relate id form) = AnswerRest s k (Relate id form) tail rows values r
+StepRest s k tail rows values r (Refused x) = AnswerRest s k (Refused x) tail rows values r
 
 pub record Stepped (s : Sheet) (k : ℕ) (c : Command) (tail path rows : List ℕ) (values : List ℤ) (step : Step) : Type 0 where
   pub takes : Takes (s .panel) k path step (stepPanel s tail c)
@@ -217,7 +217,7 @@ entered-step s f b fields path rows v e full touch touches after step d =
 -- where no change is asked the step is all
 module _ {s : Sheet} {k : ℕ} {tail path rows : List ℕ} {values : List ℤ} {step : Step} where
   pub step-panel : (c : Command) → OneOf (0 ∷ 1 ∷ 2 ∷ 3 ∷ 4 ∷ 6 ∷ 7 ∷ 8 ∷ []) (tagOf the-type c) → Stepped s k c tail path rows values step
-      → (stepPanel s tail c ≡ commandAnswer s c tail .state .panel) × Replied s k c tail rows values (step .reply)
+      → (stepPanel s tail c ≡ commandAnswer s c tail .state .panel) × AnswerRest s k c tail rows values (step .reply)
   step-panel (Open n) h d = (refl, d .rest)
   step-panel (Add id level) h d = (refl, d .rest)
   step-panel (Remove id) h d = (refl, d .rest)
@@ -232,7 +232,7 @@ module _ {s : Sheet} {k : ℕ} {tail path rows : List ℕ} {values : List ℤ} {
 
 -- its reply, and what it leaves of the formulas
 changed-replied : (s : Sheet) (id level : ℕ) (fields rows : List ℕ) (r : Reply) → replyBytes r ≡ performed (s .panel) (changing id level fields) .reply
-    → Replied s (id % 128) (Change id level) fields rows (s .values) r
+    → AnswerRest s (id % 128) (Change id level) fields rows (s .values) r
 changed-replied s id level fields rows r told =
     solved-replied s (id % 128) fields [] rows (Change id level) (changing id level fields) r refl refl
     (λ e. rw (mod-eq-of-lt (changeable (s .panel) id level fields (changed-passes (s .panel) id level fields e) .number)) (either (eqb (linkAt (s .panel .links) id .covered) (coveredIn fields)))) told
@@ -256,10 +256,10 @@ module _ (s : Sheet) (c : Command) (tail path rows : List ℕ) (values : List �
   pub changed-tabled : Tabled (r .panel) levels others reads
   changed-tabled = changes .tabled
 
-  pub changed-rest : Replied s (numberOf c) c tail rows values (r .reply)
+  pub changed-rest : AnswerRest s (numberOf c) c tail rows values (r .reply)
   changed-rest =
-      subst (λ (c : Command). Replied s (numberOf c) c tail rows values (r .reply)) (sym is)
-      (subst (λ (v : List ℤ). Replied s (id % 128) (Change id level) tail rows v (r .reply)) (sym unchanged) (changed-replied s id level tail rows (r .reply) (changes .reply)))
+      subst (λ (c : Command). AnswerRest s (numberOf c) c tail rows values (r .reply)) (sym is)
+      (subst (λ (v : List ℤ). AnswerRest s (id % 128) (Change id level) tail rows v (r .reply)) (sym unchanged) (changed-replied s id level tail rows (r .reply) (changes .reply)))
     where
       unchanged : values ≡ s .values
       unchanged = subst (λ (c : Command). Stepped s (numberOf c) c tail path rows values step) is d .rest
@@ -283,7 +283,7 @@ formulas-same s k c fields r covered e =
 
 -- the formulas with the one that the command leaves, and the panel afterwards, are the answer's
 pub did : (q : Sheet) (line : List ℕ) (c : Command) (fields : List ℕ) → commandBytes c fields ≡ frameOf line → (k : ℕ) (rows : List ℕ) (values : List ℤ) (r : Reply)
-    → Replied q k c fields rows values r → (p : Panel) → p ≡ commandAnswer q c fields .state .panel
+    → AnswerRest q k c fields rows values r → (p : Panel) → p ≡ commandAnswer q c fields .state .panel
     → (formulas : Formulas) → formulas ≡ withFormula (q .formulas) k (formulaAfter c fields r (linkAt (q .panel .links) k .covered) (formulaAt (q .formulas) k)) → LegalSheet q
     → Did lineAnswer LegalSheet q line (sheetOf p formulas values) (wholeReply c r rows)
 did q line c fields read k rows values r d p e formulas given h =

@@ -67,9 +67,9 @@ fn progress_of(
 }
 
 // Answers whole lines from a position on while the room has place for a longest reply; what does not fit the buffer is counted, not stored. Past the
-// text's end there is no line. The step of a line is decided, and the panel takes it; a change is then carried out, whose step leaves the panel. A
-// removal and a change scan all links, and a value that is entered needs all formulas: they stand here, since in decide_line they would have the panel
-// or the formulas copied for every line.
+// text's end there is no line. The step of a line is decided, and the panel takes it; a change, whose step leaves the panel as it is, is then carried
+// out. A removal and a change scan all links, and a value that is entered needs all formulas: they stand here, since in decide_line they would have the
+// panel or the formulas copied for every line.
 pub fn answer_lines(
     text: &[u8],
     mut at: usize,

@@ -60,7 +60,7 @@ pub struct Changed {
 }
 
 // The panel as it is, with a reply.
-fn left(p: Panel, reply: Reply) -> Changed
+fn kept(p: Panel, reply: Reply) -> Changed
     ensures { λ r. ⌜ r ≡ record { panel = p; reply = reply } ⌝ }
 {
     Changed {
@@ -92,14 +92,14 @@ pub fn change(
     let fields = read_fields(bytes);
     let checks = check_link(n, id, level, fields, !old.used, Refusal::NoSuchLink);
     if let Reply::Refused(_) = checks {
-        return left(p, checks);
+        return kept(p, checks);
     }
     let mut fresh = *levels;
     let mut outs = *others;
     let mut reading = *reads;
     let mut path = [0u8; 64];
     let place = p.place;
-    // the removal: `settle` is given the panel as it was, since it looks through it without the link itself
+    // the removal; `settle` is given the panel with the link, and leaves the link out by itself
     let k = wide(id);
     let mut q = p;
     q.links[k] = no_link();
@@ -109,7 +109,7 @@ pub fn change(
         let settled = settle(p, v, &mut fresh, &mut outs, &mut reading, &mut path, worked);
         let verdict = settled.verdict;
         if let Verdict::Looped = verdict {
-            return left(p, Reply::Refused(Refusal::Loop));
+            return kept(p, Reply::Refused(Refusal::Loop));
         }
         q.setter[v] = STAY;
         if let Verdict::Path(_, _) = verdict {
@@ -119,7 +119,7 @@ pub fn change(
     }
     let before = p.setter;
     // the adding
-    let entry = resolve(
+    let verdict = resolve(
         &fresh,
         &outs,
         &reading,
@@ -129,13 +129,13 @@ pub fn change(
         fields.covered,
         &mut path,
     );
-    let addition = check_verdict(entry, level);
-    if let Reply::Refused(_) = addition {
-        return left(p, addition);
+    let reply = check_verdict(verdict, level);
+    if let Reply::Refused(_) = reply {
+        return kept(p, reply);
     }
     q.links[k] = waiting_link(level, fields);
-    if let Verdict::Path(_, _) = entry {
-        let step = path_step(entry, n, &place, id);
+    if let Verdict::Path(_, _) = verdict {
+        let step = path_step(verdict, n, &place, id);
         q = reverse(q, step, &path, &mut fresh, &mut outs, &mut reading);
     }
     *levels = fresh;

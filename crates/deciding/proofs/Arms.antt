@@ -43,7 +43,7 @@ use Rattle.frames.specs.Frames.{formulaIn, commandBytes, numberOf, answerTo, co
 use Rattle.frames.specs.Reading.{tailOf, LineRead}
 use Rattle.frames.proofs.Reading.{long-add, long-change, read-full, read-short, tail-reaches}
 use Rattle.replies.specs.Replies.{restOf}
-use Rattle.deciding.specs.Lines.{Framed, formulaGiven, formulaAfter, setsFormula, touchedField, Replied, LineStep, PanelStep, TouchStep, KeptStep, DecidedLine, ChangedLine, Unasked}
+use Rattle.deciding.specs.Lines.{Framed, formulaGiven, formulaAfter, setsFormula, touchedField, AnswerRest, LineStep, PanelStep, TouchStep, KeptStep, DecidedLine, ChangedLine, Unasked}
 
 -- ---- formulas
 
@@ -131,7 +131,7 @@ module _ (s : Sheet) (k : ℕ) (tail path rows : List ℕ) where
       → commandAnswer s command tail ≡ answerTo (performed s (solving c)) → restOf command r ≡ 0
       → (isRefusal (panel.performed (s .panel) c .reply) ≡ false
       → withFormula (s .formulas) k (formulaGiven command tail (linkAt (s .panel .links) k .covered) (formulaAt (s .formulas) k)) ≡ formulasAfter s c)
-      → replyBytes r ≡ panel.performed (s .panel) c .reply → Replied s k command tail rows (s .values) r
+      → replyBytes r ≡ panel.performed (s .panel) c .reply → AnswerRest s k command tail rows (s .values) r
   solved-replied command c r e z given told =
       let gives : Formula = formulaGiven command tail (linkAt (s .panel .links) k .covered) (formulaAt (s .formulas) k) in
       record {

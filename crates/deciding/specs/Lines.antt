@@ -84,7 +84,7 @@ touchedField (Refused r) = 0
 
 -- the parts of the answer to a line's command, which names the link of number k, but for the panel: the formula of that link, the values `after`, and the
 -- reply with the first rows of the buffer
-pub record Replied (s : Sheet) (k : ℕ) (command : Command) (tail rows : List ℕ) (after : List ℤ) (r : Reply) : Type 0 where
+pub record AnswerRest (s : Sheet) (k : ℕ) (command : Command) (tail rows : List ℕ) (after : List ℤ) (r : Reply) : Type 0 where
   pub formulas :
       withFormula (s .formulas) k (formulaAfter command tail r (linkAt (s .panel .links) k .covered) (formulaAt (s .formulas) k))
       ≡ commandAnswer s command tail .state .formulas
@@ -95,7 +95,7 @@ pub record Replied (s : Sheet) (k : ℕ) (command : Command) (tail rows : List �
 -- the step of the command: taken, it gives the panel of the answer, and its reply is the answer's
 pub record LineStep (s : Sheet) (k : ℕ) (command : Command) (tail path rows : List ℕ) (after : List ℤ) (step : Step) : Type 0 where
   pub takes : Takes (s .panel) k path step (commandAnswer s command tail .state .panel)
-  pub replied : Replied s k command tail rows after (step .reply)
+  pub replied : AnswerRest s k command tail rows after (step .reply)
   pub rows-full : length rows ≡ rowsLength
 
 -- whatever the formulas and values: no value changes

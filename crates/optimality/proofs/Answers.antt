@@ -28,7 +28,7 @@ use Rattle.panel.specs.Commands.{Command, opening, adding, removing, touching, 
 use Rattle.panel.proofs.Answers.{refusals-apart}
 use Rattle.panel.proofs.Checks.{checked-step, newLink}
 use Rattle.panel.proofs.Performed.{pick}
-use Rattle.optimality.specs.Refusals.{WeakerNeverConflict, TouchNeverConflict, RemoveNeverConflict, RefusedUnchanged}
+use Rattle.optimality.specs.Refusals.{WeakerNeverConflict, WeakerChangeNeverConflict, TouchNeverConflict, RemoveNeverConflict, RefusedUnchanged}
 
 -- ---- checks
 
@@ -200,6 +200,11 @@ pub weaker-never-conflict : WeakerNeverConflict
 weaker-never-conflict p id level bytes l =
     no-conflict p (performed p (adding id level bytes))
     (adding-outcome (Not 10) Any p (λ r h. omega arith) (λ q. tt) (omega arith) id level bytes (λ e. absurd (omega arith)))
+
+pub weaker-change-never-conflict : WeakerChangeNeverConflict
+weaker-change-never-conflict p id level bytes l =
+    no-conflict p (performed p (changing id level bytes))
+    (changing-outcome (Not 10) Any p (λ r h. omega arith) (λ q. tt) (omega arith) id level bytes (λ e. absurd (omega arith)))
 
 pub touch-never-conflict : TouchNeverConflict
 touch-never-conflict p f =

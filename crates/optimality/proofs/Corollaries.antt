@@ -16,7 +16,7 @@ use Rattle.optimality.specs.Condition3.{empty, levelIn, Pair, MaySet, Ma
 use Rattle.optimality.specs.States.{Better}
 use Rattle.optimality.specs.Refusals.{Possible, GivesConflict}
 use Rattle.optimality.proofs.Graphs.{legal-whole, waits-true, none-unblocked}
-use Rattle.optimality.proofs.Answers.{opening-outcome, planning-outcome, changing-outcome, Any, Not, no-conflict, weaker-never-conflict, touch-never-conflict, remove-never-conflict}
+use Rattle.optimality.proofs.Answers.{opening-outcome, planning-outcome, Any, Not, no-conflict, weaker-never-conflict, weaker-change-never-conflict, touch-never-conflict, remove-never-conflict}
 use Rattle.optimality.proofs.Runs.{after-sound, every-system, every-start, condition-3}
 use Rattle.optimality.proofs.States.{settled, nothing-blocked, nothing-better}
 
@@ -80,8 +80,7 @@ conflict-required p (removing id) e = absurd (remove-never-conflict p id e)
 conflict-required p (touching f) e = absurd (touch-never-conflict p f e)
 conflict-required p planning e = absurd (no-conflict p _ (planning-outcome (Not 10) Any p (λ r h. omega arith) (λ o. tt)) e)
 conflict-required p (changing id zero bytes) e = required-change id bytes
-conflict-required p (changing id (suc l) bytes) e =
-    absurd (no-conflict p _ (changing-outcome (Not 10) Any p (λ r h. omega arith) (λ q. tt) (omega arith) id (suc l) bytes (λ e. absurd (omega arith))) e)
+conflict-required p (changing id (suc l) bytes) e = absurd (weaker-change-never-conflict p id (suc l) bytes (omega arith) e)
 
 -- ---- another system
 

@@ -59,6 +59,10 @@ ChangeConflictExactly b p =
 abbrev pub WeakerNeverConflict : Type 0
 WeakerNeverConflict = (p : Panel) (id level : ℕ) (bytes : List ℕ) → 0 < level → GivesConflict p (adding id level bytes) → ⊥
 
+-- nor does a change to a weaker level
+abbrev pub WeakerChangeNeverConflict : Type 0
+WeakerChangeNeverConflict = (p : Panel) (id level : ℕ) (bytes : List ℕ) → 0 < level → GivesConflict p (changing id level bytes) → ⊥
+
 -- "Touch and Remove never give Conflict"
 abbrev pub TouchNeverConflict : Type 0
 TouchNeverConflict = (p : Panel) (f : ℕ) → GivesConflict p (touching f) → ⊥

@@ -212,13 +212,13 @@ legal-performed p (changing id level bytes) h =
 -- ---- what a command keeps
 
 -- P holds after the change that a command makes before it reverses a path, where it passes its checks; kind 06 makes two, and this is the second
-abbrev pub Changes : (Panel → Type 0) → Panel → Command → Type 0
-Changes P p (opening n) = Passes (openChecks p n) → P (opened n)
-Changes P p (adding id level bytes) = Passes (addChecks p id level bytes) → P (withLink p id (newLink level bytes))
-Changes P p (removing id) = Passes (removeChecks p id) → P (dropped p id)
-Changes P p (touching f) = Passes (touchChecks p f) → P (toFront p f)
-Changes P p planning = P p
-Changes P p (changing id level bytes) =
+abbrev pub AfterChange : (Panel → Type 0) → Panel → Command → Type 0
+AfterChange P p (opening n) = Passes (openChecks p n) → P (opened n)
+AfterChange P p (adding id level bytes) = Passes (addChecks p id level bytes) → P (withLink p id (newLink level bytes))
+AfterChange P p (removing id) = Passes (removeChecks p id) → P (dropped p id)
+AfterChange P p (touching f) = Passes (touchChecks p f) → P (toFront p f)
+AfterChange P p planning = P p
+AfterChange P p (changing id level bytes) =
     Passes (changeChecks p id level bytes) → (q : Panel) → Without p id q → P (withLink q id (newLink level bytes))
 
 -- what holds after that change, and is kept by every reversal, holds after the command
@@ -232,7 +232,7 @@ module _ (P : Panel → Type 0) (turns : (q : Panel) (c : Item) (vs : List ℕ) 
       go a (inl (r, e)) = rw r (inl (r, e))
       go a (inr (r, w)) = rw r (kept-enter P turns p (a .panel) id (newLink level bytes) (k (a .panel) w))
 
-  pub kept-performed : (c : Command) → Changes P p c → Keeps P p (performed p c)
+  pub kept-performed : (c : Command) → AfterChange P p c → Keeps P p (performed p c)
   unfolding removeStep planStep
   kept-performed (opening n) k = kept-checked P turns p (openChecks p n) (openStep n) (λ a. inr (refl, k a))
   kept-performed (adding id level bytes) k =
@@ -252,7 +252,7 @@ performed-size p c is-open = go (kept-performed Same (λ q d vs k. reversed-size
     Same : Panel → Type 0
     Same q = q .size ≡ p .size
 
-    same : (c : Command) → Changes Same p c
+    same : (c : Command) → AfterChange Same p c
     same (opening n) = λ a. absurd (omega (arith, openable p n a .0))
     same (adding id level bytes) = λ a. refl
     same (removing id) = λ a. dropped-parts p id .0

@@ -84,7 +84,7 @@ fn choose(b: Blocked) -> Chosen
 }
 
 // What is to be done once a link is dropped, and the number of the link or stay that it is done for.
-pub struct Settled {
+pub struct Decision {
     pub verdict: Verdict,
     pub number: u8,
 }
@@ -101,7 +101,7 @@ pub fn settle(
     reads: &mut [u64; 64],
     path: &mut [u8; 64],
     worked: &mut u8,
-) -> Settled
+) -> Decision
     requires { ⌜ Legal p × Tabled p (now levels) (now others) (now reads) × (v < 64) × (at (p .setter) v < 128) × (length (now path) ≡ 64) ⌝ }
     ensures { λ r. ⌜ Settles p (at (p .setter) v) v (now (path .exit)) (r .number) (r .verdict) ⌝ }
     ensures { λ r. ⌜ Tabled (dropped p (at (p .setter) v)) (now (levels .exit)) (now (others .exit)) (now (reads .exit)) ⌝ }
@@ -129,7 +129,7 @@ pub fn settle(
             path,
         );
     }
-    Settled {
+    Decision {
         verdict: verdict,
         number: b.number,
     }

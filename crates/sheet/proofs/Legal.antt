@@ -30,7 +30,7 @@ use Rattle.panel.specs.Legal.{Legal}
 use Rattle.panel.proofs.Reversed.{AllAlike, alike-covered, alike-used, link-here, link-there, reversed-alike, reversed-size}
 use Rattle.panel.proofs.Changes.{unopened-links, dropped-parts}
 use Rattle.panel.proofs.Checks.{addable, removable, changeable, touchable, openable, newLink}
-use Rattle.panel.proofs.Performed.{legal-performed, Keeps, Without, Changes, kept-performed, performed-size}
+use Rattle.panel.proofs.Performed.{legal-performed, Keeps, Without, AfterChange, kept-performed, performed-size}
 use Rattle.values.specs.Limits.{valueAt, outside}
 use Rattle.formulas.specs.declared.Formula.{Formula}
 use Rattle.formulas.specs.declared.Formula.the-variants.{None}
@@ -159,7 +159,7 @@ module _ (s : Sheet) (h : LegalSheet s) where
       go true f = f
       go false f = subst (λ (x : Formula). Fits x (linkAt (q .links) k)) (sym (dropped-there id k d)) f
 
-  fits-solved : (c : panel.Command) → Changes (λ q. FitsAll (after c) (q .links)) (s .panel) c
+  fits-solved : (c : panel.Command) → AfterChange (λ q. FitsAll (after c) (q .links)) (s .panel) c
   unfolding opened toFront
   fits-solved (opening n) = λ a. subst (FitsAll (after (opening n))) (unopened-links (s .panel) (h .panel) (openable (s .panel) n a .0)) (h .fits)
   fits-solved (adding id level bytes) = λ a.

@@ -34,7 +34,7 @@ use Rattle.panel.specs.Answers.{rowsLength}
 use Rattle.replies.specs.Replies.{restOf, wholeReply}
 use Rattle.replies.proofs.Replies.{rows-tell-none, reply-short}
 use Rattle.frames.specs.Reading.{tailOf}
-use Rattle.deciding.specs.Lines.{Framed, formulaAfter, setsFormula, Replied, TouchStep}
+use Rattle.deciding.specs.Lines.{Framed, formulaAfter, setsFormula, AnswerRest, TouchStep}
 use Rattle.deciding.proofs.Arms.{OneOf, framed, entered-touch}
 use Rattle.answering.specs.Scans.{lineScan}
 use Rattle.answering.proofs.LineAnswers.{removal-no-change, removed-scan, no-scan, removed-step, touch-taken, touch-setters, entered-step, stepPanel, Stepped, step-legal, decided-stepped, step-panel, changed-panel, changed-tabled, changed-rest, changed-worked, formulas-same, did}
@@ -279,7 +279,7 @@ other : (c : tie.At-match3-keys2 Inv-loop μ-loop) → OneOf (0 ∷ 1 ∷ 2 ∷ 
 other c = subst (λ (x : Command). OneOf (0 ∷ 1 ∷ 2 ∷ 3 ∷ 4 ∷ 6 ∷ 7 ∷ 8 ∷ []) (tagOf the-type x)) (same-command (joined (c .before))) (c .match3 .keys2)
 
 rest-is : (c : tie.At-match3-came Inv-loop μ-loop) → let m = met-again c in let n = m .before in
-    Replied (sheet-of n) (numberOf (command-of n)) (command-of n) (tail-at n) (m .match .rows) (m .match .values) (c .match3 .reply)
+    AnswerRest (sheet-of n) (numberOf (command-of n)) (command-of n) (tail-at n) (m .match .rows) (m .match .values) (c .match3 .reply)
 rest-is c =
     let m = met-again c in
     let n = m .before in

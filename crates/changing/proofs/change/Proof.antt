@@ -115,7 +115,7 @@ returns c =
     let e = t .enum-told .given .1 in
     let (same, told) =
     refused-parts (b .p) _ (k .check-link .result) _ e (checks-refused (b .p) (b .id) (b .level) (b .bytes .now) _ _ _ f (b .old) (s .pre .2) _ (k .check-link .ensures) _ e) in
-    rw (c .left .ensures) (record {
+    rw (c .kept .ensures) (record {
       panel = same;
       reply = told;
       tabled = s .pre .1;
@@ -148,7 +148,7 @@ returns-2 c =
     let e = k .settle .ensures in
     let loops = drop-loops (b .p) (s .pre .0) (b .id) (number-small t) (removes t) _ (holds w) _ _ (k .settle .result .verdict) (e .0) (c .before .enum-told3 .given .1) in
     let (same, told) = refused-parts (b .p) _ (Refused Loop) Loop refl (removal-refused (b .p) (s .pre .0) (b .id) (b .level) (b .bytes .now) (passed t) Loop loops) in
-    rw (c .left2 .ensures) (record { panel = same; reply = told; tabled = s .pre .1; scan = e .1 .1 ∙ scanned k ∙ counts t })
+    rw (c .kept2 .ensures) (record { panel = same; reply = told; tabled = s .pre .1; scan = e .1 .1 ∙ scanned k ∙ counts t })
 
 element-write-q : tie.Need-element-write-q
 element-write-q c =
@@ -282,7 +282,7 @@ returns-3 c =
     let (same, told) =
     refused-parts (b .p) _ (k .check-verdict .result) _ e
     (addition-refused (b .p) (s .pre .0) (b .id) (b .level) (b .bytes .now) (passed t) (d .accepts) _ (d .leaves) (told-it .enum-told6 .given .0 .0) refuses) in
-    rw (c .left3 .ensures) (record { panel = same; reply = told; tabled = s .pre .1; scan = worked-is m ∙ counts t })
+    rw (c .kept3 .ensures) (record { panel = same; reply = told; tabled = s .pre .1; scan = worked-is m ∙ counts t })
 
 -- the panel with the link
 abbrev resolved-at : tie.After-waiting-link → tie.After-resolve
