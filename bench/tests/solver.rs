@@ -125,40 +125,36 @@ fn damaged_lines() {
     }
 }
 
+/// Both solvers on texts whose outputs are worked out by hand.
+fn check_worked(texts: &[worked::Worked]) {
+    let mut runner = Runner::new();
+    for text in texts {
+        assert!(runner.output(&text.text) == text.output, "{}", text.name);
+    }
+}
+
 /// Where a line is wrong, by the outputs worked out by hand.
 #[test]
 fn offsets_of_bad_lines() {
-    let mut runner = Runner::new();
-    for text in worked::offsets::all() {
-        assert!(runner.output(&text.text) == text.output, "{}", text.name);
-    }
+    check_worked(&worked::offsets::all());
 }
 
 /// Values and formulas, by the outputs worked out by hand.
 #[test]
 fn values_and_formulas() {
-    let mut runner = Runner::new();
-    for text in worked::values::all() {
-        assert!(runner.output(&text.text) == text.output, "{}", text.name);
-    }
+    check_worked(&worked::values::all());
 }
 
 /// Changes of links, by the outputs worked out by hand.
 #[test]
 fn changes_of_links() {
-    let mut runner = Runner::new();
-    for text in worked::changes::all() {
-        assert!(runner.output(&text.text) == text.output, "{}", text.name);
-    }
+    check_worked(&worked::changes::all());
 }
 
 /// Full panels, by the outputs worked out by hand.
 #[test]
 fn full_panels() {
-    let mut runner = Runner::new();
-    for text in worked::panels::all() {
-        assert!(runner.output(&text.text) == text.output, "{}", text.name);
-    }
+    check_worked(&worked::panels::all());
 }
 
 /// A wrong character at each place of lines of every length up to 40, and of some

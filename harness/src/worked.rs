@@ -71,6 +71,23 @@ fn push(lines: &mut Lines, more: &[(&str, &str)]) {
     lines.extend(owned(more));
 }
 
+/// Lines by which the order of checks is seen, behind those that set links up.
+fn order_of_checks(name: &str, links: &[(&str, &str)], checks: &[(&str, &str)]) -> Worked {
+    Worked::of_lines(name, &[links, checks].concat())
+}
+
+/// The same lines before the opening, and others behind them: NotOpen comes after
+/// BadFrame and before all others.
+fn checks_before_opening(name: &str, checks: &[(&str, &str)], behind: &[(&str, &str)]) -> Worked {
+    let mut lines = Lines::new();
+    for &(line, reply) in checks {
+        let reply = if reply == "FF02" { reply } else { "FF04" };
+        push(&mut lines, &[(line, reply)]);
+    }
+    push(&mut lines, behind);
+    Worked::of_lines(name, &lines)
+}
+
 /// The tally line that belongs to the replies to all lines of a text.
 pub fn tally_line<S: AsRef<str>>(replies: &[S]) -> String {
     let replies = replies.iter().map(AsRef::as_ref);

@@ -41,9 +41,9 @@ use Rattle.frames.proofs.Command.{the-type}
 use Rattle.frames.specs.Texts.{Answered}
 use Rattle.frames.specs.Frames.{formulaIn, commandBytes, numberOf, answerTo, commandAnswer}
 use Rattle.frames.specs.Reading.{tailOf, LineRead}
-use Rattle.frames.proofs.Reading.{long-add, long-change, read-full, read-short, tail-reaches}
+use Rattle.frames.proofs.Reading.{long-link, read-full, read-short, tail-reaches}
 use Rattle.replies.specs.Replies.{restOf}
-use Rattle.deciding.specs.Lines.{Framed, formulaGiven, formulaAfter, setsFormula, touchedField, AnswerRest, LineStep, PanelStep, TouchStep, KeptStep, DecidedLine, ChangedLine, Unasked}
+use Rattle.deciding.specs.Lines.{Framed, formulaGiven, formulaAfter, setsFormula, touchedField, AnswerRest, LineStep, TouchStep, DecidedLine, ChangedLine, Unasked}
 
 -- ---- formulas
 
@@ -219,8 +219,8 @@ pub framed : (s : List ℕ) (r : Line) → LineRead s r → Framed r
 framed s r h = record {
   short = read-short s r h;
   full = read-full s r h;
-  reaches = λ id level. ⊎-elim (λ e. tail-reaches s r 0x02 id level (omega arith) h (ap (λ (c : Command). commandBytes c (tailOf r)) e) (long-add level))
-      (λ e. tail-reaches s r 0x06 id level (omega arith) h (ap (λ (c : Command). commandBytes c (tailOf r)) e) (long-change level));
+  reaches = λ id level. ⊎-elim (λ e. tail-reaches s r 0x02 id level (omega arith) h (ap (λ (c : Command). commandBytes c (tailOf r)) e) (long-link 0x02 (inl refl) level))
+      (λ e. tail-reaches s r 0x06 id level (omega arith) h (ap (λ (c : Command). commandBytes c (tailOf r)) e) (long-link 0x06 (inr refl) level));
 }
 
 -- a touch, or a value that is entered

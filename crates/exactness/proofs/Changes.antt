@@ -2,7 +2,7 @@
 -- refused, or the change is answered as the add to what the removal leaves; the refusals behind the checks by the steps (`removal-loop`,
 -- `add-conflict-or-loop`). The formulas by cases on the covered fields.
 use Prim.Native.Nat.{ℕ, _^_, _<_}
-use mathlib.Core.Path.{_≡_, refl, sym, ap, _∙_}
+use mathlib.Core.Path.{_≡_, refl, ap, _∙_}
 use mathlib.Core.Bool.{Bool, true, false, cond}
 use mathlib.Core.List.{List, [], _∷_}
 use mathlib.Core.Logic.{_≢_, _⊎_, inl, inr, ⊎-elim}

@@ -1,6 +1,7 @@
 -- What reading a frame and a line answers. No kind fits no bytes or as many as the buffer has, so a buffer's first bytes decide as the whole frame
 -- does (`fits-taken`, `known`); then one law for each way that `read_frame` and `read_line` answer. Assumes nothing.
 use mathlib.Core.Path.{_≡_, refl, sym, ap, ap₂, _∙_}
+use mathlib.Core.Logic.{_⊎_, ⊎-elim}
 use mathlib.Core.Bool.{Bool, true, false, not, cond, _&&_, and-false, true≢false}
 use mathlib.Core.List.{List, [], _∷_}
 use Prim.Native.Nat.{ℕ, zero, suc, _+_, _*_, _/_, _%_, _≤_, _<_, min}
@@ -97,14 +98,10 @@ fits-short k form n e = go (ltb n frameRoom) refl where
   go true t = ltb-true n frameRoom t
   go false t = absurd (true≢false (sym e ∙ fits-many k form n (ltb-false n frameRoom t)))
 
--- an add, a change, a value and a formula have more than three bytes
-pub long-add : (form n : ℕ) → fitsKind 0x02 form n ≡ true → 4 ≤ n
+-- a link, a value and a formula have more than three bytes
+pub long-link : (k : ℕ) → (k ≡ 0x02) ⊎ (k ≡ 0x06) → (form n : ℕ) → fitsKind k form n ≡ true → 4 ≤ n
 unfolding fitsKind
-long-add form n e = leb-true 4 n (and-left (leb 4 n) (leb n 11) e)
-
-pub long-change : (form n : ℕ) → fitsKind 0x06 form n ≡ true → 4 ≤ n
-unfolding fitsKind
-long-change form n e = leb-true 4 n (and-left (leb 4 n) (leb n 11) e)
+long-link k kind form n e = leb-true 4 n (and-left (leb 4 n) (leb n 11) (⊎-elim (λ a. rw a at e) (λ a. rw a at e) kind))
 
 pub long-value : (form n : ℕ) → fitsKind 0x07 form n ≡ true → 4 ≤ n
 unfolding fitsKind

@@ -2,7 +2,7 @@
 -- refusals that are allowed and what is said of an accepted answer: by cases along its checks (`checked-answer`) and its step. The theorems take
 -- the refusals that they need: all of them for `refused-unchanged`, all but Conflict for the commands that never give it.
 use Prim.Native.Nat.{ℕ, _≤_}
-use mathlib.Core.Path.{_≡_, refl, sym, ap, _∙_}
+use mathlib.Core.Path.{_≡_, refl, sym, ap, _∙_, subst}
 use mathlib.Core.Bool.{Bool, true, false}
 use mathlib.Core.List.{List, [], _∷_}
 use mathlib.Core.Option.{Option, none, some}
@@ -27,7 +27,7 @@ use Rattle.panel.specs.Steps.{accepted, reverseStep, openStep, enterStep, addSt
 use Rattle.panel.specs.Commands.{Command, opening, adding, removing, touching, planning, changing, performed, Check, checked, Passes, isOpen, openChecks, addChecks, removeChecks, touchChecks, planChecks, changeChecks, coveredIn, outputsIn}
 use Rattle.panel.proofs.Answers.{refusals-apart}
 use Rattle.panel.proofs.Checks.{checked-step, newLink}
-use Rattle.panel.proofs.Performed.{pick}
+use Rattle.panel.proofs.Performed.{pick, change-either}
 use Rattle.optimality.specs.Refusals.{WeakerNeverConflict, WeakerChangeNeverConflict, TouchNeverConflict, RemoveNeverConflict, RefusedUnchanged}
 
 -- ---- checks
@@ -53,6 +53,11 @@ pub data Outcome (R : Refusal → Type 0) (T : Panel → List ℕ → Type 0) (p
 -- every panel, with every reply
 abbrev pub Any : Panel → List ℕ → Type 0
 Any q bytes = Unit {0}
+
+-- a refusal is one that R allows
+allowed : (R : Refusal → Type 0) (p : Panel) (a : Answer) → Outcome R Any p a → isRefusal (a .reply) ≡ true → (r : Refusal) × R r × (a ≡ refused p r)
+allowed R p a (no r h) e = (r, h, refl)
+allowed R p a (yes q bytes t) e = absurd (clash e refl)
 
 -- T allows every panel with its moved count
 module _ (R : Refusal → Type 0) (T : Panel → List ℕ → Type 0) (p : Panel) (t : (q : Panel) → T q (moved p q ∷ [])) where
@@ -80,12 +85,6 @@ module _ (R : Refusal → Type 0) (T : Panel → List ℕ → Type 0) (p : Panel
   pub drop-outcome : (q : Panel) (s : Standing) → R Loop → Outcome R T p (dropStep p q s)
   drop-outcome q Waiting l = yes _ _ (t q)
   drop-outcome q (Holding v) l = settled-outcome q (leastBlocked q) l
-
-  -- the removal's refusal, or what entering the link in the panel that it leaves gives
-  change-outcome : (a : Answer) → Outcome R Any p a → (id : ℕ) (x : Link) → R Loop → (x .level ≡ 0 → R Conflict)
-      → Outcome R T p (pick (isRefusal (a .reply)) a (enterStep p (a .panel) id x))
-  change-outcome a (no r h) id x l k = no r h
-  change-outcome a (yes q bytes h) id x l k = enter-outcome q id x l k
 
   touch-outcome : (f : ℕ) → R Loop → Outcome R T p (touchStep p f)
   unfolding touchStep
@@ -129,11 +128,14 @@ module _ (R : Refusal → Type 0) (T : Panel → List ℕ → Type 0) (p : Panel
         (λ n. drop-outcome R T p t (dropped p id) (linkAt (p .links) id .standing) l)
 
     pub changing-outcome : (id level : ℕ) (bytes : List ℕ) → (level ≡ 0 → R Conflict) → Outcome R T p (performed p (changing id level bytes))
-    unfolding changeStep removeStep
+    unfolding removeStep
     changing-outcome id level bytes k =
+        let removed = drop-outcome R Any p (λ q. tt) (dropped p id) (linkAt (p .links) id .standing) l in
         checked-answer (Outcome R T p) p (changeChecks p id level bytes) (changeStep p id level (coveredIn bytes) (outputsIn bytes))
         (given NotOpen (omega arith, omega arith), (given BadLink (omega arith, omega arith), (given NoSuchField (omega arith, omega arith), (given NoSuchLink (omega arith, omega arith), tt))))
-        (λ n. change-outcome R T p t (removeStep p id) (drop-outcome R Any p (λ q. tt) (dropped p id) (linkAt (p .links) id .standing) l) id (newLink level bytes) l k)
+        (λ n. change-either (Outcome R T p) p id level bytes
+        (λ refuses e. let (r, h, is) = allowed R p (removeStep p id) removed refuses in subst (Outcome R T p) (sym is) (no r h))
+        (λ goes w. enter-outcome R T p t (removeStep p id .panel) id (newLink level bytes) l k))
 
     pub touching-outcome : (f : ℕ) → Outcome R T p (performed p (touching f))
     touching-outcome f =
@@ -150,11 +152,6 @@ not-given R p a (yes q bytes t) r out e = let z : _≡_ {A = ℕ} 0 255 = ap (λ
 unchanged : (R : Refusal → Type 0) (p : Panel) (a : Answer) → Outcome R Any p a → isRefusal (a .reply) ≡ true → a .panel ≡ p
 unchanged R p a (no r h) e = refl
 unchanged R p a (yes q bytes t) e = absurd (clash e refl)
-
--- a refusal is one that R allows
-allowed : (R : Refusal → Type 0) (p : Panel) (a : Answer) → Outcome R Any p a → isRefusal (a .reply) ≡ true → (r : Refusal) × R r × (a ≡ refused p r)
-allowed R p a (no r h) e = (r, h, refl)
-allowed R p a (yes q bytes t) e = absurd (clash e refl)
 
 -- behind its checks a removal is refused with Loop only
 pub removal-loop : (p : Panel) (id : ℕ) → Passes (removeChecks p id) → isRefusal (performed p (removing id) .reply) ≡ true → performed p (removing id) ≡ refused p Loop

@@ -6,7 +6,7 @@ use mathlib.Core.Path.{_≡_, refl, ap, _∙_}
 use mathlib.Core.Bool.{Bool, true, false}
 use mathlib.Core.List.{List}
 use mathlib.Core.Option.{some}
-use mathlib.Core.Logic.{_↔_, inl, inr}
+use mathlib.Core.Logic.{_↔_}
 use native.Mathlib.Omega.{arith}
 use borrow.Author.Tests.{eq-eqb}
 use lib.Dec.{eqb}
@@ -16,16 +16,16 @@ use Rattle.panel.specs.declared.Link.{Link}
 use Rattle.panel.specs.declared.Panel.{Panel}
 use Rattle.panel.specs.declared.Refusal.the-variants.{Conflict}
 use Rattle.panel.specs.Items.{link, stay, linkAt, isInForce}
-use Rattle.panel.specs.Answers.{Answer, isRefusal, refused}
+use Rattle.panel.specs.Answers.{refused}
 use Rattle.panel.specs.Panels.{withLink}
 use Rattle.panel.specs.Solution.{strengthOf, isBlocked, pathFor, planOf}
 use Rattle.panel.specs.Steps.{accepted, reverseStep, enterStep, addStep, removeStep, changeStep}
-use Rattle.panel.specs.Commands.{removing, changing, Passes, removeChecks, addChecks, changeChecks, coveredIn, outputsIn}
+use Rattle.panel.specs.Commands.{changing, removeChecks, addChecks, changeChecks, coveredIn, outputsIn}
 use Rattle.panel.proofs.Reversed.{reversedSetters}
 use Rattle.panel.proofs.Legal.{LegalBut}
 use Rattle.panel.proofs.Changes.{Enters, add-enters}
-use Rattle.panel.proofs.Checks.{addable, removable, newLink, Linkable, changeable, change-removes, checked-step}
-use Rattle.panel.proofs.Performed.{pick, Keeps, Without, removed-without, without-enters}
+use Rattle.panel.proofs.Checks.{addable, removable, changeable, change-removes, checked-step}
+use Rattle.panel.proofs.Performed.{pick, without-enters, change-either}
 use Rattle.optimality.specs.Condition3.{Store, entry, entered, Pair, AfterEveryList, panels, start}
 use Rattle.optimality.specs.Agreement.{entryFor, Agrees, Sound}
 use Rattle.optimality.specs.States.{HoldsRequired}
@@ -38,7 +38,7 @@ use Rattle.optimality.proofs.Held.{plan-whole}
 use Rattle.optimality.proofs.Optimum.{matching-matches, matches-matching}
 use Rattle.optimality.proofs.Paths.{path-reversible, after-assigned}
 use Rattle.optimality.proofs.Answers.{reverse-no-conflict}
-use Rattle.optimality.proofs.Steps.{SoundAfter, enter-here, enter-idle, enter-legal, enter-force, enter-agrees, enter-none}
+use Rattle.optimality.proofs.Steps.{enter-here, enter-idle, enter-legal, enter-force, enter-agrees, enter-none}
 use Rattle.optimality.proofs.Removing.{remove-sound}
 use Rattle.optimality.proofs.Runs.{after-sound}
 use Rattle.optimality.proofs.States.{required-force}
@@ -112,23 +112,15 @@ conflict-exactly commands = sound-conflict-exactly (after-sound commands)
 -- ---- a change to level 0: it is entered in the panel that the removal leaves
 
 pub sound-change-conflict-exactly : {b : Store} {p : Panel} → Sound b p → ChangeConflictExactly b p
-unfolding changeStep
 sound-change-conflict-exactly {b} {p} x id bytes n accepts =
+    let new = changeable p id 0 bytes n in
+    let removes = change-removes p id 0 bytes n in
+    let goes = rw (checked-step p (removeChecks p id) (removeStep p id) removes) at accepts in
+    let s = remove-sound b p x id (new .number) (removable p id removes .used) in
     rw (checked-step p (changeChecks p id 0 bytes) (changeStep p id 0 (coveredIn bytes) (outputsIn bytes)) n)
-    (go (removeStep p id) (rw (checked-step p (removeChecks p id) (removeStep p id) removes) at accepts)
-    (remove-sound b p x id (new .number) (removable p id removes .used)) (removed-without p id))
-  where
-    new : Linkable p id 0 bytes
-    new = changeable p id 0 bytes n
-
-    removes : Passes (removeChecks p id)
-    removes = change-removes p id 0 bytes n
-
-    go : (a : Answer) → isRefusal (a .reply) ≡ false → SoundAfter b (entered b (removing id)) a → Keeps (Without p id) p a
-        → (pick (isRefusal (a .reply)) a (enterStep p (a .panel) id (newLink 0 bytes)) .reply ≡ refused p Conflict .reply)
-        ↔ (Possible (entered b (changing id 0 bytes)) → ⊥)
-    go a r s (inl (refuses, e)) = absurd (clash refuses r)
-    go a r s (inr (e, w)) = rw r (enter-conflict (rw r at s) (without-enters w (x .legal) (new .number) 0 bytes (new .formed)) refl p)
+    (change-either (λ a. (a .reply ≡ refused p Conflict .reply) ↔ (Possible (entered b (changing id 0 bytes)) → ⊥)) p id 0 bytes
+    (λ r e. absurd (clash r goes))
+    (λ r w. enter-conflict (rw r at s) (without-enters w (x .legal) (new .number) 0 bytes (new .formed)) refl p))
 
 pub change-conflict-exactly : AfterEveryList panels start (λ r. ChangeConflictExactly (r .store) (r .state))
 change-conflict-exactly commands = sound-change-conflict-exactly (after-sound commands)

@@ -3,7 +3,6 @@
 use Prim.Native.Nat.{ℕ, _≤_, _<_, zero-le}
 use mathlib.Core.Path.{_≡_, refl, ap, _∙_}
 use mathlib.Core.List.{List, [], _∷_}
-use mathlib.Core.Logic.{inl, inr}
 use mathlib.Core.Option.{none}
 use native.Mathlib.Omega.{arith}
 use borrow.Author.Tests.{ltb-true}
@@ -13,14 +12,13 @@ use Rattle.fieldset.proofs.Numbers.{clash}
 use Rattle.panel.specs.declared.Panel.{Panel}
 use Rattle.panel.specs.Items.{Item, link, stay, noLink, isInForce}
 use Rattle.panel.specs.Panels.{opened}
-use Rattle.panel.specs.Steps.{openStep, enterStep, addStep, removeStep, touchStep, planStep, changeStep}
-use Rattle.panel.specs.Answers.{Answer, isRefusal}
+use Rattle.panel.specs.Steps.{openStep, addStep, removeStep, touchStep, planStep, changeStep}
 use Rattle.panel.specs.Commands.{Command, opening, adding, removing, touching, planning, changing, performed, openChecks, addChecks, removeChecks, touchChecks, planChecks, changeChecks, Passes, coveredIn, outputsIn}
 use Rattle.panel.proofs.InForce.{unused-off}
 use Rattle.panel.proofs.Reversed.{setter-stay}
 use Rattle.panel.proofs.Changes.{legal-opened, unopened-links, add-enters}
-use Rattle.panel.proofs.Checks.{newLink, openable, addable, removable, touchable, Linkable, changeable, change-removes}
-use Rattle.panel.proofs.Performed.{pick, Keeps, Without, removed-without, without-enters}
+use Rattle.panel.proofs.Checks.{openable, addable, removable, touchable, changeable, change-removes}
+use Rattle.panel.proofs.Performed.{without-enters, change-either}
 use Rattle.optimality.specs.Condition3.{Store, empty, entered, System, Run, stepped, after, AfterEveryList, panels, start, Condition3}
 use Rattle.optimality.specs.Agreement.{EverySystem, Sound, EveryStart}
 use Rattle.optimality.proofs.Setters.{Waits}
@@ -58,17 +56,11 @@ no-links b p x e i = x .agrees .links i ∙ rw (unopened-links p (x .legal) e) (
 -- the removal leaves a sound panel, in which the link is entered
 change-sound : (b : Store) (p : Panel) → Sound b p → (id level : ℕ) (bytes : List ℕ) → Passes (changeChecks p id level bytes)
     → SoundAfter b (entered b (changing id level bytes)) (changeStep p id level (coveredIn bytes) (outputsIn bytes))
-unfolding changeStep
 change-sound b p x id level bytes k =
-    go (removeStep p id) (remove-sound b p x id (new .number) (removable p id (change-removes p id level bytes k) .used)) (removed-without p id)
-  where
-    new : Linkable p id level bytes
-    new = changeable p id level bytes k
-
-    go : (a : Answer) → SoundAfter b (entered b (removing id)) a → Keeps (Without p id) p a
-        → SoundAfter b (entered b (changing id level bytes)) (pick (isRefusal (a .reply)) a (enterStep p (a .panel) id (newLink level bytes)))
-    go a s (inl (r, e)) = rw r (rw r (rw r at s))
-    go a s (inr (r, w)) = rw r (enter-sound (rw r at s) (without-enters w (x .legal) (new .number) level bytes (new .formed)) x)
+    let new = changeable p id level bytes k in
+    let s = remove-sound b p x id (new .number) (removable p id (change-removes p id level bytes k) .used) in
+    change-either (SoundAfter b (entered b (changing id level bytes))) p id level bytes (λ r e. rw r (rw r at s))
+    (λ r w. enter-sound (rw r at s) (without-enters w (x .legal) (new .number) level bytes (new .formed)) x)
 
 -- ---- the commands
 

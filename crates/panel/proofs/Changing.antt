@@ -2,7 +2,7 @@
 -- change that passes its checks lets the removal and then the add pass theirs. So it is refused with the removal, or refused with the add, or it
 -- leaves the panel of both (`change-cases`).
 use Prim.Native.Nat.{ℕ}
-use mathlib.Core.Path.{_≡_, refl, sym, ap, _∙_}
+use mathlib.Core.Path.{_≡_, refl}
 use mathlib.Core.Bool.{Bool, true, false}
 use mathlib.Core.List.{List}
 use mathlib.Core.Logic.{_⊎_, inl, inr}
@@ -19,7 +19,7 @@ use Rattle.panel.specs.Steps.{accepted, reverseStep, enterStep, addStep,
 use Rattle.panel.specs.Commands.{coveredIn, outputsIn, Passes, addChecks, removeChecks, changeChecks, adding, removing, changing, performed}
 use Rattle.panel.specs.Legal.{Legal}
 use Rattle.panel.proofs.Checks.{checked-step, newLink, changeable, change-removes, change-adds}
-use Rattle.panel.proofs.Performed.{pick, Keeps, Without, removed-without, without-unused}
+use Rattle.panel.proofs.Performed.{pick, Without, without-unused, change-either}
 
 -- ---- the same step, counted from two panels
 
@@ -71,24 +71,21 @@ module _ (p : Panel) (id level : ℕ) (bytes : List ℕ) where
       ⊎ ((isRefusal (removal .reply) ≡ false) × Without p id (removal .panel) × Alike p (removal .panel) change addition)
 
   pub change-cases : Legal p → Passes (changeChecks p id level bytes) → Cases
-  unfolding changeStep
   change-cases h passed =
-      let removes : removal ≡ removeStep p id = checked-step p (removeChecks p id) (removeStep p id) (change-removes p id level bytes passed) in
-      rw (removes, checked-step p (changeChecks p id level bytes) (changeStep p id level (coveredIn bytes) (outputsIn bytes)) passed) (go (removeStep p id) (removed-without p id))
+      rw (
+        checked-step p (removeChecks p id) (removeStep p id) (change-removes p id level bytes passed),
+        checked-step p (changeChecks p id level bytes) (changeStep p id level (coveredIn bytes) (outputsIn bytes)) passed,
+      )
+      (change-either Case p id level bytes (λ r e. inl (r, e, refl))
+      (λ r w. inr (r, w, rw (checked-step q (addChecks q id level bytes) (addStep q id level (coveredIn bytes) (outputsIn bytes)) (adds w)) (enter-alike p q q id (newLink level bytes)))))
     where
-      l : Link
-      l = newLink level bytes
+      q : Panel
+      q = removeStep p id .panel
 
-      go : (a : Answer) → Keeps (Without p id) p a
-          → ((isRefusal (a .reply) ≡ true) × (a .panel ≡ p) × (pick (isRefusal (a .reply)) a (enterStep p (a .panel) id l) ≡ a))
-          ⊎ ((isRefusal (a .reply) ≡ false) × Without p id (a .panel) × Alike p (a .panel) (pick (isRefusal (a .reply)) a (enterStep p (a .panel) id l)) (performed (a .panel) (adding id level bytes)))
-      go a (inl (r, e)) = inl (r, e, rw r refl)
-      go a (inr (r, w)) =
-          let adds : Passes (addChecks (a .panel) id level bytes) =
-          change-adds p id level bytes passed (a .panel) (w .size) (without-unused w h (changeable p id level bytes passed .number)) in
-          inr (
-            r,
-            w,
-            rw (r, checked-step (a .panel) (addChecks (a .panel) id level bytes) (addStep (a .panel) id level (coveredIn bytes) (outputsIn bytes)) adds)
-                (enter-alike p (a .panel) (a .panel) id l),
-          )
+      adds : Without p id q → Passes (addChecks q id level bytes)
+      adds w = change-adds p id level bytes passed q (w .size) (without-unused w h (changeable p id level bytes passed .number))
+
+      Case : Answer → Type 0
+      Case a =
+          ((isRefusal (removeStep p id .reply) ≡ true) × (q ≡ p) × (a ≡ removeStep p id))
+          ⊎ ((isRefusal (removeStep p id .reply) ≡ false) × Without p id q × Alike p q a (performed q (adding id level bytes)))

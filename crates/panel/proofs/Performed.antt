@@ -1,6 +1,7 @@
 -- Every command leaves a legal panel legal: a refusal leaves it as it is; a step makes a change that is legal (`Changes`), and then reverses a path
 -- without a loop (`legal-reversed`) or is refused. What such a change has and every reversal keeps holds after the command (`kept-performed`): so an
--- open panel keeps its number of fields (`performed-size`).
+-- open panel keeps its number of fields (`performed-size`). The step of a change is its removal's, or that of entering the link in what the removal
+-- leaves (`change-either`).
 use Prim.Native.Nat.{ℕ, _<_}
 use mathlib.Core.Path.{_≡_, refl, ap, _∙_}
 use mathlib.Core.Bool.{Bool, true, false}
@@ -182,14 +183,30 @@ module _ {p q : Panel} {id : ℕ} (w : Without p id q) (h : Legal p) (small : id
   without-enters level bytes f =
       record { number = small; free = unused-off _ without-unused; formed = rw (w .size) f; used = refl; rests = refl }
 
-pub legal-change-step : (p : Panel) (id level : ℕ) (bytes : List ℕ) → Legal p → id < 128 → Formed (p .size) (newLink level bytes)
+-- ---- a change
+
+-- its step is the removal's where that is refused, else that of entering the link in the panel which the removal leaves
+module _ (P : Answer → Type 0) (p : Panel) (id level : ℕ) (bytes : List ℕ) where
+  abbrev Refuses : Answer → Type 0
+  Refuses a = isRefusal (a .reply) ≡ true → a .panel ≡ p → P a
+
+  abbrev Goes : Answer → Type 0
+  Goes a = isRefusal (a .reply) ≡ false → Without p id (a .panel) → P (enterStep p (a .panel) id (newLink level bytes))
+
+  pub change-either : Refuses (removeStep p id) → Goes (removeStep p id) → P (changeStep p id level (coveredIn bytes) (outputsIn bytes))
+  unfolding changeStep
+  change-either = go (removeStep p id) (removed-without p id)
+    where
+      go : (a : Answer) → Keeps (Without p id) p a → Refuses a → Goes a → P (pick (isRefusal (a .reply)) a (enterStep p (a .panel) id (newLink level bytes)))
+      go a (inl (r, e)) f g = rw r (f r e)
+      go a (inr (r, w)) f g = rw r (g r w)
+
+legal-change-step : (p : Panel) (id level : ℕ) (bytes : List ℕ) → Legal p → id < 128 → Formed (p .size) (newLink level bytes)
     → Legal (changeStep p id level (coveredIn bytes) (outputsIn bytes) .panel)
-unfolding changeStep
-legal-change-step p id level bytes h small f = go (removeStep p id) (legal-remove-step p id h small) (removed-without p id)
-  where
-    go : (a : Answer) → Legal (a .panel) → Keeps (Without p id) p a → Legal (pick (isRefusal (a .reply)) a (enterStep p (a .panel) id (newLink level bytes)) .panel)
-    go a k (inl (r, e)) = rw r k
-    go a k (inr (r, w)) = rw r (legal-enter-step p (a .panel) id (newLink level bytes) h k (without-enters w h small level bytes f))
+legal-change-step p id level bytes h small f =
+    let k = legal-remove-step p id h small in
+    change-either (λ a. Legal (a .panel)) p id level bytes (λ r e. k)
+    (λ r w. legal-enter-step p (removeStep p id .panel) id (newLink level bytes) h k (without-enters w h small level bytes f))
 
 -- ---- the commands
 
@@ -225,12 +242,9 @@ AfterChange P p (changing id level bytes) =
 module _ (P : Panel → Type 0) (turns : (q : Panel) (c : Item) (vs : List ℕ) → P q → P (reversed q c vs)) (p : Panel) where
   kept-change : (id level : ℕ) (bytes : List ℕ) → ((q : Panel) → Without p id q → P (withLink q id (newLink level bytes)))
       → Keeps P p (changeStep p id level (coveredIn bytes) (outputsIn bytes))
-  unfolding changeStep
-  kept-change id level bytes k = go (removeStep p id) (removed-without p id)
-    where
-      go : (a : Answer) → Keeps (Without p id) p a → Keeps P p (pick (isRefusal (a .reply)) a (enterStep p (a .panel) id (newLink level bytes)))
-      go a (inl (r, e)) = rw r (inl (r, e))
-      go a (inr (r, w)) = rw r (kept-enter P turns p (a .panel) id (newLink level bytes) (k (a .panel) w))
+  kept-change id level bytes k =
+      let q : Panel = removeStep p id .panel in
+      change-either (Keeps P p) p id level bytes (λ r e. inl (r, e)) (λ r w. kept-enter P turns p q id (newLink level bytes) (k q w))
 
   pub kept-performed : (c : Command) → AfterChange P p c → Keeps P p (performed p c)
   unfolding removeStep planStep

@@ -1,6 +1,6 @@
 -- `deciding::changed` meets its contract: a line that asks no change leaves all as it was (`unasked`); the field bytes of a change are the frame's bytes from the
 -- fourth on (`tail-whole`).
-use mathlib.Core.Path.{_≡_, refl, sym, ap, _∙_}
+use mathlib.Core.Path.{refl, sym, ap}
 use mathlib.Core.Logic.{inr}
 use Prim.Native.Nat.{_≤_}
 use native.Mathlib.Omega.{arith}

@@ -1,12 +1,10 @@
 -- `deciding::covered_by` meets its contract: the frame's bytes from the fourth on are its tail (`tail-whole`).
-use mathlib.Core.Path.{_≡_, sym, ap, _∙_}
+use mathlib.Core.Path.{sym, ap, _∙_}
 use Prim.Native.Nat.{_≤_}
-use mathlib.Core.List.{List}
 use native.Mathlib.Omega.{arith}
 use borrow.Author.Needs.{needs}
 use lib.ListN.{length, take, length-take}
 use lib.Seq.{length-take-le}
-use Prim.Native.Nat.{ℕ}
 use Rattle.panel.specs.Commands.{coveredIn}
 use Rattle.deciding.proofs.Arms.{tail-whole}
 use Rattle.deciding.proofs.covered_by.Statement.{statement}

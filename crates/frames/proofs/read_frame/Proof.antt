@@ -5,7 +5,7 @@ use borrow.Author.Needs.{needs}
 use borrow.Author.Tests.{not-true, not-false}
 use mathlib.Core.Path.{_≡_, refl, sym, ap, _∙_}
 use mathlib.Core.Bool.{true, false, _&&_}
-use mathlib.Core.Logic.{⊎-elim}
+use mathlib.Core.Logic.{inl, inr, ⊎-elim}
 use mathlib.Core.List.{_∷_}
 use lib.Dec.{eqb}
 use lib.ListN.{take, drop}
@@ -14,7 +14,7 @@ use Prim.Native.Nat.{ℕ, _≤_}
 use native.Mathlib.Omega.{arith}
 use Rattle.fieldset.specs.Tables.{at}
 use Rattle.frames.specs.Frames.{fitsKind, hasFields, checkedFrame}
-use Rattle.frames.proofs.Reading.{fits-other, fits-short, fits-at, long-add, long-change, long-value, long-formula, unfit-read, bit6-read, exact-read, long-read}
+use Rattle.frames.proofs.Reading.{fits-other, fits-short, fits-at, long-link, long-value, long-formula, unfit-read, bit6-read, exact-read, long-read}
 use Rattle.frames.proofs.read_frame.Statement.{statement}
 use Rattle.frames.proofs.read_frame.Tie as tie
 
@@ -83,7 +83,7 @@ unfolding fitsKind
 returns-3 c = exactly (c .before .before) 0x01 (c .before .match .keys1) 2 refl
 
 returns-4 : tie.Need-returns-4
-returns-4 c = let k = c .before .before in further (k .before) 0x02 (k .match .keys2) long-add
+returns-4 c = let k = c .before .before in further (k .before) 0x02 (k .match .keys2) (long-link 0x02 (inl refl))
 
 returns-5 : tie.Need-returns-5
 unfolding fitsKind
@@ -98,7 +98,7 @@ unfolding fitsKind
 returns-7 c = exactly (c .before) 0x05 (c .match .keys5) 1 refl
 
 returns-8 : tie.Need-returns-8
-returns-8 c = let k = c .before .before in further (k .before) 0x06 (k .match .keys6) long-change
+returns-8 c = let k = c .before .before in further (k .before) 0x06 (k .match .keys6) (long-link 0x06 (inr refl))
 
 returns-9 : tie.Need-returns-9
 returns-9 c = let k = c .before .before in further (k .before) 0x07 (k .match .keys7) long-value

@@ -2,7 +2,7 @@
 -- (`remove-waiting`). For one that holds a field (`holds`) it is settled what is to be done without it: a loop refuses the removal (`remove-looped`),
 -- else the step is the command's (`remove-reversed`).
 use Prim.Native.Nat.{_<_}
-use mathlib.Core.Path.{_≡_, refl, sym, ap, _∙_, subst}
+use mathlib.Core.Path.{_≡_, sym, ap, _∙_, subst}
 use native.Mathlib.Omega.{arith}
 use borrow.Author.Needs.{needs}
 use Rattle.panel.specs.declared.Standing.the-variants.{Waiting, Holding}

@@ -1,7 +1,7 @@
 //! The frame of kind 06, "with the body of frame 02": its lengths, bit 6, and the
 //! order of its checks.
 
-use super::super::{push, Lines};
+use super::super::{checks_before_opening, order_of_checks, push, Lines};
 use super::Worked;
 use crate::plain::hex;
 
@@ -10,8 +10,8 @@ pub fn all() -> Vec<Worked> {
     vec![
         lengths(true),
         lengths(false),
-        order_of_checks(),
-        checks_before_opening(),
+        order_of_checks("order of checks of a change", &LINKS, &CHECKS),
+        checks_before_opening("checks of a change before the opening", &CHECKS, &OPENED),
         every_byte(),
         every_field_byte_on_eight_fields(),
     ]
@@ -100,23 +100,8 @@ const CHECKS: [(&str, &str); 38] = [
     ("067F0F87", "0000"),
 ];
 
-fn order_of_checks() -> Worked {
-    let mut lines = Lines::new();
-    push(&mut lines, &LINKS);
-    push(&mut lines, &CHECKS);
-    Worked::of_lines("order of checks of a change", &lines)
-}
-
-/// NotOpen comes after BadFrame and before all others.
-fn checks_before_opening() -> Worked {
-    let mut lines = Lines::new();
-    for (line, reply) in CHECKS {
-        let reply = if reply == "FF02" { reply } else { "FF04" };
-        push(&mut lines, &[(line, reply)]);
-    }
-    push(&mut lines, &[("0101", "0000"), ("06000080", "FF09")]);
-    Worked::of_lines("checks of a change before the opening", &lines)
-}
+/// A panel that the lines before its opening left as new.
+const OPENED: [(&str, &str); 2] = [("0101", "0000"), ("06000080", "FF09")];
 
 /// Every byte as the number, as the level and as a field byte, on a panel of 64 fields
 /// in which link 7 (level 5) sets 8. At every level it takes 8 again; each field byte

@@ -1,7 +1,7 @@
 //! The frames of kinds 07 and 08: their lengths, the formula kinds, and the order
 //! of their checks.
 
-use super::super::push;
+use super::super::{checks_before_opening, order_of_checks, push};
 use super::{Lines, Worked};
 use crate::plain::hex;
 
@@ -10,8 +10,8 @@ pub fn all() -> Vec<Worked> {
     vec![
         lengths(true),
         lengths(false),
-        order_of_checks(),
-        checks_before_opening(),
+        order_of_checks("order of checks", &LINKS, &CHECKS),
+        checks_before_opening("checks before the opening", &CHECKS, &OPENED),
         every_byte(),
     ]
 }
@@ -112,23 +112,8 @@ const CHECKS: [(&str, &str); 44] = [
     ("07FFFFFFFFFF", "FF07"),
 ];
 
-fn order_of_checks() -> Worked {
-    let mut lines = Lines::new();
-    push(&mut lines, &LINKS);
-    push(&mut lines, &CHECKS);
-    Worked::of_lines("order of checks", &lines)
-}
-
-/// NotOpen comes after BadFrame and before all others.
-fn checks_before_opening() -> Worked {
-    let mut lines = Lines::new();
-    for (line, reply) in CHECKS {
-        let reply = if reply == "FF02" { reply } else { "FF04" };
-        push(&mut lines, &[(line, reply)]);
-    }
-    push(&mut lines, &[("0101", "0000"), ("070000000000", "0000")]);
-    Worked::of_lines("checks before the opening", &lines)
-}
+/// A panel that the lines before its opening left as new.
+const OPENED: [(&str, &str); 2] = [("0101", "0000"), ("070000000000", "0000")];
 
 /// Every byte as the field of kind 07, as the link number of kind 08 and as the
 /// field of a sum, on a panel of 64 fields in which link 7 covers 8 and 9.
