@@ -271,10 +271,7 @@ changed-requires c κs =
 abbrev met-again : tie.At-match3-came Inv-loop μ-loop → tie.At-match-came Inv-loop μ-loop
 met-again c = joined (c .before)
 
--- the command is a change, or another
-asks : (c : tie.After-enum-told Inv-loop μ-loop) → command-of (joined (c .before .before) .before) ≡ Change (c .enum-told .given .0 .0) (c .enum-told .given .0 .1 .0)
-asks c = sym (same-command (joined (c .before .before))) ∙ c .enum-told .given .1
-
+-- the command is no change
 other : (c : tie.At-match3-keys2 Inv-loop μ-loop) → OneOf (0 ∷ 1 ∷ 2 ∷ 3 ∷ 4 ∷ 6 ∷ 7 ∷ 8 ∷ []) (tagOf the-type (command-of (joined (c .before) .before)))
 other c = subst (λ (x : Command). OneOf (0 ∷ 1 ∷ 2 ∷ 3 ∷ 4 ∷ 6 ∷ 7 ∷ 8 ∷ []) (tagOf the-type x)) (same-command (joined (c .before))) (c .match3 .keys2)
 
