@@ -180,7 +180,7 @@ decided-stepped p k named tail path rows step (Refused x) h g same d formulas va
 pub removed-step : (s : Sheet) (id : ℕ) (fields path rows : List ℕ) → length rows ≡ rowsLength → (step : Step) → Decides (s .panel) (id % 128) (removing id) path step
     → Stepped s (id % 128) (Remove id) fields path rows (s .values) step
 removed-step s id fields path rows full step d =
-    let l = solved-step s (id % 128) fields path rows full (Remove id) (removing id) step refl refl
+    let l = solved-step s (id % 128) fields path rows full (Remove id) (removing id) step refl (λ r. refl)
     (λ e. ap (λ (k : ℕ). withFormula (s .formulas) k None) (mod-eq-of-lt (removed-number (s .panel) id e))) d in
     record { takes = l .takes; rest = l .replied; rows-full = full }
 

@@ -9,6 +9,8 @@ use Rattle.fieldset.specs.Fields.{setOf}
 use Rattle.panel.specs.declared.Panel.{Panel}
 use Rattle.panel.specs.Answers.{isRefusal, replyBytes}
 use Rattle.panel.specs.Commands.{checkReply, changeChecks, changing, performed}
+use Rattle.panel.specs.Moved.{turned}
+use Rattle.panel.specs.Outcomes.{counted, redrawnBy}
 use Rattle.tables.specs.Tables.{Tabled}
 use Rattle.removing.specs.Scans.{scanCount}
 use Rattle.changing.specs.declared.Changed.{Changed}
@@ -21,9 +23,11 @@ changedFields before after = setOf (λ f. not (eqb (at before f) (at after f))) 
 unfoldable pub changeCount : ℕ → Panel → ℕ → ℕ → List ℕ → ℕ
 changeCount before p id level bytes = cond (isRefusal (checkReply (changeChecks p id level bytes))) before (scanCount before p id)
 
--- a link was changed: the panel and the reply are the command's, the tables are that panel's own, and its scan was counted
+-- a link was changed: the panel, and the reply with the count of what is redrawn, are the command's, the tables are that panel's own, and its scan was
+-- counted
 pub record Changes (p : Panel) (id level : ℕ) (bytes levels others reads : List ℕ) (before worked : ℕ) (r : Changed) : Type 0 where
   pub panel : r .panel ≡ performed p (changing id level bytes) .panel
-  pub reply : replyBytes (r .reply) ≡ performed p (changing id level bytes) .reply
+  pub changed : r .changed ≡ turned p (r .panel)
+  pub reply : replyBytes (counted (r .reply) (redrawnBy (r .changed) 0 (r .panel))) ≡ performed p (changing id level bytes) .reply
   pub tabled : Tabled (r .panel) levels others reads
   pub scan : worked ≡ changeCount before p id level bytes

@@ -15,7 +15,6 @@ use panel::Step;
 use panel::no_link;
 use removing::settle;
 use reversal::Verdict;
-use reversal::count_of;
 use reversal::resolve;
 use reversal::step_of;
 use taking::reverse;
@@ -53,19 +52,21 @@ fn path_step(verdict: Verdict, n: usize, place: &[u8; 64], c: u8) -> Step
     step_of(verdict, n, place, no_link(), Standing::Waiting, c)
 }
 
-// A panel, and the reply to what was to be done with it.
+// A panel, the reply to what was to be done with it, and the fields that got another setter; the count of the reply is 0.
 pub struct Changed {
     pub panel: Panel,
     pub reply: Reply,
+    pub changed: u64,
 }
 
 // The panel as it is, with a reply.
 fn kept(p: Panel, reply: Reply) -> Changed
-    ensures { λ r. ⌜ r ≡ record { panel = p; reply = reply } ⌝ }
+    ensures { λ r. ⌜ r ≡ record { panel = p; reply = reply; changed = 0 } ⌝ }
 {
     Changed {
         panel: p,
         reply: reply,
+        changed: 0,
     }
 }
 
@@ -142,9 +143,10 @@ pub fn change(
     *others = outs;
     *reads = reading;
     let after = q.setter;
-    let moved = count_of(changed_fields(&before, &after));
+    let changed = changed_fields(&before, &after);
     Changed {
         panel: q,
-        reply: Reply::Accepted(moved),
+        reply: Reply::Accepted(0),
+        changed: changed,
     }
 }

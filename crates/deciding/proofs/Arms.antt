@@ -22,8 +22,9 @@ use Rattle.panel.specs.Items.{linkAt}
 use Rattle.panel.specs.Answers.{replyBytes, planRest, rowsLength, isRefusal}
 use Rattle.panel.specs.Commands as panel
 use Rattle.panel.specs.Commands.{touching, planning, checkReply}
-use Rattle.panel.specs.Outcomes.{unchanged, Takes, Decides, Plans}
+use Rattle.panel.specs.Outcomes.{unchanged, Takes, counted, redrawnBy, stepReply, Decides, Plans}
 use Rattle.panel.proofs.Outcomes.{takes-size}
+use Rattle.panel.proofs.Moved.{counted-still}
 use Rattle.planning.proofs.Replies.{plan-keeps}
 use Rattle.changing.specs.declared.Changed.{Changed}
 use Rattle.formulas.specs.declared.Formula.{Formula}
@@ -145,22 +146,34 @@ module _ (s : Sheet) (k : ℕ) (tail path rows : List ℕ) where
       }
 
   pub solved-step : length rows ≡ rowsLength → (command : Command) (c : panel.Command) (step : Step)
-      → commandAnswer s command tail ≡ answerTo (performed s (solving c)) → restOf command (step .reply) ≡ 0
+      → commandAnswer s command tail ≡ answerTo (performed s (solving c)) → ((r : Reply) → restOf command r ≡ 0)
       → (isRefusal (panel.performed (s .panel) c .reply) ≡ false
       → withFormula (s .formulas) k (formulaGiven command tail (linkAt (s .panel .links) k .covered) (formulaAt (s .formulas) k)) ≡ formulasAfter s c)
       → Decides (s .panel) k c path step → LineStep s k command tail path rows (s .values) step
   solved-step full command c step e z given d = record {
     takes = subst (λ (a : Answered Sheet). Takes (s .panel) k path step (a .state .panel)) (sym e) (d .takes);
-    replied = solved-replied command c (step .reply) e z given (d .reply);
+    replied =
+        solved-replied command c (stepReply step (commandAnswer s command tail .state .panel)) e (z _) given
+        (ap (λ (a : Answered Sheet). replyBytes (stepReply step (a .state .panel))) e ∙ d .reply);
     rows-full = full;
   }
+
+  -- where nothing is redrawn
+  still : (command : Command) (r : Reply) → AnswerRest s k command tail rows (s .values) r
+      → AnswerRest s k command tail rows (s .values) (counted r (redrawnBy 0 0 (commandAnswer s command tail .state .panel)))
+  still command r a = subst (AnswerRest s k command tail rows (s .values)) (sym (counted-still r (commandAnswer s command tail .state .panel))) a
 
   module _ (long : length path ≡ 64) (named : Link) (same : named ≡ linkAt (s .panel .links) k) where
     pub refused-step : length rows ≡ rowsLength → (x : Refusal)
         → LineStep s k (Refused x) tail path rows (s .values) (unchanged (s .panel .size) (s .panel .place) named (Refusing x))
     refused-step full x = record {
       takes = takes-size (s .panel) k named (Refusing x) same path long (s .panel .size) (s .panel) refl;
-      replied = record { formulas = formula-kept (s .formulas) k; values = refl; reply = append-nil (replyBytes (Refusing x)); rest = omega arith };
+      replied = still (Refused x) (Refusing x) (record {
+        formulas = formula-kept (s .formulas) k;
+        values = refl;
+        reply = append-nil (replyBytes (Refusing x));
+        rest = omega arith;
+      });
       rows-full = full;
     }
 
@@ -172,7 +185,7 @@ module _ (s : Sheet) (k : ℕ) (tail path rows : List ℕ) where
         let reply : List ℕ = checkReply (formulaChecks (s .panel) id formula) in
         record {
           takes = takes-size (s .panel) k named r same path long (s .panel .size) (s .panel) refl;
-          replied = record {
+          replied = still (Relate id form) r (record {
             formulas =
                 ap (λ (b : List ℕ). withFormula (s .formulas) k (cond (isRefusal b) (formulaAt (s .formulas) k) formula)) told
                 ∙ formula-after (s .formulas) k formula (withFormula (s .formulas) id formula) (isRefusal reply)
@@ -181,7 +194,7 @@ module _ (s : Sheet) (k : ℕ) (tail path rows : List ℕ) where
             values = refl;
             reply = append-nil (replyBytes r) ∙ told;
             rest = omega arith;
-          };
+          });
           rows-full = full;
         }
 
@@ -192,7 +205,7 @@ module _ (s : Sheet) (k : ℕ) (tail path rows : List ℕ) where
         let fits : 0 + length (drop 2 whole) ≤ length before = omega (arith, g .length-rows, g .few) in
         record {
           takes = takes-size (s .panel) k named r same path long (s .panel .size) (panel.performed (s .panel) planning .panel) (sym (plan-keeps (s .panel)));
-          replied = record {
+          replied = still Plan r (record {
             formulas = either (isRefusal (replyBytes r)) (isRefusal whole);
             values = refl;
             reply =
@@ -200,7 +213,7 @@ module _ (s : Sheet) (k : ℕ) (tail path rows : List ℕ) where
                 (ap (take (planRest r)) (g .rows ∙ sets-eq (drop 2 whole) before 0 fits) ∙ take-at (drop 2 whole) (drop (0 + length (drop 2 whole)) before) (planRest r) (g .length-rows))
                 ∙ take-append-drop 2 whole;
             rest = g .few;
-          };
+          });
           rows-full = ap length (g .rows) ∙ simp length-sets size;
         }
       where
@@ -230,7 +243,7 @@ touched-step p k named tail path rows s (Open n) h full d = absurd (not-among 0 
 touched-step p k named tail path rows s (Add id level) h full d = absurd (not-among 1 (3 ∷ 6 ∷ []) refl h)
 touched-step p k named tail path rows s (Remove id) h full d = absurd (not-among 2 (3 ∷ 6 ∷ []) refl h)
 touched-step p k named tail path rows s (Touch f) h full d =
-    λ formulas values. solved-step (sheetOf p formulas values) k tail path rows full (Touch f) (touching f) s refl refl (λ a. formula-kept formulas k) d
+    λ formulas values. solved-step (sheetOf p formulas values) k tail path rows full (Touch f) (touching f) s refl (λ r. refl) (λ a. formula-kept formulas k) d
 touched-step p k named tail path rows s Plan h full d = absurd (not-among 4 (3 ∷ 6 ∷ []) refl h)
 touched-step p k named tail path rows s (Change id level) h full d = absurd (not-among 5 (3 ∷ 6 ∷ []) refl h)
 touched-step p k named tail path rows s (Enter f b) h full d = record { decides = d; rows-full = full }

@@ -15,7 +15,7 @@ use Rattle.panel.specs.declared.Step.{Step}
 use Rattle.panel.specs.Answers.{rowsLength, replyBytes, isRefusal}
 use Rattle.panel.specs.Items.{linkAt}
 use Rattle.panel.specs.Commands.{touching, coveredIn}
-use Rattle.panel.specs.Outcomes.{unchanged, Takes, Decides}
+use Rattle.panel.specs.Outcomes.{unchanged, Takes, stepReply, Decides}
 use Rattle.tables.specs.Tables.{Tabled}
 use Rattle.changing.specs.declared.Changed.{Changed}
 use Rattle.changing.specs.Changed.{Changes}
@@ -95,7 +95,7 @@ pub record AnswerRest (s : Sheet) (k : ℕ) (command : Command) (tail rows : Lis
 -- the step of the command: taken, it gives the panel of the answer, and its reply is the answer's
 pub record LineStep (s : Sheet) (k : ℕ) (command : Command) (tail path rows : List ℕ) (after : List ℤ) (step : Step) : Type 0 where
   pub takes : Takes (s .panel) k path step (commandAnswer s command tail .state .panel)
-  pub replied : AnswerRest s k command tail rows after (step .reply)
+  pub replied : AnswerRest s k command tail rows after (stepReply step (commandAnswer s command tail .state .panel))
   pub rows-full : length rows ≡ rowsLength
 
 -- whatever the formulas and values: no value changes
@@ -128,7 +128,7 @@ DecidedLine p k named tail path rows s (Refused r) = PanelStep p k (Refused r) t
 
 -- nothing was asked: the panel and its tables are as they were, and no scan was made; nobody reads the reply
 pub record Unasked (p : Panel) (levels others reads : List ℕ) (before worked : ℕ) (r : Changed) : Type 0 where
-  pub is : r ≡ record { panel = p; reply = Accepted 0 }
+  pub is : r ≡ record { panel = p; reply = Accepted 0; changed = 0 }
   pub tabled : Tabled p levels others reads
   pub scan : worked ≡ before
 

@@ -170,6 +170,7 @@ pub fn changed(
         return Changed {
             panel: p,
             reply: Reply::Accepted(0),
+            changed: 0,
         };
     };
     let named = p.links[wide(id % 128)];

@@ -4,13 +4,13 @@
 use Prim.Native.Nat.{ℕ, _<_}
 use mathlib.Core.Path.{_≡_, refl, sym, ap, ap₂, subst, _∙_}
 use mathlib.Core.Bool.{Bool, true, false}
-use mathlib.Core.List.{List}
+use mathlib.Core.List.{List, [], _∷_}
 use mathlib.Core.Logic.{inl, inr}
 use lib.Dec.{ltb}
 use lib.IntN.{ℤ}
 use lib.ListN.{set}
 use Rattle.fieldset.specs.Tables.{at}
-use Rattle.fieldset.specs.Fields.{member}
+use Rattle.fieldset.specs.Fields.{member, size}
 use Rattle.fieldset.proofs.Numbers.{clash}
 use Rattle.fieldset.proofs.Lists.{all-map}
 use Rattle.ordering.specs.Order.{order}
@@ -19,21 +19,25 @@ use Rattle.panel.specs.declared.Link.{Link}
 use Rattle.panel.specs.declared.Panel.{Panel}
 use Rattle.panel.specs.declared.Refusal.{Refusal}
 use Rattle.panel.specs.declared.Refusal.the-variants.{OutOfRange, FieldDriven}
+use Rattle.panel.specs.declared.Reply.{Reply}
 use Rattle.panel.specs.declared.Reply.the-variants.{Accepted, Refused}
 use Rattle.panel.specs.declared.Step.{Step}
 use Rattle.panel.specs.Items.{linkAt}
 use Rattle.panel.specs.Answers as answers
-use Rattle.panel.specs.Answers.{isRefusal, replyBytes}
+use Rattle.panel.specs.Answers.{refusalBytes, isRefusal, replyBytes}
+use Rattle.panel.specs.Moved as panels
 use Rattle.panel.specs.Solution.{setterReads, planOf, isLooped}
 use Rattle.panel.specs.Commands as panel
 use Rattle.panel.specs.Commands.{touching}
-use Rattle.panel.specs.Outcomes.{unchanged, Takes}
+use Rattle.panel.specs.Outcomes.{unchanged, taken, Takes, counted, redrawnBy, Decides}
 use Rattle.panel.specs.Legal.{Legal}
 use Rattle.panel.proofs.Outcomes.{takes-size}
+use Rattle.panel.proofs.Moved.{counted-none}
 use Rattle.panel.proofs.Performed.{Keeps, legal-performed}
 use Rattle.tables.specs.Tables.{Tabled}
 use Rattle.tables.proofs.Tables.{panel-among, panel-reads}
 use Rattle.taking.proofs.Taking.{Taken}
+use Rattle.values.specs.Changes.{revalued}
 use Rattle.formulas.specs.declared.Formulas.{Formulas}
 use Rattle.formulas.specs.Formulas.{formulaOf, Usable}
 use Rattle.evaluation.specs.Runs.{Run, run, Ready, Stored}
@@ -41,11 +45,11 @@ use Rattle.evaluation.proofs.Settled.{held-usable}
 use Rattle.evaluation.proofs.Planned.{run-cong}
 use Rattle.sheet.specs.declared.Sheet.{Sheet}
 use Rattle.sheet.specs.Sheets.{sheetOf, evaluated}
-use Rattle.sheet.specs.Commands.{Answer, isDriven, entering, refused, valued, entered, performed}
+use Rattle.sheet.specs.Commands.{Answer, isDriven, entering, refused, redrawn, renewed, valued, entered, performed}
 use Rattle.sheet.specs.Legal.{LegalSheet}
 use Rattle.sheet.proofs.Legal.{Touched, touched}
 use Rattle.sheet.proofs.Held.{setter-held}
-use Rattle.entering.specs.Entered.{SettersOf, Entered}
+use Rattle.entering.specs.Entered.{SettersOf, valuedStep, Entered}
 
 -- ---- the run over the tables of a panel
 
@@ -74,6 +78,20 @@ module _ {p : Panel} (h : Legal p) {levels others reads : List ℕ} (t : Tabled 
     usable = λ f l. rw (panel-reads p h levels others reads t f l) (usable f l);
   }
 
+-- ---- the steps of the touch and of the command
+
+-- the values that change make no difference to the panel after a step
+takes-valued : {p after : Panel} {k : ℕ} {path : List ℕ} {step : Step} → Takes p k path step after → (m : ℕ) → Takes p k path (valuedStep step m) after
+unfolding taken
+takes-valued t m = record {
+  panel = t .panel;
+  changed = t .changed;
+  still = t .still;
+  path-of = t .path-of;
+  freed-field = t .freed-field;
+  keeps = t .keeps;
+}
+
 -- ---- the setters after the touch
 
 pub setters-by : {after q : Panel} {levels others reads : List ℕ} → Taken after q levels others reads → SettersOf after (q .setter) reads
@@ -101,16 +119,20 @@ module _ (s : Sheet) (h : LegalSheet s) (f : ℕ) (v : ℤ) where
     values = ap (λ (a : Answer). a .sheet .values) (sym e);
   }
 
-  module _ (step : Step) (told : replyBytes (step .reply) ≡ gave .reply) where
+  module _ (step : Step) (way : List ℕ) (touches : Decides (s .panel) 0 (touching f) way step) where
+    abbrev shown : Reply → List ℕ
+    shown r = replyBytes (counted r (redrawnBy (step .changed) (step .revalued) (gave .panel)))
+
     pub enter-refused : (x : Refusal) → step .reply ≡ Refused x → Entered s f v step (s .values) step
     unfolding entered
     enter-refused x e =
-        let refusal : isRefusal (gave .reply) ≡ true = ap isRefusal (sym (ap replyBytes (sym e) ∙ told)) in
+        let told : 0xFF ∷ refusalBytes x ≡ gave .reply = ap shown (sym e) ∙ touches .reply in
+        let refusal : isRefusal (gave .reply) ≡ true = ap isRefusal (sym told) in
         let is : performed s (entering f v) ≡ record { sheet = s; reply = gave .reply } = rw refusal refl in
         record {
           takes = λ path d.
               subst (λ (q : Panel). Takes (s .panel) 0 path step q) (same refusal (touched s h f) ∙ ap (λ (a : Answer). a .sheet .panel) (sym is)) (d .takes);
-          reply = told ∙ ap (λ (a : Answer). a .reply) (sym is);
+          reply = rw e (told ∙ ap (λ (a : Answer). a .reply) (sym is));
           values = ap (λ (a : Answer). a .sheet .values) (sym is);
         }
       where
@@ -120,7 +142,7 @@ module _ (s : Sheet) (h : LegalSheet s) (f : ℕ) (v : ℤ) where
 
     module _ (m : ℕ) (ok : step .reply ≡ Accepted m) where
       accepts : isRefusal (gave .reply) ≡ false
-      accepts = ap isRefusal (sym (ap replyBytes (sym ok) ∙ told))
+      accepts = ap isRefusal (sym (ap shown (sym ok) ∙ touches .reply))
 
       pub kept : Touched s h f (gave .panel)
       kept = go (touched s h f)
@@ -161,7 +183,7 @@ module _ (s : Sheet) (h : LegalSheet s) (f : ℕ) (v : ℤ) where
               ap₂ (λ (l : List ℕ) (n : ℕ). run (formulaOf (s .formulas .of) l) (at reads) (order (at reads) n) (set (s .values) f v)) (t .sets) (sym (kept .size))
               ∙ table-run legal (t .tabled) (s .formulas) (set (s .values) f v)
 
-          answer : performed s (entering f v) ≡ valued s gave result
+          answer : performed s (entering f v) ≡ valued s (gave .panel) result
           unfolding entered
           answer = rw (accepts, driven-is ∙ free) refl
 
@@ -172,13 +194,22 @@ module _ (s : Sheet) (h : LegalSheet s) (f : ℕ) (v : ℤ) where
               subst (λ (w : List ℤ). Entered s f v step w (unchanged (s .panel .size) (s .panel .place) named (Refused OutOfRange))) (sym was)
               (left step named same OutOfRange (answer ∙ rw not-fits refl))
 
-          pub enter-done : fits ≡ true → Entered s f v step after step
-          enter-done e =
+          pub enter-done : fits ≡ true → (m : ℕ) → m ≡ revalued (s .panel .size) (s .values) after → Entered s f v step after (valuedStep step m)
+          unfolding redrawnBy redrawn panels.redrawn
+          enter-done e m changes =
               let all-fits : result .fits ≡ true = ap (λ (r : Run). r .fits) (sym ran) ∙ sym (st .answer) ∙ e in
-              let is : performed s (entering f v) ≡ record { sheet = sheetOf (gave .panel) (s .formulas) (result .values); reply = gave .reply } =
-              answer ∙ rw all-fits refl in
+              let t : Sheet = sheetOf (gave .panel) (s .formulas) (result .values) in
+              let is : performed s (entering f v) ≡ renewed s t = answer ∙ rw all-fits refl in
+              let new : after ≡ result .values = st .left ∙ rw (sym (st .answer) ∙ e) (ap (λ (r : Run). r .values) ran) in
+              let set : m ≡ revalued (gave .panel .size) (s .values) (result .values) =
+              changes ∙ ap₂ (λ (n : ℕ) (w : List ℤ). revalued n (s .values) w) (sym (kept .size)) new in
               record {
-                takes = λ path d. subst (λ (p : Panel). Takes (s .panel) 0 path step p) (ap (λ (a : Answer). a .sheet .panel) (sym is)) (d .takes);
-                reply = told ∙ ap (λ (a : Answer). a .reply) (sym is);
-                values = st .left ∙ rw (sym (st .answer) ∙ e) (ap (λ (r : Run). r .values) ran) ∙ ap (λ (a : Answer). a .sheet .values) (sym is);
+                takes = λ path d. subst (λ (p : Panel). Takes (s .panel) 0 path (valuedStep step m) p) (ap (λ (a : Answer). a .sheet .panel) (sym is)) (takes-valued (d .takes) m);
+                reply =
+                    counted-none _
+                    ∙ ap (λ (x : ℕ). 0x00 ∷ size x ∷ [])
+                    (ap (λ (a : Answer). redrawnBy (step .changed) m (a .sheet .panel)) is
+                    ∙ ap₂ (λ (c : ℕ) (m : ℕ). redrawnBy c m (gave .panel)) (touches .takes .changed) set)
+                    ∙ ap (λ (a : Answer). a .reply) (sym is);
+                values = new ∙ ap (λ (a : Answer). a .sheet .values) (sym is);
               }

@@ -11,16 +11,18 @@ use panel::Step;
 use panel::unchanged;
 use tables::stay_levels;
 use taking::reverse;
+use values::revalued;
 ghost use mathlib.Core.Path.{_≡_};
+ghost use mathlib.Core.List.{List};
+ghost use Prim.Native.Nat.{ℕ};
 ghost use Rattle.panel.specs.Items.{linkAt};
-ghost use Rattle.panel.specs.Answers.{replyBytes};
 ghost use Rattle.panel.specs.Commands.{touching, performed};
-ghost use Rattle.panel.specs.Outcomes.{taken, Takes};
+ghost use Rattle.panel.specs.Outcomes.{taken, Takes, Decides};
 ghost use Rattle.panel.specs.Legal.{Legal};
 ghost use Rattle.tables.specs.Tables.{Tabled};
 ghost use Rattle.sheet.specs.Legal.{LegalSheet};
 ghost use Rattle.sheet.specs.Sheets.{sheetOf};
-ghost use Rattle.entering.specs.Entered.{SettersOf, Entered};
+ghost use Rattle.entering.specs.Entered.{SettersOf, valuedStep, Entered};
 
 // The setters of the panel after a touch's step, and in a buffer the table of the fields that they read. The contract rules out, for instance, the
 // setters from before the step (must-fail: plan_before_the_touch).
@@ -56,9 +58,29 @@ pub fn setters(
     setter
 }
 
+// The step of a touch with the fields that get another value.
+fn valued(step: Step, set: u64) -> Step
+    ensures { λ r. ⌜ r ≡ valuedStep step set ⌝ }
+{
+    let place = step.place;
+    let link = step.link;
+    let freed = step.freed;
+    Step {
+        reply: Reply::Accepted(0),
+        size: step.size,
+        place: place,
+        link: link,
+        freed: freed,
+        setter: step.setter,
+        count: step.count,
+        changed: step.changed,
+        revalued: set,
+    }
+}
+
 // Decides on entering a value in a field, from the step of its touch, the setters after it and the fields that they read: where the touch is accepted,
-// the value is stored and the whole plan is run. Where nothing refuses, the step is the touch's and the values are those of the run; else both leave all
-// as it was. The contract rules out, for instance, a field that a link still sets told as outside the limits and a touch that a refusal leaves
+// the value is stored and the whole plan is run. Where nothing refuses, the step is the touch's, with the fields whose value changed, and the values are
+// those of the run; else both leave all as it was. The contract rules out, for instance, a field that a link still sets told as outside the limits and a touch that a refusal leaves
 // (must-fail: setter_told_as_limits, refusal_keeps_the_touch).
 pub fn enter(
     p: Panel,
@@ -72,7 +94,7 @@ pub fn enter(
     values: &mut [i32; 64],
 ) -> Step
     requires { ⌜ LegalSheet (sheetOf p formulas (now values)) × (named ≡ linkAt (p .links) 0) ⌝ }
-    requires { ⌜ (replyBytes (step .reply) ≡ performed p (touching f) .reply) × SettersOf (performed p (touching f) .panel) (now setter) (now reads) ⌝ }
+    requires { ⌜ ((path : List ℕ) × Decides p 0 (touching f) path step) × SettersOf (performed p (touching f) .panel) (now setter) (now reads) ⌝ }
     ensures { λ r. ⌜ Entered (sheetOf p formulas (now (values .entry))) f value step (now (values .exit)) r ⌝ }
 {
     let reply = step.reply;
@@ -85,8 +107,9 @@ pub fn enter(
     if setter[v] < STAY {
         return unchanged(n, &order, named, Reply::Refused(Refusal::FieldDriven));
     }
+    let before = *values;
     if !store(n, setter, reads, formulas, v, value, values) {
         return unchanged(n, &order, named, Reply::Refused(Refusal::OutOfRange));
     }
-    step
+    valued(step, revalued(&before, values, n))
 }

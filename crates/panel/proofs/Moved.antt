@@ -1,26 +1,35 @@
 -- Which fields get another setter when a path is reversed, and how many moved. A field off the path keeps its setter; one on it gets the setter of
--- the field before it, which is another one, since no item sets two fields. The moved count is the size of that set.
-use Prim.Native.Nat.{ℕ, zero, suc, _≤_, _<_}
+-- the field before it, which is another one, since no item sets two fields. These fields, with all that lies downstream of them, are those that a step
+-- has redrawn (`redrawn-by`); the moved count is their number.
+use Prim.Native.Nat.{ℕ, _^_, _≤_, _<_}
 use mathlib.Core.Path.{_≡_, refl, sym, ap, _∙_}
-use mathlib.Core.Bool.{Bool, true, false, not}
+use mathlib.Core.Bool.{Bool, true, false, not, _||_, cond, or-false}
 use mathlib.Core.List.{List, [], _∷_}
 use mathlib.Core.Logic.{_≢_, inl, inr}
 use native.Mathlib.Decide.{ℕ-discrete, decLt}
+use native.Mathlib.Nat.{lt-of-lt-of-le}
 use native.Mathlib.Omega.{arith}
 use borrow.Author.Tests.{eq-eqb, ne-eqb, eqb-true, eqb-false}
 use lib.Dec.{eqb}
+use lib.Pow.{pow-mono}
 use lib.Seq.{getD-set-other}
-use Rattle.fieldset.specs.Numbers.{count}
 use Rattle.fieldset.specs.Tables.{at}
 use Rattle.fieldset.specs.Lists.{In, All, Distinct}
-use Rattle.fieldset.specs.Fields.{member, size}
-use Rattle.fieldset.proofs.Numbers.{clash, count-cong}
+use Rattle.fieldset.specs.Fields.{member, setOf, union, size}
+use Rattle.fieldset.proofs.Numbers.{clash}
+use Rattle.fieldset.proofs.Fields.{setOf-lt, ext-member, member-high, member-setOf-lt, member-empty, empty-of-none, union-lt, member-union, size-empty}
 use Rattle.fieldset.proofs.Lists.{all-in}
+use Rattle.downstream.proofs.Spreading.{spread-lt, spread-nothing}
 use Rattle.panel.specs.declared.Panel.{Panel}
 use Rattle.panel.specs.Items.{Item, itemOf, setterOf, outputsOf}
-use Rattle.panel.specs.Panels.{holding, moved}
-use Rattle.panel.specs.Solution.{reversed}
+use Rattle.panel.specs.declared.Reply.{Reply}
+use Rattle.panel.specs.declared.Reply.the-variants.{Accepted, Refused}
+use Rattle.panel.specs.Answers.{replyBytes}
+use Rattle.panel.specs.Panels.{holding}
+use Rattle.panel.specs.Solution.{setterReads, reversed}
+use Rattle.panel.specs.Moved.{turned, redrawn}
 use Rattle.panel.specs.Commands.{anyOf}
+use Rattle.panel.specs.Outcomes.{counted, redrawnBy}
 use Rattle.panel.proofs.Reversed.{put, put-here, put-there, reversedSetters, Off, numberOf, holding-setter, waiting-setter}
 use Rattle.panel.proofs.Legal.{Carrying}
 use Rattle.panel.proofs.Setters.{setter-single}
@@ -108,19 +117,54 @@ reversed-changes q c vs h route f = go (anyOf (eqb f) vs) refl
 
 -- ---- the moved count
 
-count-beyond : (t : ℕ → Bool) (n m : ℕ) → n ≤ m → ((i : ℕ) → n ≤ i → i < m → t i ≡ false) → count t m ≡ count t n
-unfolding count
-count-beyond t n zero l none = let e : 0 ≡ n = omega arith in ap (count t) e
-count-beyond t n (suc m) l none = go (decLt m n) (count-beyond t n m)
+-- the fields that get another setter, from a set of 64
+pub turned-is : (p q : Panel) (m : ℕ) → q .size ≤ 64 → m < 2 ^ 64 → ((f : ℕ) → f < 64 → member m f ≡ not (eqb (at (p .setter) f) (at (q .setter) f)))
+    → ((f : ℕ) → q .size ≤ f → f < 64 → at (p .setter) f ≡ at (q .setter) f) → m ≡ turned p q
+unfolding turned
+turned-is p q m few small is past = ext-member 64 m _ small (lt-of-lt-of-le (setOf-lt _ (q .size)) (pow-mono few)) (λ f l. is f l ∙ go f l (decLt f (q .size)))
   where
-    go : Dec (m < n) → (n ≤ m → ((i : ℕ) → n ≤ i → i < m → t i ≡ false) → count t m ≡ count t n) → count t (suc m) ≡ count t n
-    go (yes k) ih = let e : suc m ≡ n = omega arith in ap (count t) e
-    go (no k) ih = rw (none m (omega arith) (omega arith)) (ih (omega arith) (λ i a b. none i a (omega arith)))
+    other : ℕ → Bool
+    other f = not (eqb (at (p .setter) f) (at (q .setter) f))
 
--- as many moved as the set of fields that get another setter has
-pub moved-size : (p q : Panel) (m : ℕ) → q .size ≤ 64 → ((f : ℕ) → f < 64 → member m f ≡ not (eqb (at (p .setter) f) (at (q .setter) f)))
-    → ((f : ℕ) → q .size ≤ f → f < 64 → at (p .setter) f ≡ at (q .setter) f) → moved p q ≡ size m
-unfolding moved size
-moved-size p q m few is past =
-    sym (count-beyond _ (q .size) 64 few (λ i l k. ap not (eq-eqb (at (p .setter) i) (at (q .setter) i) (past i l k))))
-    ∙ count-cong _ (member m) 64 (λ f l. sym (is f l))
+    go : (f : ℕ) → f < 64 → Dec (f < q .size) → other f ≡ member (setOf other (q .size)) f
+    go f l (yes k) = sym (member-setOf-lt other (q .size) f k)
+    go f l (no k) =
+        ap not (eq-eqb (at (p .setter) f) (at (q .setter) f) (past f (omega arith) l)) ∙ sym (member-high (q .size) _ f (setOf-lt other (q .size)) (omega arith))
+
+pub turned-none : (p q : Panel) → q .setter ≡ p .setter → turned p q ≡ 0
+unfolding turned
+turned-none p q e =
+    empty-of-none (q .size) _ (setOf-lt _ (q .size))
+    (λ f l. member-setOf-lt _ (q .size) f l ∙ ap not (eq-eqb (at (p .setter) f) (at (q .setter) f) (ap (λ (s : List ℕ). at s f) (sym e))))
+
+pub turned-lt : (p q : Panel) → q .size ≤ 64 → turned p q < 2 ^ 64
+unfolding turned
+turned-lt p q few = lt-of-lt-of-le (setOf-lt _ (q .size)) (pow-mono few)
+
+-- a set with nothing beside it
+union-none : (a : ℕ) → a < 2 ^ 64 → union a 0 ≡ a
+union-none a small =
+    ext-member 64 (union a 0) a (union-lt a 0) small
+    (λ i l. member-union a 0 i l ∙ ap (λ (b : Bool). member a i || b) (member-empty i) ∙ or-false (member a i))
+
+-- where no value changes
+pub redrawn-by : (p q : Panel) (m : ℕ) → q .size ≤ 64 → m ≡ turned p q → redrawnBy m 0 q ≡ redrawn p q
+unfolding redrawnBy redrawn
+redrawn-by p q m few e = rw e (union-none _ (spread-lt (setterReads q) (q .size) (turned p q) (turned-lt p q few)))
+
+-- and no setter: the reply stays as it is
+pub counted-still : (r : Reply) (q : Panel) → counted r (redrawnBy 0 0 q) ≡ r
+unfolding redrawnBy
+counted-still r q = go r (rw (spread-nothing (setterReads q) (q .size)) (union-none 0 (omega arith)))
+  where
+    go : (r : Reply) {set : ℕ} → set ≡ 0 → counted r set ≡ r
+    go (Accepted m) e = rw e refl
+    go (Refused x) e = refl
+
+-- the count of a set, where nothing was counted before
+pub counted-none : (set : ℕ) → replyBytes (counted (Accepted 0) set) ≡ 0x00 ∷ size set ∷ []
+counted-none set = ap (λ (m : ℕ). 0x00 ∷ m ∷ []) (go (eqb set 0) refl)
+  where
+    go : (b : Bool) → eqb set 0 ≡ b → cond b 0 (size set) ≡ size set
+    go true e = sym (ap size (eqb-true set 0 e) ∙ size-empty)
+    go false e = refl

@@ -2,15 +2,11 @@
 -- altered panel (`taken-still`); the link of the number put back, that is the panel before but for its size (`altered-size`).
 use Prim.Native.Nat.{ℕ}
 use mathlib.Core.Path.{_≡_, refl, sym, ap, _∙_}
-use mathlib.Core.Bool.{not}
 use mathlib.Core.List.{List}
 use mathlib.Core.Logic.{inl}
 use native.Mathlib.Omega.{arith}
-use borrow.Author.Tests.{eq-eqb}
 use lib.ListN.{length}
 use lib.Seq.{set-getD}
-use Rattle.fieldset.specs.Tables.{at}
-use Rattle.fieldset.proofs.Fields.{member-empty}
 use Rattle.panel.specs.declared.Standing.{Standing}
 use Rattle.panel.specs.declared.Standing.the-variants.{Waiting, Holding}
 use Rattle.panel.specs.declared.Link.{Link}
@@ -27,6 +23,7 @@ use Rattle.panel.specs.Commands.{Command, performed}
 use Rattle.panel.specs.Outcomes.{unchanged, altered, taken, Takes, Decides}
 use Rattle.panel.proofs.Reversed.{reversed-place}
 use Rattle.panel.proofs.Legal.{holding-not-waiting}
+use Rattle.panel.proofs.Moved.{turned-none, counted-still}
 
 -- the places are the step's
 pub taken-place : (p : Panel) (k : ℕ) (s : Step) (path : List ℕ) → taken p k s path .place ≡ s .place
@@ -55,7 +52,7 @@ module _ (p : Panel) (k : ℕ) (named : Link) (reply : Reply) (same : named ≡ 
       let s = unchanged n (p .place) named reply in
       record {
         panel = taken-still p k s path refl refl refl ∙ altered-size n ∙ e;
-        changed = λ f l. member-empty f ∙ sym (rw (← e) (ap not (eq-eqb (at (p .setter) f) (at (p .setter) f) refl)));
+        changed = sym (turned-none p after (ap (λ (q : Panel). q .setter) (sym e)));
         still = λ z. (refl, refl, refl);
         path-of = record { full = long; few = omega arith; fields = λ i l. absurd (omega arith) };
         freed-field = λ v e. absurd (holding-not-waiting e refl);
@@ -67,7 +64,9 @@ module _ (p : Panel) (k : ℕ) (named : Link) (reply : Reply) (same : named ≡ 
       → Decides p k c path (unchanged n (p .place) named reply)
   decides-size c path long n a e panel answer = record {
     takes = takes-size path long n (performed p c .panel) (panel ∙ ap (λ (x : Answer). x .panel) (sym e));
-    reply = answer ∙ ap (λ (x : Answer). x .reply) (sym e);
+    reply =
+        ap replyBytes (counted-still reply (performed p c .panel))
+        ∙ answer ∙ ap (λ (x : Answer). x .reply) (sym e);
   }
 
   -- the panel as it is

@@ -2,6 +2,7 @@ pub mod Items
 pub mod Answers
 pub mod Panels
 pub mod Solution
+pub mod Moved
 pub mod Steps
 pub mod Commands
 pub mod Legal

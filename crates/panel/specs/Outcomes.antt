@@ -1,29 +1,32 @@
 -- What an operation promises: the step that it answers, taken, gives the panel and the reply of the command.
 use Prim.Native.Nat.{ℕ, _≤_, _<_}
 use mathlib.Core.Path.{_≡_}
-use mathlib.Core.Bool.{not}
+use mathlib.Core.Bool.{cond}
 use mathlib.Core.Logic.{_⊎_}
 use mathlib.Core.List.{List}
 use lib.Dec.{eqb}
 use lib.ListN.{length, take, drop, set}
 use lib.Seq.{sets}
 use Rattle.fieldset.specs.Tables.{at}
-use Rattle.fieldset.specs.Fields.{member}
+use Rattle.fieldset.specs.Fields.{union, size}
+use Rattle.downstream.specs.Downstream.{spread}
 use Rattle.panel.specs.declared.Standing.the-variants.{Waiting, Holding}
 use Rattle.panel.specs.declared.Link.{Link}
 use Rattle.panel.specs.declared.Panel.{Panel}
 use Rattle.panel.specs.declared.Reply.{Reply}
+use Rattle.panel.specs.declared.Reply.the-variants.{Accepted, Refused}
 use Rattle.panel.specs.declared.Step.{Step}
 use Rattle.panel.specs.Items.{itemOf, linkAt}
 use Rattle.panel.specs.Answers.{replyBytes, planRest, rowsLength}
 use Rattle.panel.specs.Panels.{freed}
-use Rattle.panel.specs.Solution.{reversed}
+use Rattle.panel.specs.Solution.{setterReads, reversed}
+use Rattle.panel.specs.Moved.{turned}
 use Rattle.panel.specs.Commands.{Command, performed, planning}
 
 -- the step that leaves these fields, places and this link
 abbrev pub unchanged : ℕ → List ℕ → Link → Reply → Step
 unchanged size place named reply =
-    record { reply = reply; size = size; place = place; link = named; freed = Waiting; setter = 128; count = 0; changed = 0 }
+    record { reply = reply; size = size; place = place; link = named; freed = Waiting; setter = 128; count = 0; changed = 0; revalued = 0 }
 
 -- the panel with the fields, places and the link of number k that a step gives
 abbrev pub altered : Panel → ℕ → Step → Panel
@@ -43,7 +46,7 @@ pub record PathOf (path : List ℕ) (count : ℕ) : Type 0 where
 pub record Takes (p : Panel) (k : ℕ) (path : List ℕ) (s : Step) (after : Panel) : Type 0 where
   pub panel : taken p k s path ≡ after
   -- the fields that get another setter; where there are none, no path is reversed
-  pub changed : (f : ℕ) → f < 64 → member (s .changed) f ≡ not (eqb (at (p .setter) f) (at (after .setter) f))
+  pub changed : s .changed ≡ turned p after
   pub still : s .changed ≡ 0 → (s .freed ≡ Waiting) × (s .setter ≡ 128) × (s .count ≡ 0)
   pub path-of : PathOf path (s .count)
   -- what a dropped link held is a field
@@ -51,10 +54,23 @@ pub record Takes (p : Panel) (k : ℕ) (path : List ℕ) (s : Step) (after : Pan
   -- a link that sets a field stays, or gives that field free
   pub keeps : (f : ℕ) → f < 64 → at (p .setter) f ≡ k → (s .link ≡ linkAt (p .links) k) ⊎ (s .freed ≡ Holding f)
 
+-- a reply with the count of a set of fields, where it has any
+abbrev pub counted : Reply → ℕ → Reply
+counted (Accepted m) set = Accepted (cond (eqb set 0) m (size set))
+counted (Refused r) set = Refused r
+
+-- the fields that are redrawn on the panel q: those of a set whose setters changed, all downstream of these, and those of a set whose values changed
+unfoldable pub redrawnBy : ℕ → ℕ → Panel → ℕ
+redrawnBy changed revalued q = union (spread (setterReads q) (q .size) changed) revalued
+
+-- the reply to a step that leaves the panel q: with the count that is known then
+abbrev pub stepReply : Step → Panel → Reply
+stepReply s q = counted (s .reply) (redrawnBy (s .changed) (s .revalued) q)
+
 -- the step of a command, which names the link of number k: the panel after it and its reply are the command's
 pub record Decides (p : Panel) (k : ℕ) (c : Command) (path : List ℕ) (s : Step) : Type 0 where
   pub takes : Takes p k path s (performed p c .panel)
-  pub reply : replyBytes (s .reply) ≡ performed p c .reply
+  pub reply : replyBytes (stepReply s (performed p c .panel)) ≡ performed p c .reply
 
 -- a plan: the first two bytes of the answer's reply are the reply's, and the rest of it, the rows, stands at the start of the buffer, whose
 -- bytes behind are as they were

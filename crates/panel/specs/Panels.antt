@@ -1,10 +1,9 @@
 -- Panels before and after opening, and what changes in one.
 use Prim.Native.Nat.{ℕ, _+_}
-use mathlib.Core.Bool.{true, not, cond}
+use mathlib.Core.Bool.{true, cond}
 use mathlib.Core.List.{List}
 use lib.Dec.{eqb, ltb}
 use lib.ListN.{set, replicate}
-use Rattle.fieldset.specs.Numbers.{count}
 use Rattle.fieldset.specs.Tables.{at, tabulate}
 use Rattle.panel.specs.declared.Standing.{Standing}
 use Rattle.panel.specs.declared.Standing.the-variants.{Waiting, Holding}
@@ -57,7 +56,3 @@ placeAfter place f g = cond (eqb g f) 0 (cond (ltb (at place g) (at place f)) (a
 
 unfoldable pub toFront : Panel → ℕ → Panel
 toFront p f = record { size = p .size; links = p .links; place = tabulate (placeAfter (p .place) f) 64; setter = p .setter }
-
--- "The reply .. counts the fields whose setter after the command is not the one before"
-unfoldable pub moved : Panel → Panel → ℕ
-moved before after = count (λ f. not (eqb (at (before .setter) f) (at (after .setter) f))) (after .size)

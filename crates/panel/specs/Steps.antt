@@ -12,8 +12,9 @@ use Rattle.panel.specs.declared.Panel.{Panel}
 use Rattle.panel.specs.declared.Refusal.the-variants.{Conflict, Loop}
 use Rattle.panel.specs.Items.{Item, link, stay, linkAt}
 use Rattle.panel.specs.Answers.{Answer, isRefusal, refused}
-use Rattle.panel.specs.Panels.{opened, waitingLink, withLink, dropped, toFront, moved}
+use Rattle.panel.specs.Panels.{opened, waitingLink, withLink, dropped, toFront}
 use Rattle.panel.specs.Solution.{isBlocked, pathFor, reversed, leastBlocked, planOf, isLooped, rowsOf}
+use Rattle.panel.specs.Moved.{moved}
 
 -- the panel p becomes q: 00 and the moved count
 abbrev pub accepted : Panel → Panel → Answer

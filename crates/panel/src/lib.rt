@@ -73,13 +73,13 @@ pub enum Refusal {
     FlowCount,
 }
 
-// The reply to a command. An accepted one has a count: the fields whose setter changed, or, for a plan, the fields listed.
+// The reply to a command. An accepted one has a count: the fields that are redrawn, or, for a plan, the fields listed.
 pub enum Reply {
     Accepted(u8),
     Refused(Refusal),
 }
 
-// What a command comes to. The panel is changed by whoever takes the step.
+// What a command comes to. The panel is changed by whoever takes the step, who then has the count of a reply: that of a step is 0.
 pub struct Step {
     pub reply: Reply,
     // what the panel then has: its fields, the stays' places, the link of the number that the command names
@@ -91,8 +91,9 @@ pub struct Step {
     // what then sets the first field of a path that is reversed, a link's number or STAY, and how many fields the path has
     pub setter: u8,
     pub count: usize,
-    // the fields that get another setter
+    // the fields that get another setter, and those that get another value
     pub changed: u64,
+    pub revalued: u64,
 }
 
 // The link of a number that is not in use.
@@ -123,5 +124,6 @@ pub fn unchanged(size: usize, place: &[u8; 64], named: Link, reply: Reply) -> St
         setter: STAY,
         count: 0,
         changed: 0,
+        revalued: 0,
     }
 }

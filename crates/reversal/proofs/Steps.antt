@@ -15,26 +15,28 @@ use lib.Seq.{getD-set-other}
 use Rattle.fieldset.specs.Tables.{at}
 use Rattle.fieldset.specs.Fields.{member, only, union, size}
 use Rattle.fieldset.proofs.Numbers.{clash}
-use Rattle.fieldset.proofs.Fields.{member-empty, member-only, member-union, member-setOf-lt, empty-of-none, setOf-lt}
+use Rattle.fieldset.proofs.Fields.{member-empty, member-only, member-union, member-setOf-lt, empty-of-none, setOf-lt, union-lt}
 use Rattle.strength.specs.Strength.{greatest, strength}
 use Rattle.panel.specs.declared.Standing.{Standing}
 use Rattle.panel.specs.declared.Standing.the-variants.{Waiting, Holding}
 use Rattle.panel.specs.declared.Link.{Link}
 use Rattle.panel.specs.declared.Panel.{Panel}
 use Rattle.panel.specs.declared.Refusal.the-variants.{Loop}
+use Rattle.panel.specs.declared.Reply.the-variants.{Accepted}
 use Rattle.panel.specs.Items.{Item, link, itemOf, linkAt, outputsOf, isInForce, inForce, waits}
-use Rattle.panel.specs.Answers.{Answer, refused}
+use Rattle.panel.specs.Answers.{Answer, refused, replyBytes}
 use Rattle.panel.specs.Panels.{freed}
 use Rattle.panel.specs.Solution.{level, isBlocked, pathFor, reversed, isLooped}
+use Rattle.panel.specs.Moved.{turned, moved}
 use Rattle.panel.specs.Steps.{accepted, reverseStep}
 use Rattle.panel.specs.Commands.{anyOf, Command, performed}
 use Rattle.panel.specs.Legal.{Legal}
-use Rattle.panel.specs.Outcomes.{taken, PathOf, Decides}
+use Rattle.panel.specs.Outcomes.{taken, PathOf, counted, redrawnBy, Decides}
 use Rattle.panel.proofs.Reversed.{numberOf, reversed-size}
 use Rattle.panel.proofs.Legal.{Carrying, holding-not-waiting}
 use Rattle.panel.proofs.Reversal.{blocking, start-of, startOf, path-for, Route, route-for, reverse-force}
 use Rattle.panel.proofs.Performed.{legal-performed}
-use Rattle.panel.proofs.Moved.{reversed-changes, moved-size}
+use Rattle.panel.proofs.Moved.{reversed-changes, turned-is, redrawn-by, counted-none}
 use Rattle.tables.specs.Tables.{Tabled}
 use Rattle.reversal.specs.declared.Verdict.{Verdict}
 use Rattle.reversal.specs.declared.Verdict.the-variants.{Free, Looped, Path}
@@ -132,19 +134,28 @@ module _ (p : Panel) (k n : ℕ) (place : List ℕ) (l : Link) (held : Standing)
               either false = refl
 
       pub decides-verdict : Decides p k cmd path (stepOf t n place l held c)
-      unfolding taken
+      unfolding taken moved
       decides-verdict = record {
         takes = record {
           panel = taking ∙ ap (λ (a : Answer). a .panel) (sym accept);
-          changed = λ f lf. changed f lf ∙ ap (λ (a : Answer). not (eqb (at (p .setter) f) (at (a .panel .setter) f))) (sym accept);
+          changed = turns ∙ ap (λ (a : Answer). turned p (a .panel)) (sym accept);
           still = still;
           path-of = path-of;
           freed-field = ch .field;
           keeps = ch .keeps;
         };
         reply =
-            ap (λ (m : ℕ). 0x00 ∷ m ∷ []) (sym (moved-size p r _ (legal-after .few) changed past)) ∙ ap (λ (a : Answer). a .reply) (sym accept);
+            ap (λ (a : Answer). replyBytes (counted (Accepted 0) (redrawnBy fields-changed 0 (a .panel)))) accept
+            ∙ counted-none (redrawnBy fields-changed 0 r)
+            ∙ ap (λ (m : ℕ). 0x00 ∷ size m ∷ []) (redrawn-by p r fields-changed (legal-after .few) turns)
+            ∙ ap (λ (a : Answer). a .reply) (sym accept);
       }
+        where
+          fields-changed : ℕ
+          fields-changed = union (fieldsBy t) (heldField held)
+
+          turns : fields-changed ≡ turned p r
+          turns = turned-is p r fields-changed (legal-after .few) (union-lt (fieldsBy t) (heldField held)) changed past
 
     -- nothing is reversed
     pub decides-free : length path ≡ 64 → (c : ℕ) → performed p cmd ≡ accepted p after → Decides p k cmd path (stepOf Free n place l held c)

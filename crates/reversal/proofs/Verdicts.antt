@@ -6,7 +6,7 @@ use mathlib.Core.Logic.{_≢_, _⊎_, ⊎-elim}
 use mathlib.Core.List.{List}
 use native.Mathlib.Omega.{arith}
 use denote.Enum.Declared.{tagOf}
-use Rattle.fieldset.specs.Fields.{union, size}
+use Rattle.fieldset.specs.Fields.{union}
 use Rattle.panel.specs.declared.Standing.{Standing}
 use Rattle.panel.specs.declared.Link.{Link}
 use Rattle.panel.specs.declared.Reply.the-variants.{Accepted}
@@ -29,7 +29,7 @@ no-loop Looped h e = ⊎-elim (λ e. omega arith) (λ e. omega arith) h
 no-loop (Path k m) h e = let z : _≡_ {A = ℕ} 0 1 = cc in omega arith
 
 -- the step of the parts
-pub step-is : (t : Verdict) (n : ℕ) (place : List ℕ) (link : Link) (held : Standing) (c s k m h u r : ℕ) → s ≡ setterBy t c → k ≡ countBy t → m ≡ fieldsBy t
-    → h ≡ heldField held → u ≡ union m h → r ≡ size u
-    → _≡_ {A = Step} (record { reply = Accepted r; size = n; place = place; link = link; freed = held; setter = s; count = k; changed = u }) (stepOf t n place link held c)
-step-is t n place link held c s k m h u r es ek em eh eu er = rw (er, eu, es, ek, em, eh)
+pub step-is : (t : Verdict) (n : ℕ) (place : List ℕ) (link : Link) (held : Standing) (c s k m h u : ℕ) → s ≡ setterBy t c → k ≡ countBy t → m ≡ fieldsBy t
+    → h ≡ heldField held → u ≡ union m h
+    → _≡_ {A = Step} (record { reply = Accepted 0; size = n; place = place; link = link; freed = held; setter = s; count = k; changed = u; revalued = 0 }) (stepOf t n place link held c)
+step-is t n place link held c s k m h u es ek em eh eu = rw (eu, es, ek, em, eh)

@@ -6,7 +6,7 @@ use mathlib.Core.List.{List, [], _∷_, _++_}
 use lib.Dec.{eqb, ltb}
 use lib.ListN.{length, take, drop, set}
 use Rattle.fieldset.specs.Tables.{at}
-use Rattle.fieldset.specs.Fields.{member, setOf, with, without, only, union, below, size}
+use Rattle.fieldset.specs.Fields.{member, setOf, with, without, only, union, below}
 use Rattle.strength.specs.Strength.{greatest, strength, lowestAt, path}
 use Rattle.strength.specs.Filling.{Acyclic, Strengths, Within}
 use Rattle.ordering.specs.Order.{hasLoop}
@@ -125,7 +125,7 @@ abbrev pub stepOf : Verdict → ℕ → List ℕ → Link → Standing → ℕ �
 stepOf verdict n place link held c =
     let changed = union (fieldsBy verdict) (heldField held) in
     record {
-      reply = Accepted (size changed);
+      reply = Accepted 0;
       size = n;
       place = place;
       link = link;
@@ -133,4 +133,5 @@ stepOf verdict n place link held c =
       setter = setterBy verdict c;
       count = countBy verdict;
       changed = changed;
+      revalued = 0;
     }

@@ -1,6 +1,5 @@
 // Deciding on the reversal of a path, over the tables of a panel's setters.
 use fieldset::only;
-use fieldset::size;
 use fieldset::union;
 use fieldset::wide;
 use fieldset::with;
@@ -15,7 +14,6 @@ use strength::lowest_at;
 use strength::path_from;
 ghost use mathlib.Core.Path.{_≡_};
 ghost use lib.ListN.{length, take};
-ghost use Rattle.fieldset.specs.Fields.{size};
 ghost use Rattle.panel.specs.Outcomes.{PathOf};
 ghost use Rattle.reversal.specs.Reversals.{reversedReads, fieldsOf, withPath, resolvedPath, Undecided, Decided, Unresolved, Resolved, HeldField, heldField, stepOf};
 
@@ -132,13 +130,6 @@ fn held_field(s: Standing) -> u64
     }
 }
 
-// How many fields a set has, in a byte.
-pub fn count_of(set: u64) -> u8
-    ensures { λ r. ⌜ r ≡ size set ⌝ }
-{
-    size(set) as u8
-}
-
 // The step that leaves so many fields, these places and this link, gives free what a link of this standing held, and reverses the path for the item
 // of the number c. The fields that are given free and those of the path get another setter.
 pub fn step_of(
@@ -162,9 +153,8 @@ pub fn step_of(
     }
     let places = *place;
     let changed = union(fields, held_field(held));
-    let m = count_of(changed);
     Step {
-        reply: Reply::Accepted(m),
+        reply: Reply::Accepted(0),
         size: n,
         place: places,
         link: link,
@@ -172,5 +162,6 @@ pub fn step_of(
         setter: setter,
         count: count,
         changed: changed,
+        revalued: 0,
     }
 }

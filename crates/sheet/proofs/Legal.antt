@@ -40,7 +40,7 @@ use Rattle.evaluation.specs.Runs.{Run}
 use Rattle.evaluation.proofs.Settled.{run-within, run-others, run-length}
 use Rattle.sheet.specs.declared.Sheet.{Sheet}
 use Rattle.sheet.specs.Sheets.{sheetOf, blank, formulaAt, withFormula, evaluated}
-use Rattle.sheet.specs.Commands.{Command, solving, entering, relating, Answer, formulasAfter, solved, isDriven, entered, formulaChecks, related, performed}
+use Rattle.sheet.specs.Commands.{Command, solving, entering, relating, Answer, formulasAfter, solved, isDriven, renewed, entered, formulaChecks, related, performed}
 use Rattle.sheet.specs.Legal.{Fits, LegalSheet}
 
 -- ---- formulas that fit
@@ -93,11 +93,10 @@ pub record Stored (s : Sheet) (f : ℕ) (v : ℤ) (a : Answer) : Type 0 where
   pub touched : isRefusal (panel.performed (s .panel) (touching f) .reply) ≡ false
   pub free : isDriven (panel.performed (s .panel) (touching f) .panel) f ≡ false
   pub fits : evaluated (panel.performed (s .panel) (touching f) .panel) (s .formulas) (set (s .values) f v) .fits ≡ true
-  pub is : a ≡ record {
-    sheet = sheetOf (panel.performed (s .panel) (touching f) .panel) (s .formulas)
-        (evaluated (panel.performed (s .panel) (touching f) .panel) (s .formulas) (set (s .values) f v) .values);
-    reply = panel.performed (s .panel) (touching f) .reply;
-  }
+  pub is :
+      a
+      ≡ renewed s (sheetOf (panel.performed (s .panel) (touching f) .panel) (s .formulas)
+      (evaluated (panel.performed (s .panel) (touching f) .panel) (s .formulas) (set (s .values) f v) .values))
 
 pub entering-cases : (s : Sheet) (f : ℕ) (v : ℤ) → Left s (performed s (entering f v)) ⊎ Stored s f v (performed s (entering f v))
 unfolding entered

@@ -6,14 +6,17 @@ use lib.Dec.{eqb, leb, ltb}
 use lib.IntN.{ℤ}
 use lib.ListN.{set}
 use Rattle.fieldset.specs.Tables.{at}
+use Rattle.fieldset.specs.Fields.{union, size}
 use Rattle.panel.specs.declared.Panel.{Panel}
 use Rattle.panel.specs.declared.Refusal.{Refusal}
 use Rattle.panel.specs.declared.Refusal.the-variants.{NotOpen, BadLink, NoSuchField, NoSuchLink, OutOfRange, FieldDriven, BadFormula}
 use Rattle.panel.specs.Items.{linkAt}
 use Rattle.panel.specs.Answers as answers
 use Rattle.panel.specs.Answers.{refusalBytes, isRefusal}
+use Rattle.panel.specs.Moved as panels
 use Rattle.panel.specs.Commands as panel
 use Rattle.panel.specs.Commands.{opening, adding, removing, touching, planning, changing, coveredIn, Check, check, checkReply}
+use Rattle.values.specs.Changes.{revalued}
 use Rattle.formulas.specs.declared.Formula.{Formula}
 use Rattle.formulas.specs.declared.Formula.the-variants.{None, Ratio, Sum}
 use Rattle.formulas.specs.declared.Formulas.{Formulas}
@@ -66,11 +69,20 @@ solved s c a =
 abbrev pub isDriven : Panel → ℕ → Bool
 isDriven p f = ltb (at (p .setter) f) 128
 
--- the sheet with a panel that was touched and the values after a run; "OutOfRange (a result outside the limits)"
-abbrev pub valued : Sheet → answers.Answer → Run → Answer
+-- "fields whose setter changed, and all fields downstream of these in the state after the command; for kind 07 also every field whose value changed"
+-- (request 6)
+unfoldable pub redrawn : Sheet → Sheet → ℕ
+redrawn before after =
+    union (panels.redrawn (before .panel) (after .panel)) (revalued (after .panel .size) (before .values) (after .values))
+
+-- the sheet s becomes t: 00 and the moved count
+abbrev pub renewed : Sheet → Sheet → Answer
+renewed s t = record { sheet = t; reply = 0x00 ∷ size (redrawn s t) ∷ [] }
+
+-- a panel that was touched, with the values after a run; "OutOfRange (a result outside the limits)"
+abbrev pub valued : Sheet → Panel → Run → Answer
 valued s touched run =
-    cond (run .fits) (record { sheet = record { panel = touched .panel; formulas = s .formulas; values = run .values }; reply = touched .reply })
-    (refused s OutOfRange)
+    cond (run .fits) (renewed s (record { panel = touched; formulas = s .formulas; values = run .values })) (refused s OutOfRange)
 
 -- what the touch of f gave, and then "stores the value and runs the whole plan once"; "FieldDriven (a link still sets f after the touch, checked
 -- before 13)"; "every refusal undoes the touch"
@@ -78,7 +90,7 @@ unfoldable pub entered : Sheet → ℕ → ℤ → answers.Answer → Answer
 entered s f v touched =
     cond (isRefusal (touched .reply)) (record { sheet = s; reply = touched .reply })
     (cond (isDriven (touched .panel) f) (refused s FieldDriven)
-    (valued s touched (evaluated (touched .panel) (s .formulas) (set (s .values) f v))))
+    (valued s (touched .panel) (evaluated (touched .panel) (s .formulas) (set (s .values) f v))))
 
 -- ---- kind 08
 

@@ -1,5 +1,6 @@
 // Values of fields: whole numbers with a sign in 32 bits, and arithmetic on them that is exact, in 64 bits.
 use fieldset::lowest;
+use fieldset::with;
 use fieldset::without_lowest;
 ghost use mathlib.Core.Path.{_≡_};
 ghost use mathlib.Core.Bool.{cond};
@@ -11,6 +12,7 @@ ghost use Rattle.values.specs.Limits.{limitedValues, limited, valueAt};
 ghost use Rattle.values.specs.Ratios.{rounded, scaled};
 ghost use Rattle.values.specs.Sums.{total};
 ghost use Rattle.values.specs.Words.{valueOf};
+ghost use Rattle.values.specs.Changes.{differ, revalued};
 
 // A result that is held to the limits: a value, or that it is outside.
 pub enum Limited {
@@ -104,4 +106,27 @@ pub fn of_bits(n: u32) -> i32
     } else {
         ((n as i64) - 4294967296) as i32
     }
+}
+
+// Whether two values differ.
+fn differ(a: i32, b: i32) -> bool
+    ensures { λ r. ⌜ r ≡ differ a b ⌝ }
+{
+    a < b || b < a
+}
+
+// Those of the first n fields whose values differ.
+pub fn revalued(before: &[i32; 64], after: &[i32; 64], n: usize) -> u64
+    requires { ⌜ n ≤ 64 ⌝ }
+    ensures { λ r. ⌜ r ≡ revalued n (now (before .entry)) (now (after .entry)) ⌝ }
+{
+    let mut set = 0u64;
+    let mut f: usize = 0;
+    while f < n {
+        if differ(before[f], after[f]) {
+            set = with(set, f);
+        }
+        f += 1;
+    }
+    set
 }

@@ -1,7 +1,7 @@
 -- `changing::change` meets its contract. A refusal of the checks, of the removal or of the add is the command's (`checks-refused`, `removal-refused`,
 -- `addition-refused`), and leaves the panel and its tables. The removal is carried out on a copy (`dropped`): by a link that waits, with a path that is
 -- reversed, or with none; so is the add (`added`). Then the panel is that of both (`both-accepted`), and the fields whose setters differ are counted
--- (`moved-is`).
+-- (`count-is`).
 use Prim.Native.Nat.{ℕ, _<_}
 use mathlib.Core.Path.{_≡_, refl, sym, ap, ap₂, _∙_, subst}
 use mathlib.Core.List.{List, [], _∷_}
@@ -9,7 +9,6 @@ use mathlib.Core.Logic.{⊎-elim}
 use native.Mathlib.Omega.{arith}
 use borrow.Author.Needs.{needs}
 use lib.ListN.{replicate}
-use Rattle.fieldset.specs.Fields.{size}
 use Rattle.panel.specs.declared.Standing.{Standing}
 use Rattle.panel.specs.declared.Standing.the-variants.{Waiting, Holding}
 use Rattle.panel.specs.declared.Link.{Link}
@@ -37,7 +36,7 @@ use Rattle.removing.proofs.Removed.{count-standing}
 use Rattle.removing.specs.Scans.{countAfter, scanCount}
 use Rattle.changing.specs.Changed.{changeCount}
 use Rattle.changing.proofs.Halves.{Done, Turned, turned-free, drop-waits, without-tabled, drop-loops, drop-path, drop-reversed, enters, enter-refused, enter-path, enter-reversed}
-use Rattle.changing.proofs.Changing.{checks-refused, count-refused, checks-passed, count-passed, refused-parts, removal-refused, legal-between, adds-between, addition-refused, both-accepted, moved-is}
+use Rattle.changing.proofs.Changing.{checks-refused, count-refused, checks-passed, count-passed, refused-parts, removal-refused, legal-between, adds-between, addition-refused, both-accepted, changed-is, count-is}
 use Rattle.changing.proofs.change.Statement.{statement}
 use Rattle.changing.proofs.change.Tie as tie
 
@@ -113,10 +112,11 @@ returns c =
     let b = s .args in
     let f = k .before .before .read-fields .ensures in
     let e = t .enum-told .given .1 in
-    let (same, told) =
+    let (same, still, told) =
     refused-parts (b .p) _ (k .check-link .result) _ e (checks-refused (b .p) (b .id) (b .level) (b .bytes .now) _ _ _ f (b .old) (s .pre .2) _ (k .check-link .ensures) _ e) in
     rw (c .kept .ensures) (record {
       panel = same;
+      changed = still;
       reply = told;
       tabled = s .pre .1;
       scan = count-refused (b .p) (b .id) (b .level) (b .bytes .now) _ _ _ f (b .old) (s .pre .2) _ (k .check-link .ensures) _ e _;
@@ -147,8 +147,8 @@ returns-2 c =
     let b = s .args in
     let e = k .settle .ensures in
     let loops = drop-loops (b .p) (s .pre .0) (b .id) (number-small t) (removes t) _ (holds w) _ _ (k .settle .result .verdict) (e .0) (c .before .enum-told3 .given .1) in
-    let (same, told) = refused-parts (b .p) _ (Refused Loop) Loop refl (removal-refused (b .p) (s .pre .0) (b .id) (b .level) (b .bytes .now) (passed t) Loop loops) in
-    rw (c .kept2 .ensures) (record { panel = same; reply = told; tabled = s .pre .1; scan = e .1 .1 ∙ scanned k ∙ counts t })
+    let (same, still, told) = refused-parts (b .p) _ (Refused Loop) Loop refl (removal-refused (b .p) (s .pre .0) (b .id) (b .level) (b .bytes .now) (passed t) Loop loops) in
+    rw (c .kept2 .ensures) (record { panel = same; changed = still; reply = told; tabled = s .pre .1; scan = e .1 .1 ∙ scanned k ∙ counts t })
 
 element-write-q : tie.Need-element-write-q
 element-write-q c =
@@ -279,10 +279,10 @@ returns-3 c =
     let e = told-it .enum-told6 .given .1 in
     let refuses = enter-refused (m .match2 .q) (between m .0) (b .id) (b .level) (b .bytes .now) _ _ _ (fields-of m) (between m .1) (d .tabled) _ (v .resolve .result)
     (resolved v) _ (k .check-verdict .ensures) _ e in
-    let (same, told) =
+    let (same, still, told) =
     refused-parts (b .p) _ (k .check-verdict .result) _ e
     (addition-refused (b .p) (s .pre .0) (b .id) (b .level) (b .bytes .now) (passed t) (d .accepts) _ (d .leaves) (told-it .enum-told6 .given .0 .0) refuses) in
-    rw (c .kept3 .ensures) (record { panel = same; reply = told; tabled = s .pre .1; scan = worked-is m ∙ counts t })
+    rw (c .kept3 .ensures) (record { panel = same; changed = still; reply = told; tabled = s .pre .1; scan = worked-is m ∙ counts t })
 
 -- the panel with the link
 abbrev resolved-at : tie.After-waiting-link → tie.After-resolve
@@ -372,19 +372,18 @@ changed-fields-requires c κs =
 
 returns-4 : tie.Need-returns-4
 returns-4 c =
-    let e = c .before .before .before .before .before in
+    let e = c .before .before .before .before in
     let m = met (resolved-at (e .before)) in
     let t = checked (m .before) in
     let s = begin t in
     let b = s .args in
     let w = whole e in
+    let left = ap (λ (a : Answer). a .panel) (sym w) in
+    let is = c .changed-fields .ensures in
     record {
       panel = ap (λ (a : Answer). a .panel) w;
-      reply =
-          ap (λ (m : ℕ). 0x00 ∷ m ∷ [])
-          (c .count-of .ensures ∙ ap size (c .before .changed-fields .ensures)
-          ∙ sym (moved-is (b .p) (s .pre .0) (b .id) (b .level) (b .bytes .now) (passed t) _ (ap (λ (a : Answer). a .panel) (sym w))))
-          ∙ ap (λ (a : Answer). a .reply) w;
+      changed = changed-is (b .p) (s .pre .0) (b .id) (b .level) (b .bytes .now) (passed t) _ left _ is;
+      reply = count-is (b .p) (s .pre .0) (b .id) (b .level) (b .bytes .now) (passed t) _ left _ is ∙ ap (λ (a : Answer). a .reply) w;
       tabled = added e .tabled;
       scan = worked-is m ∙ counts t;
     }
@@ -427,5 +426,4 @@ change-spec =
     path-step-requires-2
     reverse-requires-2
     changed-fields-requires
-    (λ c κs. search needs)
     returns-4)

@@ -81,7 +81,7 @@ returns c =
     let s = k .before .before in
     let e = k .command .given .1 in
     rw e (λ formulas values.
-    solved-step (sheetOf _ formulas values) 0 _ _ _ (s .pre .1 .2) (Open _) (opening _) _ refl refl (λ a. formula-kept formulas 0)
+    solved-step (sheetOf _ formulas values) 0 _ _ _ (s .pre .1 .2) (Open _) (opening _) _ refl (λ r. refl) (λ a. formula-kept formulas 0)
     (c .open .ensures 0 _ (s .pre .1 .1) (named-at s e)))
 
 returns-2 : tie.Need-returns-2
@@ -91,7 +91,7 @@ returns-2 c =
     let l = s .args .line in
     let e = k .command2 .given .1 in
     rw e (λ formulas values.
-    solved-step (sheetOf _ formulas values) _ _ _ _ (s .pre .1 .2) (Add _ _) (adding _ _ (tailOf l)) _ refl refl (λ a. formula-kept formulas _)
+    solved-step (sheetOf _ formulas values) _ _ _ _ (s .pre .1 .2) (Add _ _) (adding _ _ (tailOf l)) _ refl (λ r. refl) (λ a. formula-kept formulas _)
     (rw (tail-whole (take (l .len) (l .frame))) at (c .add .ensures)))
 
 -- a line for which the panel is left

@@ -18,19 +18,19 @@ met h = h .before .before
 
 returns : tie.Need-returns
 returns c =
-    let m = met (c .before .before) in
+    let m = met (c .before) in
     let s = m .before in
-    let h = c .before .before .held-field .ensures in
-    let u = c .before .union .ensures in
+    let h = c .before .held-field .ensures in
+    let u = c .union .ensures in
     ⊎-elim
-    (λ w. step-is (s .args .verdict) (s .args .n) _ (s .args .link) (s .args .held) (s .args .c) _ _ _ _ _ _
-    (w .3 ∙ sym (ap (λ (t : Verdict). setterBy t (s .args .c)) (w .1 .given .1))) (w .4 ∙ sym (ap countBy (w .1 .given .1))) (w .5 ∙ sym (ap fieldsBy (w .1 .given .1))) h u (c .count-of .ensures))
+    (λ w. step-is (s .args .verdict) (s .args .n) _ (s .args .link) (s .args .held) (s .args .c) _ _ _ _ _
+    (w .3 ∙ sym (ap (λ (t : Verdict). setterBy t (s .args .c)) (w .1 .given .1))) (w .4 ∙ sym (ap countBy (w .1 .given .1))) (w .5 ∙ sym (ap fieldsBy (w .1 .given .1))) h u)
     (λ w.
     let n = no-path (s .args .verdict) (s .args .c) (w .0 .keys2) in
-    step-is (s .args .verdict) (s .args .n) _ (s .args .link) (s .args .held) (s .args .c) _ _ _ _ _ _ (w .1 ∙ sym (n .0)) (w .2 ∙ sym (n .1)) (w .3 ∙ sym (n .2)) h u (c .count-of .ensures))
+    step-is (s .args .verdict) (s .args .n) _ (s .args .link) (s .args .held) (s .args .c) _ _ _ _ _ (w .1 ∙ sym (n .0)) (w .2 ∙ sym (n .1)) (w .3 ∙ sym (n .2)) h u)
     (m .match .came)
 
 pub step-of-spec : {M : Type 1} → statement M
 step-of-spec =
     tie.close
-    (tie.spec (λ c. search needs) (λ c κs. search needs) (λ c κs. search needs) (λ c κs. search needs) returns)
+    (tie.spec (λ c. search needs) (λ c κs. search needs) (λ c κs. search needs) returns)

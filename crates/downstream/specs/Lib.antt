@@ -1,0 +1,2 @@
+pub mod Downstream
+pub mod Meaning
