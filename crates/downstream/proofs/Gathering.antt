@@ -23,7 +23,7 @@ use Rattle.downstream.proofs.Tables.{downstreams-at}
 
 module _ (down : ℕ → ℕ) (set : ℕ) where
   -- g is in the set that the table has for a field of the set
-  abbrev Below : ℕ → Type 0
+  abbrev pub Below : ℕ → Type 0
   Below g = (f : ℕ) × (f < 64) × (member set f ≡ true) × (member (down f) g ≡ true)
 
   pub gathered-lt : gathered down set < 2 ^ 64

@@ -26,8 +26,9 @@ items =
     ∷ item "0100\n" "FF05\nEE00000100000000000105\n"
     ∷ item "0140\n" "0000\nEE00000100000100000000\n"
     ∷ item "0141\n" "FF05\nEE00000100000000000105\n"
-    -- "0102, 0200008081, 02010080: .. Field 0 has strength 16, so it is taken, moved 1, field 0's stay waits."
-    ∷ item "0102\n0200008081\n05\n02010080\n05\n" "0000\n0001\n0002008010010010\n0001\n0002000100010000\nEE00000500000500000000\n"
+    -- "0102, 0200008081, 02010080: .. Field 0 has strength 16, so it is taken, .., field 0's stay waits"; "link 1 is permitted only field 0 now gives
+    -- moved 2" (document 02, request 6)
+    ∷ item "0102\n0200008081\n05\n02010080\n05\n" "0000\n0001\n0002008010010010\n0002\n0002000100010000\nEE00000500000500000000\n"
     -- "0102, 02000081 then 02010081: second reply FF0A."
     ∷ item "0102\n02000081\n02010081\n" "0000\n0001\nFF0A\nEE0000030000020000010A\n"
     -- "0102, 0200000081 .., then 0201008001 ..: FF0B, and the plan still gives field 0 its stay."

@@ -5,7 +5,7 @@ use mathlib.Core.Bool.{Bool, true, not, _&&_, cond}
 use mathlib.Core.List.{List}
 use lib.Dec.{ltb}
 use Rattle.fieldset.specs.Tables.{at}
-use Rattle.fieldset.specs.Fields.{member, with, meets, filter, Within}
+use Rattle.fieldset.specs.Fields.{member, meets, filter, Within}
 
 -- every field that passes the test reads one that passes it
 pub record Stuck (reads : ℕ → ℕ) (test : ℕ → Bool) : Type 0 where
@@ -18,9 +18,9 @@ pub record Passed (reads : ℕ → ℕ) (set left : ℕ) : Type 0 where
   pub keeps : (test : ℕ → Bool) → Stuck reads test → ((f : ℕ) → test f ≡ true → member set f ≡ true) → (f : ℕ) → test f ≡ true → member left f ≡ true
   pub stuck : left ≡ set → Stuck reads (member set)
 
--- the readers of each field, after f was entered as a reader of the fields of a set
-pub record Entered (f set : ℕ) (before after : List ℕ) : Type 0 where
-  pub each : (g : ℕ) → g < 64 → at after g ≡ cond (member set g) (with (at before g) f) (at before g)
+-- a table after `put` was done to the entries of the fields of a set
+pub record Changed (put : ℕ → ℕ) (set : ℕ) (before after : List ℕ) : Type 0 where
+  pub each : (g : ℕ) → g < 64 → at after g ≡ cond (member set g) (put (at before g)) (at before g)
 
 -- the readers of each field among the first n fields
 pub record Readers (reads : ℕ → ℕ) (n : ℕ) (readers : List ℕ) : Type 0 where

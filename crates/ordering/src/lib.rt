@@ -13,10 +13,10 @@ ghost use mathlib.Core.List.{_++_};
 ghost use Prim.Native.Nat.{_≤_, _<_};
 ghost use lib.ListN.{length, drop};
 ghost use Rattle.fieldset.specs.Tables.{at};
-ghost use Rattle.fieldset.specs.Fields.{meets, without};
+ghost use Rattle.fieldset.specs.Fields.{meets, with, without};
 ghost use Rattle.ordering.specs.Order.{order, hasLoop};
 ghost use Rattle.ordering.specs.Walks.{Among};
-ghost use Rattle.ordering.specs.Steps.{Passed, Entered, Readers, readyOf};
+ghost use Rattle.ordering.specs.Steps.{Passed, Changed, Readers, readyOf};
 
 // What is left of a set when f, which reads `reads`, is listed where it can be.
 fn listed(left: u64, f: usize, reads: u64) -> u64
@@ -62,9 +62,9 @@ pub fn has_loop(reads: &[u64; 64], n: usize) -> bool
 }
 
 // Enters the field f into the set of readers of each field of `reads`.
-fn enter_readers(f: usize, reads: u64, readers: &mut [u64; 64])
+pub fn enter_readers(f: usize, reads: u64, readers: &mut [u64; 64])
     requires { ⌜ (f < 64) × (length (now readers) ≡ 64) ⌝ }
-    ensures { λ r. ⌜ (length (now (readers .exit)) ≡ 64) × Entered f reads (now (readers .entry)) (now (readers .exit)) ⌝ }
+    ensures { λ r. ⌜ (length (now (readers .exit)) ≡ 64) × Changed (λ m. with m f) reads (now (readers .entry)) (now (readers .exit)) ⌝ }
 {
     let mut rest = reads;
     while rest != 0 {

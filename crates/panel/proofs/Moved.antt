@@ -37,7 +37,7 @@ use Rattle.panel.proofs.Reversal.{Leads, Route, route-setters}
 
 -- ---- on a path and off it
 
-any-in : (f : ℕ) (vs : List ℕ) → anyOf (eqb f) vs ≡ true → In f vs
+pub any-in : (f : ℕ) (vs : List ℕ) → anyOf (eqb f) vs ≡ true → In f vs
 unfolding anyOf
 any-in f [] e = clash e refl
 any-in f (v ∷ vs) e = go (eqb f v) refl (any-in f vs)

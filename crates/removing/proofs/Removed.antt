@@ -45,7 +45,7 @@ use Rattle.panel.proofs.Changes.{freed-parts}
 use Rattle.panel.proofs.Checks.{Agree, checked-step, passes-reply, reply-refused, reply-accepted, named-link, removable}
 use Rattle.panel.proofs.Outcomes.{decides-unchanged}
 use Rattle.tables.specs.Tables.{Tabled}
-use Rattle.tables.proofs.Tables.{greatest-same, panel-acyclic, panel-among, all-strengths, table-strengths, table-full}
+use Rattle.tables.proofs.Tables.{greatest-same, panel-acyclic, panel-among, panel-loopless, all-strengths, table-strengths, table-full}
 use Rattle.reversal.specs.declared.Verdict.{Verdict}
 use Rattle.reversal.specs.declared.Verdict.the-variants.{Free, Looped, Path}
 use Rattle.reversal.specs.Reversals.{Undecided, Decided, stepOf}
@@ -257,6 +257,7 @@ module _ {p : Panel} {id v : ℕ} {levels others reads : List ℕ} (x : Removal 
             outputs-inside = outputs-in d found;
             is-greatest = is-greatest d found s (rw eo at top);
             among = panel-among q legal L O R tabled;
+            loopless = panel-loopless q legal L O R tabled;
             covered-inside = λ u l e.
                 member-below (p .size) u l ∙ lt-ltb u (p .size) (cover-inside (q .size) (q .links) (but d found .carrying .filled) d (force d found) u l e);
             reads-length = tabled .reads-full;

@@ -9,7 +9,7 @@ use borrow.Author.Tests.{lt-ltb, le-ltb, ltb-true}
 use lib.ListN.{length, take, drop, length-append, length-drop, List·getD-append}
 use lib.Seq.{take-at}
 use Rattle.fieldset.specs.Tables.{at}
-use Rattle.fieldset.specs.Fields.{member}
+use Rattle.fieldset.specs.Fields.{member, below, Within}
 use Rattle.fieldset.proofs.Fields.{some-member, member-below}
 use Rattle.fieldset.proofs.Lists.{all-at}
 use Rattle.strength.specs.Strength.{greatest, strength, lowestAt, path}
@@ -18,10 +18,13 @@ use Rattle.strength.proofs.Maxima.{greatest-some}
 use Rattle.strength.proofs.Paths.{Tie, lowestAt-found, lowestAt-cong, Reversible, path-reversible}
 use Rattle.ordering.specs.Order.{hasLoop}
 use Rattle.ordering.specs.Walks.{Among}
+use Rattle.keeping.specs.Keeping.{loopsThrough}
+use Rattle.keeping.proofs.Changes.{loop-through}
 use Rattle.panel.specs.Outcomes.{PathOf}
 use Rattle.reversal.specs.declared.Verdict.{Verdict}
 use Rattle.reversal.specs.declared.Verdict.the-variants.{Free, Looped, Path}
-use Rattle.reversal.specs.Reversals.{reversedReads, withPath, resolvedPath, Undecided, Found, Decided, Resolved}
+use Rattle.reversal.specs.Reversals.{reversedReads, fieldsOf, withPath, resolvedPath, Undecided, Found, Decided, Resolved}
+use Rattle.reversal.proofs.Fields.{reads-differ, fields-low}
 use Rattle.reversal.proofs.ReadFields.{among-reversed}
 
 module _ {levels others table : List ℕ} {n known s outputs covered : ℕ} {reads path₀ : List ℕ} (small : outputs < 2 ^ 64)
@@ -89,12 +92,19 @@ module _ {levels others table : List ℕ} {n known s outputs covered : ℕ} {rea
       after-among =
           rw fields-taken (among-reversed n (w .fields) reads covered (u .reads-length) (u .among) (u .covered-inside) (is-reversible .inside))
 
-      pub decided : {reads₁ : List ℕ} {looped : Bool} → reads₁ ≡ reversedReads reads covered (take end path₁) → looped ≡ hasLoop (at reads₁) n
-          → Found levels others n s outputs covered reads path₁ end looped
-      decided rs lp = record {
+      pub path-low : {m : ℕ} → m ≡ fieldsOf (take end path₁) → Within m (below n)
+      path-low e = rw (e, fields-taken) (fields-low n (w .fields) (is-reversible .inside))
+
+      -- a loop goes through a field of the path
+      pub decided : {reads₁ : List ℕ} {m : ℕ} {looped : Bool} → reads₁ ≡ reversedReads reads covered (take end path₁) → m ≡ fieldsOf (take end path₁)
+          → looped ≡ loopsThrough (at reads₁) n m → Found levels others n s outputs covered reads path₁ end looped
+      decided {reads₁} {m} rs em lp = record {
         fields = path-of;
         is-path = fields-taken ∙ is-path;
-        is-looped = lp ∙ ap (λ (x : List ℕ). hasLoop (at x) n) rs;
+        is-looped =
+            lp
+            ∙ loop-through {old = reads} {new = reads₁} (rw rs after-among) (path-low em) (rw (rs, em) (reads-differ reads covered (take end path₁))) (u .loopless)
+            ∙ ap (λ (x : List ℕ). hasLoop (at x) n) rs;
       }
 
 -- the buffer of an item that is not blocked, and of one that is

@@ -29,7 +29,7 @@ use Rattle.panel.proofs.Legal.{Carrying, force-small, force-formed}
 use Rattle.panel.proofs.Setters.{setter-force, setter-output, outputs-inside}
 use Rattle.panel.proofs.Reversal.{route-setters, Start, startOf, start-of, blocking, path-for, route-for}
 use Rattle.tables.specs.Tables.{Tabled}
-use Rattle.tables.proofs.Tables.{level-at, others-at, reads-at, table-inside, table-acyclic, table-among, table-strength, table-tied, greatest-same, path-same, any-over}
+use Rattle.tables.proofs.Tables.{level-at, others-at, reads-at, table-inside, table-acyclic, table-among, table-loopless, table-strength, table-tied, greatest-same, path-same, any-over}
 use Rattle.reversal.specs.Reversals.{reversedReads, Unresolved, Found}
 use Rattle.reversal.proofs.ReadFields.{coverOf, Covers, cover-link, cover-stay, reversed-reads}
 
@@ -75,6 +75,7 @@ module _ (q : Panel) (c : Item) (h : Carrying c q) (loopless : isLooped q ≡ fa
     some-output = some;
     outputs-inside = λ u l e. member-below (q .size) u l ∙ lt-ltb u (q .size) (outs-inside u l e);
     among = table-among q c h loopless levels others reads t;
+    loopless = table-loopless q c h loopless levels others reads t;
     covered-inside = cover;
     reads-length = t .reads-full;
     path-length = full;

@@ -2,17 +2,22 @@
 -- (`reads-next`, `fields-more`).
 use Prim.Native.Nat.{ℕ, _+_, _≤_, _<_}
 use mathlib.Core.Path.{_≡_, refl, sym, ap, _∙_}
-use mathlib.Core.Bool.{Bool, true, _||_, or-assoc, or-false}
+use mathlib.Core.Bool.{Bool, true, false, _||_, or-assoc, or-false}
 use mathlib.Core.List.{List, [], _∷_, _++_}
 use native.Mathlib.Numerals.{add-one}
-use borrow.Author.Tests.{eq-eqb}
+use borrow.Author.Tests.{eq-eqb, eqb-false, lt-ltb}
 use lib.Dec.{eqb}
 use lib.ListN.{length, take, set}
-use lib.Seq.{take-suc}
+use lib.Seq.{take-suc, getD-set-other}
 use Rattle.fieldset.specs.Tables.{at}
-use Rattle.fieldset.specs.Fields.{member, setOf, with, without}
-use Rattle.fieldset.proofs.Fields.{setOf-cong, member-setOf-lt}
+use Rattle.fieldset.specs.Lists.{All}
+use Rattle.fieldset.specs.Fields.{member, setOf, with, without, below, Within}
+use Rattle.fieldset.proofs.Fields.{setOf-cong, member-setOf-lt, member-below}
+use Rattle.fieldset.proofs.Numbers.{clash}
+use Rattle.fieldset.proofs.Lists.{all-in}
+use Rattle.keeping.specs.Keeping.{Differ}
 use Rattle.panel.specs.Commands.{anyOf}
+use Rattle.panel.proofs.Moved.{any-in}
 use Rattle.fieldset.proofs.Rest.{rest, rest-next, rest-end}
 use Rattle.reversal.specs.Reversals.{reversedReads, fieldsOf}
 
@@ -44,6 +49,33 @@ fields-more path i m k l em ek =
     ∙ ap (λ (x : ℕ). anyOf (eqb f) (take i path) || eqb f x) ek
     ∙ sym (any-append f (at path i) (take i path))
     ∙ ap (anyOf (eqb f)) (sym (ap (λ (x : ℕ). take x path) (add-one i) ∙ take-suc path i 0 l)))
+
+-- only fields of the path get other reads
+reads-other : (reads : List ℕ) (cover : ℕ) (vs : List ℕ) (f : ℕ) → anyOf (eqb f) vs ≡ false → at (reversedReads reads cover vs) f ≡ at reads f
+unfolding reversedReads anyOf
+reads-other reads cover [] f e = refl
+reads-other reads cover (v ∷ vs) f e = go (eqb f v) refl (reads-other (set reads v (without cover v)) (with (at reads v) v) vs f)
+  where
+    later : List ℕ
+    later = reversedReads (set reads v (without cover v)) (with (at reads v) v) vs
+
+    go : (b : Bool) → eqb f v ≡ b → (anyOf (eqb f) vs ≡ false → at later f ≡ at (set reads v (without cover v)) f) → at later f ≡ at reads f
+    go true t ih = absurd (clash refl (rw t at e))
+    go false t ih = ih (rw t at e) ∙ getD-set-other reads v f (without cover v) 0 (eqb-false f v t)
+
+pub reads-differ : (reads : List ℕ) (cover : ℕ) (vs : List ℕ) → Differ (fieldsOf vs) reads (reversedReads reads cover vs)
+unfolding fieldsOf
+reads-differ reads cover vs = record {
+  same = λ f l e. sym (reads-other reads cover vs f (sym (member-setOf-lt (λ f. anyOf (eqb f) vs) 64 f l) ∙ e));
+}
+
+-- the fields of a path are below n
+pub fields-low : (n : ℕ) (vs : List ℕ) → All (λ v. v < n) vs → Within (fieldsOf vs) (below n)
+unfolding fieldsOf
+fields-low n vs all f l e = member-below n f l ∙ lt-ltb f n (find vs all (sym (member-setOf-lt (λ f. anyOf (eqb f) vs) 64 f l) ∙ e))
+  where
+    find : (vs : List ℕ) → All (λ v. v < n) vs → anyOf (eqb f) vs ≡ true → f < n
+    find vs all e = all-in (λ v. v < n) vs f all (any-in f vs e)
 
 -- a path has its first field
 pub fields-first : (v : ℕ) (vs rest : List ℕ) → vs ≡ v ∷ rest → v < 64 → member (fieldsOf vs) v ≡ true

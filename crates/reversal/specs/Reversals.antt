@@ -53,6 +53,7 @@ pub record Undecided (levels others table : List ℕ) (n known s outputs covered
   pub outputs-inside : Within outputs (below n)
   pub is-greatest : s ≡ greatest (member outputs) (strength (at levels) (at others) n) 64
   pub among : Among reads n
+  pub loopless : hasLoop (at reads) n ≡ false
   pub covered-inside : Within covered (below n)
   pub reads-length : length reads ≡ 64
   pub path-length : length path ≡ 64
@@ -78,6 +79,7 @@ pub record Unresolved (others : List ℕ) (n outputs covered : ℕ) (reads path 
   pub some-output : 0 < outputs
   pub outputs-inside : Within outputs (below n)
   pub among : Among reads n
+  pub loopless : hasLoop (at reads) n ≡ false
   pub covered-inside : Within covered (below n)
   pub reads-length : length reads ≡ 64
   pub path-length : length path ≡ 64

@@ -4,6 +4,7 @@ use fieldset::union;
 use fieldset::wide;
 use fieldset::with;
 use fieldset::without;
+use keeping::loops_through;
 use panel::Link;
 use panel::Reply;
 use panel::STAY;
@@ -77,10 +78,10 @@ pub fn decide(
     let count = path_from(levels, others, table, n, known, v, path);
     let mut after = *reads;
     reverse_reads(&mut after, covered, path, count);
-    if ordering::has_loop(&after, n) {
+    let set = path_fields(path, count);
+    if loops_through(&after, n, set) {
         return Verdict::Looped;
     }
-    let set = path_fields(path, count);
     Verdict::Path(count, set)
 }
 

@@ -23,9 +23,10 @@ use Rattle.strength.specs.Filling.{Acyclic, Strengths}
 use Rattle.strength.proofs.Maxima.{greatest-cong, greatest-ge, greatest-found}
 use Rattle.strength.proofs.Depth.{strength-fixed, strength-level}
 use Rattle.strength.proofs.Paths.{Tie, lowestAt-found, lowestAt-cong}
+use Rattle.ordering.specs.Order.{hasLoop}
 use Rattle.ordering.specs.Walks.{Among}
 use Rattle.ordering.proofs.Sets.{test-ext}
-use Rattle.ordering.proofs.Plan.{rankOf}
+use Rattle.ordering.proofs.Plan.{rankOf, hasLoop-cong}
 use Rattle.panel.specs.declared.Panel.{Panel}
 use Rattle.panel.specs.Items.{Item, stay}
 use Rattle.panel.specs.Solution.{setterLevel, setterOthers, setterReads, strengthOf, isLooped}
@@ -123,6 +124,11 @@ module _ (q : Panel) (c : Item) (h : Carrying c q) (loopless : isLooped q ≡ fa
   pub table-among : Among reads (q .size)
   table-among = record { few = h .few; inside = λ g f l k e. setter-reads-inside q c h .inside g f l k (rw (reads-at g l) at e) }
 
+  pub table-loopless : hasLoop (at reads) (q .size) ≡ false
+  unfolding isLooped
+  table-loopless =
+      hasLoop-cong (at reads) (setterReads q) (q .size) (λ f i l k. ap (λ (m : ℕ). member m i) (reads-at f l)) ∙ loopless
+
   pub table-strength : (v : ℕ) → v < q .size → strength (at levels) (at others) (q .size) v ≡ strengthOf q v
   unfolding strengthOf
   table-strength v l = strength-same (q .size) (at levels) (setterLevel q) (at others) (setterOthers q) level-at others-at table-inside (q .size) v l
@@ -146,6 +152,9 @@ module _ (p : Panel) (h : Legal p) (levels others reads : List ℕ) (t : Tabled 
 
   pub panel-among : Among reads (p .size)
   panel-among = table-among p (stay (p .size)) (whole p h) (h .loopless) levels others reads t
+
+  pub panel-loopless : hasLoop (at reads) (p .size) ≡ false
+  panel-loopless = table-loopless p (stay (p .size)) (whole p h) (h .loopless) levels others reads t
 
   pub panel-reads : (f : ℕ) → f < p .size → at reads f ≡ setterReads p f
   panel-reads = reads-at p (stay (p .size)) (whole p h) (h .loopless) levels others reads t

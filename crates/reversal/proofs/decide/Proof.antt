@@ -1,11 +1,14 @@
 -- `reversal::decide` meets its contract. `Deciding` has what each callee asks and what its answers come to: the path of the lowest-numbered output
--- (`path-of`, `path-stored`), the read fields after its reversal (`after-among`), and the verdict by whether these have a loop (`decided`).
+-- (`path-of`, `path-stored`), the read fields after its reversal (`after-among`), and the verdict by whether a loop of these goes through a field of the path
+-- (`decided`).
 use Prim.Native.Nat.{ℕ}
-use mathlib.Core.Path.{sym, _∙_}
+use mathlib.Core.Path.{_≡_, sym, _∙_}
+use mathlib.Core.Bool.{Bool, true, false}
 use mathlib.Core.List.{List}
 use borrow.Author.Needs.{needs}
 use Rattle.panel.specs.Outcomes.{PathOf}
-use Rattle.reversal.proofs.Deciding.{start-small, start-known, path-stored, path-of, after-among, decided}
+use Rattle.reversal.specs.Reversals.{withPath, Found}
+use Rattle.reversal.proofs.Deciding.{start-small, start-known, path-stored, path-of, after-among, path-low, decided}
 use Rattle.reversal.proofs.decide.Statement.{statement}
 use Rattle.reversal.proofs.decide.Tie as tie
 
@@ -27,7 +30,7 @@ found-path w = path-of (start w .fits .outputs .fits) (start w .pre) (from w .lo
 abbrev tried : tie.After-reverse-reads → tie.After-path-from
 tried r = r .before .before .before .before
 
-abbrev judged : tie.After-has-loop → tie.After-reverse-reads
+abbrev judged : tie.After-loops-through → tie.After-path-fields
 judged h = h .before .before
 
 -- ---- the needs
@@ -43,37 +46,42 @@ path-from-requires c κs =
 reverse-reads-requires : tie.Need-reverse-reads-requires
 reverse-reads-requires c κs = let w = c .before .before .before in (found-path w, start w .pre .reads-length)
 
-has-loop-requires : tie.Need-has-loop-requires
-has-loop-requires c κs =
-    let r = c .before in
+path-fields-requires : tie.Need-path-fields-requires
+path-fields-requires c κs = found-path (tried (c .before))
+
+loops-through-requires : tie.Need-loops-through-requires
+loops-through-requires c κs =
+    let f = c .before in
+    let r = f .before .before in
     let w = tried r in
-    rw (r .reverse-reads .ensures) (after-among (start w .fits .outputs .fits) (start w .pre) (from w .lowest-at .ensures) (w .path-from .ensures))
+    let s = start w in
+    let v = from w .lowest-at .ensures in (
+      rw (r .reverse-reads .ensures) (after-among (s .fits .outputs .fits) (s .pre) v (w .path-from .ensures)),
+      path-low (s .fits .outputs .fits) (s .pre) v (w .path-from .ensures) (f .path-fields .ensures),
+    )
+
+-- the path is found, and it is known whether its reversal has a loop
+found : (h : tie.After-loops-through) (looped : Bool) → h .loops-through .result ≡ looped → let w = tried (judged h .before .before) in let a = start w .args in
+    Found (a .levels .now) (a .others .now) (a .n) (a .s) (a .outputs) (a .covered) (a .reads .now) (buffer w) (w .path-from .result) looped
+found h looped e =
+    let f = judged h in
+    let r = f .before .before in
+    let w = tried r in
+    let s = start w in
+    decided (s .fits .outputs .fits) (s .pre) (from w .lowest-at .ensures) (w .path-from .ensures) (r .reverse-reads .ensures) (f .path-fields .ensures)
+    (sym e ∙ h .loops-through .ensures)
+
+stored : (h : tie.After-loops-through) → let w = tried (judged h .before .before) in let a = start w .args in
+    buffer w ≡ withPath (a .levels .now) (a .others .now) (a .n) (a .s) (a .outputs) (a .path .now)
+stored h =
+    let w = tried (judged h .before .before) in
+    path-stored (start w .fits .outputs .fits) (start w .pre) (from w .lowest-at .ensures) (w .path-from .ensures)
 
 returns : tie.Need-returns
-returns c =
-    let h = c .before in
-    let r = judged h in
-    let w = tried r in
-    let s = start w in
-    let v = from w .lowest-at .ensures in (
-      (w .path-from .result, decided (s .fits .outputs .fits) (s .pre) v (w .path-from .ensures) (r .reverse-reads .ensures) (sym (c .if1 .taken) ∙ h .has-loop .ensures)),
-      path-stored (s .fits .outputs .fits) (s .pre) v (w .path-from .ensures),
-    )
-
-path-fields-requires : tie.Need-path-fields-requires
-path-fields-requires c κs = found-path (tried (judged (c .before .before)))
+returns c = let h = c .before in ((_, found h true (c .if1 .taken)), stored h)
 
 returns-2 : tie.Need-returns-2
-returns-2 c =
-    let e = c .before .before in
-    let h = e .before in
-    let r = judged h in
-    let w = tried r in
-    let s = start w in
-    let v = from w .lowest-at .ensures in (
-      (decided (s .fits .outputs .fits) (s .pre) v (w .path-from .ensures) (r .reverse-reads .ensures) (sym (e .if1 .left) ∙ h .has-loop .ensures), c .path-fields .ensures),
-      path-stored (s .fits .outputs .fits) (s .pre) v (w .path-from .ensures),
-    )
+returns-2 c = let h = c .before in ((found h false (c .if1 .left), judged h .path-fields .ensures), stored h)
 
 pub decide-spec : {M : Type 1} → statement M
 decide-spec =
@@ -82,7 +90,7 @@ decide-spec =
     (λ c κs. search needs)
     path-from-requires
     reverse-reads-requires
-    has-loop-requires
-    returns
     path-fields-requires
+    loops-through-requires
+    returns
     returns-2)

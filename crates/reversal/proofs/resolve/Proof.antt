@@ -30,6 +30,7 @@ decide-requires c κs =
       outputs-inside = u .outputs-inside;
       is-greatest = t .is-greatest;
       among = u .among;
+      loopless = u .loopless;
       covered-inside = u .covered-inside;
       reads-length = u .reads-length;
       path-length = u .path-length;

@@ -1,0 +1,8 @@
+-- The laws that the functions' proofs and other crates cite.
+pub mod Climbing
+pub mod Changes
+pub mod Searching
+pub mod Retelling
+pub mod Repairing
+pub mod Keeping
+pub mod Examples
