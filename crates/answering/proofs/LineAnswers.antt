@@ -3,8 +3,10 @@
 use mathlib.Core.Path.{_≡_, refl, sym, ap, ap₂, subst, _∙_}
 use mathlib.Core.Bool.{Bool, true, false, cond}
 use mathlib.Core.List.{List, [], _∷_, append-nil}
-use Prim.Native.Nat.{ℕ, _%_}
+use mathlib.Core.Logic.{inl, inr}
+use Prim.Native.Nat.{ℕ, _%_, _<_}
 use native.Mathlib.Nat.{mod-eq-of-lt}
+use native.Mathlib.Decide.{decLt}
 use native.Mathlib.Omega.{arith}
 use lib.Dec.{eqb}
 use lib.ListN.{length}
@@ -16,13 +18,14 @@ use Rattle.panel.specs.declared.Reply.the-variants.{Accepted}
 use Rattle.panel.specs.declared.Step.{Step}
 use Rattle.panel.specs.Items.{linkAt}
 use Rattle.panel.specs.Answers.{isRefusal, replyBytes, rowsLength}
-use Rattle.panel.specs.Outcomes.{taken, Takes, Decides}
+use Rattle.panel.specs.Outcomes.{taken, Takes, counted, redrawnBy, stepReply, Decides}
 use Rattle.panel.specs.Legal.{Legal}
 use Rattle.panel.specs.Commands.{opening, adding, removing, touching, planning, changing, coveredIn, performed}
 use Rattle.panel.proofs.Checks.{changeable}
 use Rattle.panel.proofs.Performed.{removed-number, changed-passes, legal-performed}
 use Rattle.panel.proofs.Outcomes.{takes-size}
 use Rattle.tables.specs.Tables.{Tabled}
+use Rattle.redrawing.proofs.Redrawing.{Sizes}
 use Rattle.values.specs.Words.{valueOf}
 use Rattle.formulas.specs.declared.Formula.{Formula}
 use Rattle.formulas.specs.declared.Formula.the-variants.{None}
@@ -32,6 +35,7 @@ use Rattle.sheet.specs.Sheets.{sheetOf, formulaAt, withFormula}
 use Rattle.sheet.specs.Commands.{solving, entering, relating}
 use Rattle.sheet.specs.Legal.{LegalSheet}
 use Rattle.sheet.proofs.Legal.{legal-sheet, entered-formulas}
+use Rattle.sheet.proofs.Sizes.{sheet-size}
 use Rattle.entering.specs.Entered.{SettersOf, Entered}
 use Rattle.frames.specs.declared.Command.{Command}
 use Rattle.frames.specs.declared.Command.the-variants.{Open, Add, Remove, Touch, Plan, Change, Enter, Relate, Refused}
@@ -107,6 +111,22 @@ answer-legal q (Enter f b) fields h = legal-sheet q h (entering f (valueOf (word
 answer-legal q (Relate id form) fields h = legal-sheet q h (relating id (formulaIn (form ∷ fields)))
 answer-legal q (Refused r) fields h = h
 
+-- an open panel keeps its size
+pub answer-sizes : (q : Sheet) (k : Command) (fields : List ℕ) → Sizes (q .panel) (commandAnswer q k fields .state .panel)
+answer-sizes q k fields = go (decLt 0 (q .panel .size)) k
+  where
+    go : Dec (0 < q .panel .size) → (k : Command) → Sizes (q .panel) (commandAnswer q k fields .state .panel)
+    go (no n) k = inr (omega arith)
+    go (yes o) (Open n) = inl (sheet-size q (solving (opening n)) o)
+    go (yes o) (Add id level) = inl (sheet-size q (solving (adding id level fields)) o)
+    go (yes o) (Remove id) = inl (sheet-size q (solving (removing id)) o)
+    go (yes o) (Touch f) = inl (sheet-size q (solving (touching f)) o)
+    go (yes o) Plan = inl (sheet-size q (solving planning) o)
+    go (yes o) (Change id level) = inl (sheet-size q (solving (changing id level fields)) o)
+    go (yes o) (Enter f b) = inl (sheet-size q (entering f (valueOf (wordOf (b ∷ fields)))) o)
+    go (yes o) (Relate id form) = inl (sheet-size q (relating id (formulaIn (form ∷ fields))) o)
+    go (yes o) (Refused r) = inl refl
+
 -- ---- the step that is decided
 
 -- the panel after it: a change is carried out later
@@ -122,20 +142,20 @@ stepPanel s tail (Relate id form) = commandAnswer s (Relate id form) tail .state
 stepPanel s tail (Refused x) = commandAnswer s (Refused x) tail .state .panel
 
 -- what else is known then: the rest of the answer, and of a change that no value has changed
-abbrev StepRest : Sheet → ℕ → List ℕ → List ℕ → List ℤ → Reply → Command → Type 0
-StepRest s k tail rows values r (Open n) = AnswerRest s k (Open n) tail rows values r
-StepRest s k tail rows values r (Add id level) = AnswerRest s k (Add id level) tail rows values r
-StepRest s k tail rows values r (Remove id) = AnswerRest s k (Remove id) tail rows values r
-StepRest s k tail rows values r (Touch f) = AnswerRest s k (Touch f) tail rows values r
-StepRest s k tail rows values r Plan = AnswerRest s k Plan tail rows values r
-StepRest s k tail rows values r (Change id level) = values ≡ s .values
-StepRest s k tail rows values r (Enter f b) = AnswerRest s k (Enter f b) tail rows values r
-StepRest s k tail rows values r (Relate id form) = AnswerRest s k (Relate id form) tail rows values r
-StepRest s k tail rows values r (Refused x) = AnswerRest s k (Refused x) tail rows values r
+abbrev StepRest : Sheet → ℕ → List ℕ → List ℕ → List ℤ → Step → Command → Type 0
+StepRest s k tail rows values step (Open n) = AnswerRest s k (Open n) tail rows values (stepReply step (stepPanel s tail (Open n)))
+StepRest s k tail rows values step (Add id level) = AnswerRest s k (Add id level) tail rows values (stepReply step (stepPanel s tail (Add id level)))
+StepRest s k tail rows values step (Remove id) = AnswerRest s k (Remove id) tail rows values (stepReply step (stepPanel s tail (Remove id)))
+StepRest s k tail rows values step (Touch f) = AnswerRest s k (Touch f) tail rows values (stepReply step (stepPanel s tail (Touch f)))
+StepRest s k tail rows values step Plan = AnswerRest s k Plan tail rows values (stepReply step (stepPanel s tail Plan))
+StepRest s k tail rows values step (Change id level) = (values ≡ s .values) × (step .revalued ≡ 0)
+StepRest s k tail rows values step (Enter f b) = AnswerRest s k (Enter f b) tail rows values (stepReply step (stepPanel s tail (Enter f b)))
+StepRest s k tail rows values step (Relate id form) = AnswerRest s k (Relate id form) tail rows values (stepReply step (stepPanel s tail (Relate id form)))
+StepRest s k tail rows values step (Refused x) = AnswerRest s k (Refused x) tail rows values (stepReply step (stepPanel s tail (Refused x)))
 
 pub record Stepped (s : Sheet) (k : ℕ) (c : Command) (tail path rows : List ℕ) (values : List ℤ) (step : Step) : Type 0 where
   pub takes : Takes (s .panel) k path step (stepPanel s tail c)
-  pub rest : StepRest s k tail rows values (step .reply) c
+  pub rest : StepRest s k tail rows values step c
   pub rows-full : length rows ≡ rowsLength
 
 pub step-legal : (s : Sheet) (tail : List ℕ) (c : Command) → LegalSheet s → Legal (stepPanel s tail c)
@@ -148,6 +168,17 @@ step-legal s tail (Change id level) h = h .panel
 step-legal s tail (Enter f b) h = answer-legal s (Enter f b) tail h .panel
 step-legal s tail (Relate id form) h = answer-legal s (Relate id form) tail h .panel
 step-legal s tail (Refused x) h = answer-legal s (Refused x) tail h .panel
+
+pub step-sizes : (s : Sheet) (tail : List ℕ) (c : Command) → Sizes (s .panel) (stepPanel s tail c)
+step-sizes s tail (Open n) = answer-sizes s (Open n) tail
+step-sizes s tail (Add id level) = answer-sizes s (Add id level) tail
+step-sizes s tail (Remove id) = answer-sizes s (Remove id) tail
+step-sizes s tail (Touch f) = answer-sizes s (Touch f) tail
+step-sizes s tail Plan = answer-sizes s Plan tail
+step-sizes s tail (Change id level) = inl refl
+step-sizes s tail (Enter f b) = answer-sizes s (Enter f b) tail
+step-sizes s tail (Relate id form) = answer-sizes s (Relate id form) tail
+step-sizes s tail (Refused x) = answer-sizes s (Refused x) tail
 
 -- of a line that is no removal and enters no value
 pub decided-stepped : (p : Panel) (k : ℕ) (named : Link) (tail path rows : List ℕ) (step : Step) (c : Command)
@@ -166,7 +197,7 @@ decided-stepped p k named tail path rows step Plan h g same d formulas values =
 decided-stepped p k named tail path rows step (Change id level) h g same d formulas values =
     record {
       takes = rw (d .is) (takes-size p k named (Accepted 0) same path (d .path-full) (p .size) p refl);
-      rest = refl;
+      rest = (refl, ap (λ (s : Step). s .revalued) (d .is));
       rows-full = d .rows-full;
     }
 decided-stepped p k named tail path rows step (Enter f b) h g same d formulas values = absurd (not-among 6 (0 ∷ 1 ∷ 2 ∷ 3 ∷ 4 ∷ 5 ∷ 7 ∷ 8 ∷ []) refl g)
@@ -202,9 +233,9 @@ entered-step s f b fields path rows v e full touch touches after step d =
     record {
       takes = d′ .takes path touches;
       rest = record {
-        formulas = either (isRefusal (replyBytes (step .reply))) ∙ sym (entered-formulas s f (valueOf (wordOf (b ∷ fields))));
+        formulas = either (isRefusal (replyBytes (stepReply step (stepPanel s fields (Enter f b))))) ∙ sym (entered-formulas s f (valueOf (wordOf (b ∷ fields))));
         values = d′ .values;
-        reply = append-nil (replyBytes (step .reply)) ∙ d′ .reply;
+        reply = append-nil (replyBytes (stepReply step (stepPanel s fields (Enter f b)))) ∙ d′ .reply;
         rest = omega arith;
       };
       rows-full = full;
@@ -217,7 +248,7 @@ entered-step s f b fields path rows v e full touch touches after step d =
 -- where no change is asked the step is all
 module _ {s : Sheet} {k : ℕ} {tail path rows : List ℕ} {values : List ℤ} {step : Step} where
   pub step-panel : (c : Command) → OneOf (0 ∷ 1 ∷ 2 ∷ 3 ∷ 4 ∷ 6 ∷ 7 ∷ 8 ∷ []) (tagOf the-type c) → Stepped s k c tail path rows values step
-      → (stepPanel s tail c ≡ commandAnswer s c tail .state .panel) × AnswerRest s k c tail rows values (step .reply)
+      → (stepPanel s tail c ≡ commandAnswer s c tail .state .panel) × AnswerRest s k c tail rows values (stepReply step (stepPanel s tail c))
   step-panel (Open n) h d = (refl, d .rest)
   step-panel (Add id level) h d = (refl, d .rest)
   step-panel (Remove id) h d = (refl, d .rest)
@@ -256,13 +287,17 @@ module _ (s : Sheet) (c : Command) (tail path rows : List ℕ) (values : List �
   pub changed-tabled : Tabled (r .panel) levels others reads
   changed-tabled = changes .tabled
 
-  pub changed-rest : AnswerRest s (numberOf c) c tail rows values (r .reply)
+  pub changed-rest : AnswerRest s (numberOf c) c tail rows values (counted (r .reply) (redrawnBy (r .changed) (step .revalued) (r .panel)))
   changed-rest =
-      subst (λ (c : Command). AnswerRest s (numberOf c) c tail rows values (r .reply)) (sym is)
-      (subst (λ (v : List ℤ). AnswerRest s (id % 128) (Change id level) tail rows v (r .reply)) (sym unchanged) (changed-replied s id level tail rows (r .reply) (changes .reply)))
+      subst (λ (c : Command). AnswerRest s (numberOf c) c tail rows values reply) (sym is)
+      (subst (λ (v : List ℤ). AnswerRest s (id % 128) (Change id level) tail rows v reply) (sym (rest .0))
+      (changed-replied s id level tail rows reply (rw (rest .1) (changes .reply))))
     where
-      unchanged : values ≡ s .values
-      unchanged = subst (λ (c : Command). Stepped s (numberOf c) c tail path rows values step) is d .rest
+      reply : Reply
+      reply = counted (r .reply) (redrawnBy (r .changed) (step .revalued) (r .panel))
+
+      rest : (values ≡ s .values) × (step .revalued ≡ 0)
+      rest = subst (λ (c : Command). Stepped s (numberOf c) c tail path rows values step) is d .rest
 
   pub changed-worked : (line : List ℕ) → commandBytes c tail ≡ frameOf line → worked ≡ lineScan before s line
   changed-worked line read = changes .scan ∙ changed-scan before s line c tail read id level is

@@ -5,12 +5,15 @@ use deciding::rule_after;
 use deciding::sets_formula;
 use entering::enter;
 use entering::setters;
+use fieldset::below;
 use fieldset::wide;
 use formulas::Formulas;
 use frames::Command;
 use frames::value_of;
+use keeping::refresh;
 use panel::Panel;
 use panel::ROWS;
+use redrawing::redraw;
 use removing::remove;
 use replies::LONGEST;
 use replies::put_reply;
@@ -92,7 +95,18 @@ pub fn answer_lines(
     let mut others = [0u64; 64];
     let mut reads = [0u64; 64];
     let mut after = [0u64; 64];
+    let mut shown = [0u64; 64];
+    let mut readers = [0u64; 64];
+    let mut down = [0u64; 64];
     fill_tables(q, &mut levels, &mut others, &mut reads);
+    refresh(
+        &reads,
+        q.size,
+        below(q.size),
+        &mut shown,
+        &mut readers,
+        &mut down,
+    );
     while at < text.len() && LONGEST <= room - n {
         let end = lines::line_end(text, at);
         let line = frames::read_line(&text[at..end]);
@@ -118,14 +132,29 @@ pub fn answer_lines(
         q.place = place;
         q.links[k] = link;
         stay_levels(&mut levels, &q.setter, &place);
-        if step.changed != 0 {
+        let mut turned = step.changed;
+        let mut stale = turned;
+        if turned != 0 {
             q = reverse(q, step, &path, &mut levels, &mut others, &mut reads);
         }
         if let Command::Change(_, _) = command {
             let c = changed(q, &mut levels, &mut others, &mut reads, line, &mut worked);
             q = c.panel;
             reply = c.reply;
+            turned = c.changed;
+            stale = below(q.size);
         }
+        reply = redraw(
+            reply,
+            turned,
+            step.revalued,
+            &reads,
+            q.size,
+            stale,
+            &mut shown,
+            &mut readers,
+            &mut down,
+        );
         if sets_formula(command) {
             formulas.of[k] = rule_after(line, reply, old.covered, formulas.of[k]);
         }

@@ -89,6 +89,7 @@ takes-valued t m = record {
   still = t .still;
   path-of = t .path-of;
   freed-field = t .freed-field;
+  freed-turns = t .freed-turns;
   keeps = t .keeps;
 }
 

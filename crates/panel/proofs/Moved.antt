@@ -152,14 +152,15 @@ pub redrawn-by : (p q : Panel) (m : ℕ) → q .size ≤ 64 → m ≡ turned p q
 unfolding redrawnBy redrawn
 redrawn-by p q m few e = rw e (union-none _ (spread-lt (setterReads q) (q .size) (turned p q) (turned-lt p q few)))
 
--- and no setter: the reply stays as it is
+-- a set without fields leaves the reply as it is
+pub counted-empty : (r : Reply) (set : ℕ) → set ≡ 0 → counted r set ≡ r
+counted-empty (Accepted m) set e = rw e refl
+counted-empty (Refused x) set e = refl
+
+-- where no setter changes either
 pub counted-still : (r : Reply) (q : Panel) → counted r (redrawnBy 0 0 q) ≡ r
 unfolding redrawnBy
-counted-still r q = go r (rw (spread-nothing (setterReads q) (q .size)) (union-none 0 (omega arith)))
-  where
-    go : (r : Reply) {set : ℕ} → set ≡ 0 → counted r set ≡ r
-    go (Accepted m) e = rw e refl
-    go (Refused x) e = refl
+counted-still r q = counted-empty r _ (rw (spread-nothing (setterReads q) (q .size)) (union-none 0 (omega arith)))
 
 -- the count of a set, where nothing was counted before
 pub counted-none : (set : ℕ) → replyBytes (counted (Accepted 0) set) ≡ 0x00 ∷ size set ∷ []

@@ -34,6 +34,11 @@ taken-place p k s path = reversed-place (freed (altered p k s) (s .freed)) _ _ �
     free Waiting = refl
     free (Holding v) = refl
 
+-- what is freed changes no link
+pub freed-links : (p : Panel) (s : Standing) → freed p s .links ≡ p .links
+freed-links p Waiting = refl
+freed-links p (Holding v) = refl
+
 -- a step that frees no field and reverses no path
 pub taken-still : (p : Panel) (k : ℕ) (s : Step) (path : List ℕ) → s .freed ≡ Waiting → s .setter ≡ 128 → s .count ≡ 0 → taken p k s path ≡ altered p k s
 unfolding taken reversed
@@ -56,6 +61,7 @@ module _ (p : Panel) (k : ℕ) (named : Link) (reply : Reply) (same : named ≡ 
         still = λ z. (refl, refl, refl);
         path-of = record { full = long; few = omega arith; fields = λ i l. absurd (omega arith) };
         freed-field = λ v e. absurd (holding-not-waiting e refl);
+        freed-turns = λ v e. absurd (holding-not-waiting e refl);
         keeps = λ f l e. inl same;
       }
 

@@ -2,7 +2,7 @@
 use Prim.Native.Nat.{ℕ, _≤_, _<_}
 use mathlib.Core.Path.{_≡_}
 use mathlib.Core.Bool.{cond}
-use mathlib.Core.Logic.{_⊎_}
+use mathlib.Core.Logic.{_≢_, _⊎_}
 use mathlib.Core.List.{List}
 use lib.Dec.{eqb}
 use lib.ListN.{length, take, drop, set}
@@ -49,8 +49,9 @@ pub record Takes (p : Panel) (k : ℕ) (path : List ℕ) (s : Step) (after : Pan
   pub changed : s .changed ≡ turned p after
   pub still : s .changed ≡ 0 → (s .freed ≡ Waiting) × (s .setter ≡ 128) × (s .count ≡ 0)
   pub path-of : PathOf path (s .count)
-  -- what a dropped link held is a field
+  -- what a dropped link held is a field, which gets another setter
   pub freed-field : (v : ℕ) → s .freed ≡ Holding v → v < 64
+  pub freed-turns : (v : ℕ) → s .freed ≡ Holding v → at (p .setter) v ≢ at (after .setter) v
   -- a link that sets a field stays, or gives that field free
   pub keeps : (f : ℕ) → f < 64 → at (p .setter) f ≡ k → (s .link ≡ linkAt (p .links) k) ⊎ (s .freed ≡ Holding f)
 

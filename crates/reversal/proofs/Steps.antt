@@ -142,6 +142,7 @@ module _ (p : Panel) (k n : ℕ) (place : List ℕ) (l : Link) (held : Standing)
           still = still;
           path-of = path-of;
           freed-field = ch .field;
+          freed-turns = λ v e x. set-anew v e (x ∙ ap (λ (a : Answer). at (a .panel .setter) v) accept);
           keeps = ch .keeps;
         };
         reply =

@@ -3,23 +3,27 @@
 -- (`taken-reversed`); else it is the altered panel (`taken-unmoved`).
 use Prim.Native.Nat.{ℕ, _<_}
 use mathlib.Core.Path.{_≡_, refl, sym, ap, _∙_, subst}
+use mathlib.Core.Bool.{Bool, true, false, cond}
 use mathlib.Core.List.{List}
 use mathlib.Core.Logic.{_⊎_, inl, inr, ⊎-elim}
 use native.Mathlib.Decide.{ℕ-discrete}
 use native.Mathlib.Omega.{arith}
+use lib.Dec.{ltb}
 use lib.ListN.{length, take, set}
 use Rattle.fieldset.specs.Tables.{at, tabulate}
+use Rattle.fieldset.specs.Fields.{without}
 use Rattle.fieldset.proofs.Tables.{length-tabulate, getD-tabulate}
 use Rattle.panel.specs.declared.Standing.the-variants.{Holding}
+use Rattle.panel.specs.declared.Link.{Link}
 use Rattle.panel.specs.declared.Panel.{Panel}
 use Rattle.panel.specs.declared.Step.{Step}
-use Rattle.panel.specs.Items.{linkAt, itemOf}
+use Rattle.panel.specs.Items.{link, stay, linkAt, itemOf, setterOf, readsOf}
 use Rattle.panel.specs.Panels.{freed}
-use Rattle.panel.specs.Solution.{reversed}
+use Rattle.panel.specs.Solution.{setterReads, reversed}
 use Rattle.panel.specs.Outcomes.{altered, taken, Takes}
 use Rattle.panel.specs.Legal.{Legal}
-use Rattle.panel.proofs.Reversed.{link-here, link-there}
-use Rattle.panel.proofs.Outcomes.{taken-place, taken-still}
+use Rattle.panel.proofs.Reversed.{AllAlike, alike-reads, reversed-alike, link-here, link-there}
+use Rattle.panel.proofs.Outcomes.{freed-links, taken-place, taken-still}
 use Rattle.tables.specs.Tables.{Setting, Tabled, Places, levelWith}
 use Rattle.tables.proofs.Settings.{places, placed-setting}
 use Rattle.taking.specs.Taking.{TabledBut}
@@ -45,6 +49,31 @@ module _ {p : Panel} {k : ℕ} {path : List ℕ} {s : Step} {after : Panel} (d :
       → Taken after r levels others reads
   unfolding taken
   taken-reversed e t = taken-by e t
+
+  -- a field that keeps its setter keeps its reads
+  pub reads-kept : Legal p → k < 128 → (f : ℕ) → f < 64 → at (p .setter) f ≡ at (after .setter) f → setterReads after f ≡ setterReads p f
+  unfolding taken setterOf
+  reads-kept h small f l same =
+      ap (λ (x : ℕ). readsOf (after .links) (itemOf x f) f) (sym same)
+      ∙ alike-reads (after .links) links alike (itemOf (at (p .setter) f) f) f ∙ go (ltb (at (p .setter) f) 128) (ℕ-discrete (at (p .setter) f) k)
+    where
+      links : List Link
+      links = set (p .links) k (s .link)
+
+      -- links change only in their standings otherwise
+      alike : AllAlike (after .links) links
+      alike =
+          subst (λ (q : Panel). AllAlike (q .links) links) (d .panel)
+          (subst (AllAlike (taken p k s path .links)) (freed-links (altered p k s) (s .freed)) (reversed-alike (freed (altered p k s) (s .freed)) _ _))
+
+      covers : Dec (at (p .setter) f ≡ k) → linkAt links (at (p .setter) f) ≡ linkAt (p .links) (at (p .setter) f)
+      covers (no n) = link-there (p .links) k (at (p .setter) f) (s .link) n
+      covers (yes y) =
+          ⊎-elim (λ e. rw y (link-here (p .links) k (s .link) (omega (arith, h .links-length)) ∙ e)) (λ e. absurd (d .freed-turns f e same)) (d .keeps f l y)
+
+      go : (b : Bool) → Dec (at (p .setter) f ≡ k) → readsOf links (cond b (link (at (p .setter) f)) (stay f)) f ≡ readsOf (p .links) (cond b (link (at (p .setter) f)) (stay f)) f
+      go true c = ap (λ (x : Link). without (x .covered) f) (covers c)
+      go false c = refl
 
   module _ {levels others reads : List ℕ} (h : Legal p) (small : k < 128) (t : Tabled p levels others reads) where
     -- the levels with the step's places

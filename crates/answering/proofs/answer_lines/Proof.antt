@@ -10,18 +10,20 @@ use mathlib.Core.List.{List, [], _∷_}
 use Prim.Native.Nat.{ℕ, _+_, _-_, _≤_, _<_}
 use native.Mathlib.Omega.{arith}
 use mir.Facts.{toZ-ofZ}
-use lib.ListN.{length, take, drop}
+use lib.ListN.{length, take, drop, replicate}
 use lib.Seq.{sets, length-sets}
 use Rattle.panel.specs.declared.Panel.{Panel}
 use Rattle.panel.specs.Items.{linkAt}
 use Rattle.panel.specs.Legal.{Legal}
-use Rattle.panel.specs.Outcomes.{Takes}
+use Rattle.panel.specs.Outcomes.{Takes, counted, redrawnBy}
 use Rattle.formulas.specs.declared.Formulas.{Formulas}
 use Rattle.sheet.specs.declared.Sheet.{Sheet}
 use Rattle.sheet.specs.Sheets.{sheetOf, formulaAt, withFormula}
 use Rattle.sheet.specs.Legal.{LegalSheet}
 use Rattle.tables.specs.Tables.{Tabled}
 use Rattle.taking.proofs.Taking.{Taken, places-taken, taken-reversed, tabled-altered, taken-unmoved}
+use Rattle.keeping.specs.Keeping.{Kept}
+use Rattle.redrawing.proofs.Redrawing.{Stale, Sizes, redrawn-is, stale-start, stale-change, stale-step}
 use Rattle.hex.specs.Hex.{lineOf}
 use Rattle.tally.specs.Tallies.{tallied}
 use Rattle.frames.specs.declared.Command.{Command}
@@ -37,18 +39,19 @@ use Rattle.frames.specs.Reading.{tailOf}
 use Rattle.deciding.specs.Lines.{Framed, formulaAfter, setsFormula, AnswerRest, TouchStep}
 use Rattle.deciding.proofs.Arms.{OneOf, framed, entered-touch}
 use Rattle.answering.specs.Scans.{lineScan}
-use Rattle.answering.proofs.LineAnswers.{removal-no-change, removed-scan, no-scan, removed-step, touch-taken, touch-setters, entered-step, stepPanel, Stepped, step-legal, decided-stepped, step-panel, changed-panel, changed-tabled, changed-rest, changed-worked, formulas-same, did}
+use Rattle.answering.proofs.LineAnswers.{removal-no-change, removed-scan, no-scan, removed-step, touch-taken, touch-setters, entered-step, stepPanel, Stepped, step-legal, step-sizes, answer-legal, answer-sizes, decided-stepped, step-panel, changed-panel, changed-tabled, changed-rest, changed-worked, formulas-same, did}
 use Rattle.answering.proofs.Going.{Did, Going, start, line-done, finish-end, finish-full}
 use Rattle.answering.proofs.answer_lines.Statement.{statement}
 use Rattle.answering.proofs.answer_lines.Tie as tie
 
 abbrev Inv-loop : tie.InvT-loop
-Inv-loop text at₀ t₀ out₀ room q₀ formulas₀ values₀ n₀ worked₀ rows₀ path₀ levels₀ others₀ reads₀ after₀ at t out q formulas values n worked rows path levels others reads after =
+Inv-loop text at₀ t₀ out₀ room q₀ formulas₀ values₀ n₀ worked₀ rows₀ path₀ levels₀ others₀ reads₀ after₀ shown₀ readers₀ down₀ at t out q formulas values n worked rows path levels others reads after shown readers down =
     (length rows ≡ rowsLength) × (length path ≡ 64) × Tabled q levels others reads
     × Going lineAnswer lineScan LegalSheet text at₀ room (sheetOf q₀ formulas₀ values₀) t₀ out₀ out (record { next = at; state = sheetOf q formulas values; tally = t; written = n; worked = worked })
+    × (shown ≡ reads) × Kept (q .size) reads readers down
 
 abbrev μ-loop : tie.MeasureT-loop
-μ-loop text at₀ t₀ out₀ room q₀ formulas₀ values₀ n₀ worked₀ rows₀ path₀ levels₀ others₀ reads₀ after₀ at t out q formulas values n worked rows path levels others reads after =
+μ-loop text at₀ t₀ out₀ room q₀ formulas₀ values₀ n₀ worked₀ rows₀ path₀ levels₀ others₀ reads₀ after₀ shown₀ readers₀ down₀ at t out q formulas values n worked rows path levels others reads after shown readers down =
     length text - at
 
 -- ---- the places: the line is read, and the link that its command names is known
@@ -66,8 +69,11 @@ ended c = read c .before .before
 abbrev looped : tie.After-old Inv-loop μ-loop → tie.At-loop Inv-loop μ-loop
 looped c = ended c .before .before .before
 
+abbrev filled : tie.At-loop Inv-loop μ-loop → tie.After-reads Inv-loop μ-loop
+filled c = c .before .before .before .before .before .before .before .before
+
 abbrev text-of : tie.At-loop Inv-loop μ-loop → List ℕ
-text-of c = begin (c .before .before) .args .text .now
+text-of c = begin (filled c) .args .text .now
 
 -- the sheet that the line meets
 abbrev sheet-of : tie.After-old Inv-loop μ-loop → Sheet
@@ -96,8 +102,21 @@ ends c = let l = c .before .before .before in end-within (text-of l) (l .loop .a
 fill-tables-requires : tie.Need-fill-tables-requires Inv-loop μ-loop
 fill-tables-requires c κs = (begin c .pre .0 .panel, refl, refl, refl)
 
+below-requires : tie.Need-below-requires Inv-loop μ-loop
+below-requires c κs = begin (c .before .before) .pre .0 .panel .few
+
+-- nothing is kept yet
+starts : (c : tie.After-below Inv-loop μ-loop) → let f = c .before .before in let p = begin (f .before) .args .s .panel in
+    Stale (p .size) (c .below .result) (f .fill-tables .last .1 .1 .1 .0) (replicate 64 0) (replicate 64 0) (replicate 64 0)
+starts c = let f = c .before .before in rw (c .below .ensures) (stale-start (begin (f .before) .pre .0 .panel) (f .fill-tables .ensures))
+
+refresh-requires : tie.Need-refresh-requires Inv-loop μ-loop
+refresh-requires c κs = let k = starts (c .before .before .before) in ((k .kept, k .full, k .among, k .loopless), (k .low, k .differ))
+
 loop-holds : tie.Need-loop-holds Inv-loop μ-loop
-loop-holds c = (refl, refl, c .fill-tables .ensures, start _ _ _ _ _ _ _ _ _ (begin (c .before) .pre .0))
+loop-holds c =
+    let f = c .before .before .before .before .before .before in
+    (refl, refl, f .fill-tables .ensures, start _ _ _ _ _ _ _ _ _ (begin (f .before) .pre .0), c .refresh .ensures .0, c .refresh .ensures .1)
 
 sub-if1 : tie.Need-sub-if1 Inv-loop μ-loop
 sub-if1 c = c .before .loop .inv .3 .fits
@@ -157,7 +176,7 @@ enter-requires c κs =
     let n = decided (k .before .before) in
     let d = touches k .decides in (
       (is-legal n, named-at n ∙ ap (λ (x : Command). linkAt (looped n .loop .q .links) (numberOf x)) (k .command2 .given .1)),
-      (d .reply, touch-setters d (g .setters .ensures)),
+      ((_, d), touch-setters d (g .setters .ensures)),
     )
 
 decide-line-requires : tie.Need-decide-line-requires Inv-loop μ-loop
@@ -177,7 +196,7 @@ parts c = c .before .before .before .before .before
 
 -- the step changes setters
 abbrev changes : tie.After-path4 Inv-loop μ-loop → tie.After-stay-levels Inv-loop μ-loop
-changes c = c .before .before .before
+changes c = c .before .before
 
 abbrev tail-at : tie.After-old Inv-loop μ-loop → List ℕ
 tail-at c = tailOf (read c .read-line .result)
@@ -247,12 +266,12 @@ reverse-requires c κs =
 
 -- the panel after the line, and its tables
 abbrev joined : tie.Joined2 Inv-loop μ-loop → tie.At-match-came Inv-loop μ-loop
-joined j = met (parts (j .before .before))
+joined j = met (parts (j .before))
 
 taken : (j : tie.Joined2 Inv-loop μ-loop) → let t = j .if2 in Taken (after-of (joined j)) (t .q) (t .levels) (t .others) (t .reads)
 taken j =
     let m = joined j in
-    let l = j .before .before .stay-levels .ensures in
+    let l = j .before .stay-levels .ensures in
     ⊎-elim
     (λ w. rw (w .6, w .7, w .8, w .9) (taken-reversed (takes-at m) (legal-after m) (w .5 .ensures .0) (w .5 .ensures .1)))
     (λ w. rw (w .1, w .2, w .3, w .4)
@@ -275,23 +294,23 @@ met-again c = joined (c .before)
 other : (c : tie.At-match3-keys2 Inv-loop μ-loop) → OneOf (0 ∷ 1 ∷ 2 ∷ 3 ∷ 4 ∷ 6 ∷ 7 ∷ 8 ∷ []) (tagOf the-type (command-of (joined (c .before) .before)))
 other c = subst (λ (x : Command). OneOf (0 ∷ 1 ∷ 2 ∷ 3 ∷ 4 ∷ 6 ∷ 7 ∷ 8 ∷ []) (tagOf the-type x)) (same-command (joined (c .before))) (c .match3 .keys2)
 
-rest-is : (c : tie.At-match3-came Inv-loop μ-loop) → let m = met-again c in let n = m .before in
-    AnswerRest (sheet-of n) (numberOf (command-of n)) (command-of n) (tail-at n) (m .match .rows) (m .match .values) (c .match3 .reply)
+rest-is : (c : tie.At-match3-came Inv-loop μ-loop) → let m = met-again c in let n = m .before in let t = c .match3 in
+    AnswerRest (sheet-of n) (numberOf (command-of n)) (command-of n) (tail-at n) (m .match .rows) (m .match .values) (counted (t .reply) (redrawnBy (t .turned) (m .match .step .revalued) (t .q)))
 rest-is c =
     let m = met-again c in
     let n = m .before in
     ⊎-elim
-    (λ w. rw (w .13)
+    (λ w. rw (w .9, w .14, w .15)
     (changed-rest (sheet-of n) (command-of n) (tail-at n) _ _ _ _ (stepped m) _ _ (sym (same-command m) ∙ w .1 .given .1) _ (taken (c .before) .panel) _ _ _ _ _ (w .6 .result)
     (w .6 .ensures)))
-    (λ w. rw (w .6) (step-panel (command-of n) (other (record { before = c .before; match3 = w .0 })) (stepped m) .1)) (c .match3 .came)
+    (λ w. rw (w .1 ∙ taken (c .before) .panel, w .6, w .7) (step-panel (command-of n) (other (record { before = c .before; match3 = w .0 })) (stepped m) .1)) (c .match3 .came)
 
 panel-is : (c : tie.At-match3-came Inv-loop μ-loop) → let n = met-again c .before in c .match3 .q ≡ commandAnswer (sheet-of n) (command-of n) (tail-at n) .state .panel
 panel-is c =
     let m = met-again c in
     let n = m .before in
     ⊎-elim
-    (λ w. w .8
+    (λ w. w .9
     ∙ changed-panel (sheet-of n) (command-of n) (tail-at n) _ _ _ _ (stepped m) _ _ (sym (same-command m) ∙ w .1 .given .1) _ (taken (c .before) .panel) _ _ _ _ _ (w .6 .result)
     (w .6 .ensures))
     (λ w. w .1 ∙ taken (c .before) .panel ∙ step-panel (command-of n) (other (record { before = c .before; match3 = w .0 })) (stepped m) .0) (c .match3 .came)
@@ -301,10 +320,52 @@ tabled-is c =
     let m = met-again c in
     let n = m .before in
     ⊎-elim
-    (λ w. rw (w .8, w .10, w .11, w .12)
+    (λ w. rw (w .9, w .11, w .12, w .13)
     (changed-tabled (sheet-of n) (command-of n) (tail-at n) _ _ _ _ (stepped m) _ _ (sym (same-command m) ∙ w .1 .given .1) _ (taken (c .before) .panel) _ _ _ _ _ (w .6 .result)
     (w .6 .ensures)))
     (λ w. rw (w .1, w .3, w .4, w .5) (taken (c .before) .tabled)) (c .match3 .came)
+
+legal-is : (c : tie.At-match3-came Inv-loop μ-loop) → Legal (c .match3 .q)
+legal-is c =
+    let n = met-again c .before in
+    subst Legal (sym (panel-is c)) (answer-legal (sheet-of n) (command-of n) (tail-at n) (is-legal n) .panel)
+
+-- ---- the count, and the kept tables
+
+below-requires-2 : tie.Need-below-requires-2 Inv-loop μ-loop
+below-requires-2 c κs =
+    let k = c .before in
+    let e = k .before .before .before .before .before in
+    let m = joined (e .before .before) in
+    let n = m .before in
+    let is = changed-panel (sheet-of n) (command-of n) (tail-at n) _ _ _ _ (stepped m) _ _ (sym (same-command m) ∙ e .enum-told .given .1) _ (taken (e .before .before) .panel) _ _ _ _ _
+    (k .changed .result) (k .changed .ensures) in
+    subst Legal (sym is) (answer-legal (sheet-of n) (command-of n) (tail-at n) (is-legal n) .panel) .few
+
+-- the reads may differ from those that are kept in the fields that got another setter; after a change in any
+stale-is : (c : tie.At-match3-came Inv-loop μ-loop) → let l = looped (met-again c .before) .loop in let t = c .match3 in
+    Stale (t .q .size) (t .stale) (t .reads) (l .reads) (l .readers) (l .down)
+stale-is c =
+    let m = met-again c in
+    let n = m .before in
+    let l = looped n .loop in
+    let p = is-legal n .panel in
+    let t = taken (c .before) in
+    ⊎-elim
+    (λ w. rw (w .16, w .8 .ensures, ← w .9)
+    (stale-change p (legal-is c) (subst (Sizes (l .q)) (sym (panel-is c)) (answer-sizes (sheet-of n) (command-of n) (tail-at n))) (l .inv .2) (l .inv .5) (tabled-is c)))
+    (λ w. rw (w .8)
+    (subst (λ (q : Panel). Stale (q .size) (m .match .step .changed) (c .match3 .reads) (l .reads) (l .readers) (l .down)) (sym (w .1 ∙ t .panel))
+    (stale-step p (legal-after m) (step-sizes (sheet-of n) (tail-at n) (command-of n)) (l .inv .2) (l .inv .5)
+    (subst (λ (q : Panel). Tabled q (c .match3 .levels) (c .match3 .others) (c .match3 .reads)) (w .1 ∙ t .panel) (tabled-is c)) (takes-at m) (number-small (n .before)))))
+    (c .match3 .came)
+
+redraw-requires : tie.Need-redraw-requires Inv-loop μ-loop
+redraw-requires c κs =
+    let j = c .before .before .before .before in
+    let l = looped (met-again j .before) .loop in
+    let k = stale-is j in
+    rw (l .inv .4) ((k .kept, k .full, k .among, k .loopless), (k .low, k .differ))
 
 -- ---- what one line does
 
@@ -312,57 +373,74 @@ tabled-is c =
 abbrev line-of : tie.After-old Inv-loop μ-loop → List ℕ
 line-of c = let l = looped c in take (ended c .line-end .result - l .loop .at) (drop (l .loop .at) (text-of l))
 
-abbrev reply-of : tie.At-match3-came Inv-loop μ-loop → List ℕ
-reply-of j = let m = met-again j in wholeReply (command-of (m .before)) (j .match3 .reply) (m .match .rows)
+-- the count is taken
+abbrev settled : tie.After-redraw Inv-loop μ-loop → tie.At-match3-came Inv-loop μ-loop
+settled c = c .before .before .before .before .before
+
+abbrev met-then : tie.After-redraw Inv-loop μ-loop → tie.At-match-came Inv-loop μ-loop
+met-then c = met-again (settled c)
+
+abbrev reply-of : tie.After-redraw Inv-loop μ-loop → List ℕ
+reply-of j = let m = met-then j in wholeReply (command-of (m .before)) (j .redraw .result) (m .match .rows)
+
+counted-is : (c : tie.After-redraw Inv-loop μ-loop) → let m = met-then c in let n = m .before in
+    AnswerRest (sheet-of n) (numberOf (command-of n)) (command-of n) (tail-at n) (m .match .rows) (m .match .values) (c .redraw .result)
+counted-is c =
+    let j = settled c in
+    let t = j .match3 in
+    let m = met-then c in
+    let n = m .before in
+    subst (AnswerRest (sheet-of n) (numberOf (command-of n)) (command-of n) (tail-at n) (m .match .rows) (m .match .values))
+    (sym (c .redraw .ensures .0 ∙ ap (counted (t .reply)) (redrawn-is (legal-is j) (tabled-is j) (t .turned) (m .match .step .revalued)))) (rest-is j)
 
 -- the formulas afterwards
-abbrev turned : tie.After-rule-after-arg Inv-loop μ-loop → tie.At-match3-came Inv-loop μ-loop
+abbrev turned : tie.After-rule-after-arg Inv-loop μ-loop → tie.After-redraw Inv-loop μ-loop
 turned c = c .before .before .before
 
 mul-rule-after : tie.Need-mul-rule-after Inv-loop μ-loop
-mul-rule-after c = omega (arith, number-small (met-again (c .before .before) .before .before))
+mul-rule-after c = omega (arith, number-small (met-then (c .before .before) .before .before))
 
 element-copy-out-rule-after : tie.Need-element-copy-out-rule-after Inv-loop μ-loop
-element-copy-out-rule-after c = number-small (met-again (c .before .before) .before .before)
+element-copy-out-rule-after c = number-small (met-then (c .before .before) .before .before)
 
 rule-after-requires : tie.Need-rule-after-requires Inv-loop μ-loop
-rule-after-requires c κs = framed-at (met-again (turned c) .before)
+rule-after-requires c κs = framed-at (met-then (turned c) .before)
 
-mul-t100 : tie.Need-mul-t100 Inv-loop μ-loop
-mul-t100 c = omega (arith, number-small (met-again (turned (c .before)) .before .before))
+mul-t117 : tie.Need-mul-t117 Inv-loop μ-loop
+mul-t117 c = omega (arith, number-small (met-then (turned (c .before)) .before .before))
 
 element-set-from-formulas : tie.Need-element-set-from-formulas Inv-loop μ-loop
-element-set-from-formulas c = number-small (met-again (turned (c .before)) .before .before)
+element-set-from-formulas c = number-small (met-then (turned (c .before)) .before .before)
 
-abbrev ruled : tie.Joined3 Inv-loop μ-loop → tie.At-match3-came Inv-loop μ-loop
+abbrev ruled : tie.Joined3 Inv-loop μ-loop → tie.After-redraw Inv-loop μ-loop
 ruled c = c .before .before
 
 -- with the formula that the line leaves the link of number k
-abbrev ruledBy : tie.At-match3-came Inv-loop μ-loop → ℕ → Formulas
+abbrev ruledBy : tie.After-redraw Inv-loop μ-loop → ℕ → Formulas
 ruledBy j k =
-    let n = met-again j .before in
+    let n = met-then j .before in
     let l = looped n .loop in
-    withFormula (l .formulas) k (formulaAfter (command-of n) (tail-at n) (j .match3 .reply) (linkAt (l .q .links) k .covered) (formulaAt (l .formulas) k))
+    withFormula (l .formulas) k (formulaAfter (command-of n) (tail-at n) (j .redraw .result) (linkAt (l .q .links) k .covered) (formulaAt (l .formulas) k))
 
-rule-at : (c : tie.Joined3 Inv-loop μ-loop) → c .if3 .formulas ≡ ruledBy (ruled c) (met-again (ruled c) .before .before .wide .result)
+rule-at : (c : tie.Joined3 Inv-loop μ-loop) → c .if3 .formulas ≡ ruledBy (ruled c) (met-then (ruled c) .before .before .wide .result)
 rule-at c =
     let j = ruled c in
-    let m = met-again j in
+    let m = met-then j in
     let n = m .before in
     let k = n .before .wide .result in
     ⊎-elim (λ w. w .3 ∙ ap (withFormula (looped n .loop .formulas) k) (w .2 .ensures))
-    (λ w. w .1 ∙ formulas-same (sheet-of n) k (command-of n) (tail-at n) (j .match3 .reply) _
+    (λ w. w .1 ∙ formulas-same (sheet-of n) k (command-of n) (tail-at n) (j .redraw .result) _
     (ap setsFormula (sym (same-command m)) ∙ sym (c .before .sets-formula .ensures) ∙ w .0 .left)) (c .if3 .came)
 
-rule-is : (c : tie.Joined3 Inv-loop μ-loop) → c .if3 .formulas ≡ ruledBy (ruled c) (numberOf (command-of (met-again (ruled c) .before)))
-rule-is c = rule-at c ∙ ap (ruledBy (ruled c)) (number-is (met-again (ruled c) .before))
+rule-is : (c : tie.Joined3 Inv-loop μ-loop) → c .if3 .formulas ≡ ruledBy (ruled c) (numberOf (command-of (met-then (ruled c) .before)))
+rule-is c = rule-at c ∙ ap (ruledBy (ruled c)) (number-is (met-then (ruled c) .before))
 
-line-does : (c : tie.Joined3 Inv-loop μ-loop) → let j = ruled c in let m = met-again j in let n = m .before in
-    Did lineAnswer LegalSheet (sheet-of n) (line-of n) (sheetOf (j .match3 .q) (c .if3 .formulas) (m .match .values)) (reply-of j)
+line-does : (c : tie.Joined3 Inv-loop μ-loop) → let j = ruled c in let m = met-then j in let n = m .before in
+    Did lineAnswer LegalSheet (sheet-of n) (line-of n) (sheetOf (settled j .match3 .q) (c .if3 .formulas) (m .match .values)) (reply-of j)
 line-does c =
     let j = ruled c in
-    let n = met-again j .before in
-    did (sheet-of n) (line-of n) _ (tail-at n) (read n .read-line .ensures .bytes) _ _ _ _ (rest-is j) _ (panel-is j) _ (rule-is c) (is-legal n)
+    let n = met-then j .before in
+    did (sheet-of n) (line-of n) _ (tail-at n) (read n .read-line .ensures .bytes) _ _ _ _ (counted-is j) _ (panel-is (settled j)) _ (rule-is c) (is-legal n)
 
 -- the scan of the line: before a change none was made
 unscanned : (c : tie.At-match-came Inv-loop μ-loop) (id level : ℕ) → command-of (c .before) ≡ Change id level → c .match .worked ≡ looped (c .before) .loop .worked
@@ -378,7 +456,7 @@ scans c =
     ⊎-elim
     (λ w.
     let is = sym (same-command m) ∙ w .1 .given .1 in
-    w .9 ∙ changed-worked (sheet-of n) (command-of n) (tail-at n) _ _ _ _ (stepped m) _ _ is _ (taken (c .before) .panel) _ _ _ _ _ (w .6 .result) (w .6 .ensures) (line-of n) framed
+    w .10 ∙ changed-worked (sheet-of n) (command-of n) (tail-at n) _ _ _ _ (stepped m) _ _ is _ (taken (c .before) .panel) _ _ _ _ _ (w .6 .result) (w .6 .ensures) (line-of n) framed
     ∙ ap (λ (b : ℕ). lineScan b (sheet-of n) (line-of n)) (unscanned m _ _ is))
     (λ v.
     let not-change = other (record { before = c .before; match3 = v .0 }) in
@@ -388,21 +466,21 @@ scans c =
     (λ w. w .9 ∙ no-scan (l .worked) (sheet-of n) (line-of n) (command-of n) (tail-at n) framed (w .0 .keys2) not-change)) (m .match .came))
     (c .match3 .came)
 
-is-written : (j : tie.At-match3-came Inv-loop μ-loop) → let m = met-again j in wholeReply (m .match .command) (j .match3 .reply) (m .match .rows) ≡ reply-of j
-is-written j = let m = met-again j in ap (λ (k : Command). wholeReply k (j .match3 .reply) (m .match .rows)) (same-command m)
+is-written : (j : tie.After-redraw Inv-loop μ-loop) → let m = met-then j in wholeReply (m .match .command) (j .redraw .result) (m .match .rows) ≡ reply-of j
+is-written j = let m = met-then j in ap (λ (k : Command). wholeReply k (j .redraw .result) (m .match .rows)) (same-command m)
 
 slice-aggregate-put-reply : tie.Need-slice-aggregate-put-reply Inv-loop μ-loop
-slice-aggregate-put-reply c = sym (stepped (met-again (ruled (c .before .before))) .rows-full)
+slice-aggregate-put-reply c = sym (stepped (met-then (ruled (c .before .before))) .rows-full)
 
 put-reply-requires : tie.Need-put-reply-requires Inv-loop μ-loop
 put-reply-requires c κs =
     let j = ruled (c .before .before) in
-    let m = met-again j in
+    let m = met-then j in
     let l = looped (m .before) in
-    let few = ap (λ (k : Command). restOf k (j .match3 .reply)) (same-command m) in
-    let rest = rest-is j .rest in
-    let short = reply-short (m .match .command) (j .match3 .reply) (m .match .rows) (omega (arith, few, rest)) in
-    (omega (arith, few, rest, stepped m .rows-full), omega (arith, short, l .loop .inv .3 .fits, begin (l .before .before) .pre .1))
+    let few = ap (λ (k : Command). restOf k (j .redraw .result)) (same-command m) in
+    let rest = counted-is j .rest in
+    let short = reply-short (m .match .command) (j .redraw .result) (m .match .rows) (omega (arith, few, rest)) in
+    (omega (arith, few, rest, stepped m .rows-full), omega (arith, short, l .loop .inv .3 .fits, begin (filled l) .pre .1))
 
 -- the reply is written, and its refusal told
 abbrev step-taken : tie.After-put-reply Inv-loop μ-loop → tie.Joined3 Inv-loop μ-loop
@@ -413,7 +491,7 @@ replied c = c .before .before .before
 
 loop-less : tie.Need-loop-less Inv-loop μ-loop
 loop-less c =
-    let e = ended (met-again (ruled (step-taken (replied (c .before .before)))) .before) in
+    let e = ended (met-then (ruled (step-taken (replied (c .before .before)))) .before) in
     let l = e .before .before .before in
     omega (arith, c .behind .ensures, behind-on (text-of l) (l .loop .at) (e .line-end .result) (e .before .before .loop-test .taken) (e .line-end .ensures), ends e)
 
@@ -422,19 +500,21 @@ loop-again c =
     let r = replied (c .before .before) in
     let t = step-taken r in
     let j = ruled t in
-    let m = met-again j in
+    let m = met-then j in
     let n = m .before in
     let l = looped n .loop in
     let e = ended n in
     let w = r .put-reply .ensures in (
       stepped m .rows-full,
       stepped m .takes .path-of .full,
-      tabled-is j,
+      tabled-is (settled j),
       line-done _ _ _ _ _ _ _ _ _ _ _ (l .inv .3) (e .before .before .loop-test .taken) (leb-true _ _ (e .before .if1 .taken)) (e .line-end .result) (e .line-end .ensures)
           (line-of n) refl _ _ (reply-of j) (line-does t)
           (w .0 ∙ ap (λ (b : List ℕ). sets (l .out) (l .n) (lineOf b)) (is-written j)) (w .1 ∙ ap (λ (b : List ℕ). l .n + length (lineOf b)) (is-written j))
-          (c .before .tallied-line .ensures ∙ ap (tallied (l .t)) (c .before .before .refusal-of .ensures ∙ rows-tell-none (command-of n) (j .match3 .reply) (m .match .rows))) (c .behind .ensures)
-          (scans j),
+          (c .before .tallied-line .ensures ∙ ap (tallied (l .t)) (c .before .before .refusal-of .ensures ∙ rows-tell-none (command-of n) (j .redraw .result) (m .match .rows))) (c .behind .ensures)
+          (scans (settled j)),
+      j .redraw .ensures .1 .0,
+      j .redraw .ensures .1 .1,
     )
 
 same-length : tie.Need-same-length Inv-loop μ-loop
@@ -454,6 +534,8 @@ answer-lines-spec =
     Inv-loop
     μ-loop
     fill-tables-requires
+    below-requires
+    refresh-requires
     loop-holds
     sub-if1
     (λ c κs. search needs)
@@ -478,11 +560,13 @@ answer-lines-spec =
     reverse-requires
     (λ c. search needs)
     changed-requires
+    below-requires-2
+    redraw-requires
     (λ c κs. search needs)
     mul-rule-after
     element-copy-out-rule-after
     rule-after-requires
-    mul-t100
+    mul-t117
     element-set-from-formulas
     slice-aggregate-put-reply
     put-reply-requires
