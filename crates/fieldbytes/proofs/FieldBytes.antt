@@ -14,9 +14,9 @@ use lib.ListN.{length, drop, drop-of-length-le}
 use lib.Pow.{pow-pos}
 use lib.Seq.{drop-cons}
 use Rattle.fieldset.specs.Tables.{at}
-use Rattle.fieldset.specs.Fields.{member, with, without, union, below, size, within}
+use Rattle.fieldset.specs.Fields.{member, with, union, below, size, within}
 use Rattle.fieldset.proofs.Numbers.{clash, any-here, any-cong}
-use Rattle.fieldset.proofs.Fields.{ext-member, member-empty, member-with, member-with-same, member-with-other, member-without-same, member-without-other, member-union, member-below, with-lt, without-lt, union-lt, size-empty, size-with, within-true}
+use Rattle.fieldset.proofs.Fields.{ext-member, member-empty, member-with, member-with-same, member-with-other, member-union, member-below, with-lt, union-lt, size-empty, size-with, within-true}
 use Rattle.fieldset.proofs.Tests.{and-left, and-right, not-or}
 use Rattle.panel.specs.Commands.{fieldOf, isOutput, hasBit6, anyOf, fieldsIn, coveredIn, outputsIn, isRising, areFieldBytes}
 use Rattle.panel.proofs.Checks.{field-small, fields-lt}

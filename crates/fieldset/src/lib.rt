@@ -1,10 +1,7 @@
 // A set of fields as one u64, bit i for field i.
 ghost use mathlib.Core.Path.{_≡_};
-ghost use mathlib.Core.Bool.{not};
 ghost use Prim.Native.Nat.{_≤_, _<_};
-ghost use lib.Dec.{eqb};
-ghost use Rattle.fieldset.specs.Tables.{at};
-ghost use Rattle.fieldset.specs.Fields.{member, setOf, with, without, union, meets, within, only, below, lowestOf, First, minus, size};
+ghost use Rattle.fieldset.specs.Fields.{member, with, without, union, meets, within, only, below, lowestOf, First, minus, size};
 
 // The same number, wider.
 pub fn wide(x: u8) -> usize
@@ -109,20 +106,4 @@ pub fn size(m: u64) -> usize
     ensures { λ r. ⌜ r ≡ size m ⌝ }
 {
     u64::count_ones(m) as usize
-}
-
-// Those of the first n fields whose sets in a table are not empty.
-pub fn nonempty(sets: &[u64; 64], n: usize) -> u64
-    requires { ⌜ n ≤ 64 ⌝ }
-    ensures { λ r. ⌜ r ≡ setOf (λ f. not (eqb (at (now (sets .entry)) f) 0)) n ⌝ }
-{
-    let mut set = 0u64;
-    let mut f: usize = 0;
-    while f < n {
-        if sets[f] != 0 {
-            set = with(set, f);
-        }
-        f += 1;
-    }
-    set
 }

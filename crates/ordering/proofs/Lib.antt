@@ -2,6 +2,5 @@
 pub mod Sets
 pub mod Plan
 pub mod Loops
-pub mod Passes
 pub mod Readers
 pub mod Planning

@@ -15,7 +15,6 @@ use Rattle.fieldset.specs.Fields.{member, with}
 use Rattle.fieldset.proofs.Numbers.{clash, but, count-cong, count-none, count-but, count-le, any-found, any-false}
 use Rattle.ordering.specs.Order.{following, order, hasLoop}
 use Rattle.ordering.specs.Walks.{Read, Walk, one, more, ClosedWalk, Inside}
-use Rattle.ordering.specs.Steps.{Stuck}
 use Rattle.fieldset.proofs.Tests.{and-left, and-right, and-both}
 use Rattle.ordering.proofs.Sets.{within-not}
 use Rattle.ordering.proofs.Plan.{able, Lists, Stops, step, unlisted?, unlisted-step, unlisted-all, length-no-loop, no-loop-ranked, rankOf}
@@ -67,6 +66,10 @@ module _ (s : ℕ → ℕ) (n : ℕ) (low : (i : ℕ) → s i < n) where
       go (inr c) = absurd (omega (arith, count-le (hit (suc n)) n))
 
 -- ---- stuck fields have a closed walk
+
+-- every field that passes the test reads one that passes it
+pub record Stuck (reads : ℕ → ℕ) (test : ℕ → Bool) : Type 0 where
+  pub reads-one : (f : ℕ) → test f ≡ true → (g : ℕ) × (g < 64) × (member (reads f) g ≡ true) × (test g ≡ true)
 
 -- some of n fields, each of which reads one of them
 pub record StuckFields (reads : ℕ → ℕ) (n : ℕ) : Type 0 where
@@ -158,7 +161,7 @@ module _ (reads : ℕ → ℕ) (n : ℕ) (a : Inside reads n) where
           lists (inr t) = inr t
       go (inr s) ih = stops (any (unlisted? L) n) refl s
 
-  pub loop-stuck : hasLoop reads n ≡ true → StuckFields reads n
+  loop-stuck : hasLoop reads n ≡ true → StuckFields reads n
   unfolding order
   loop-stuck e = go (following-stuck n 0 (omega (arith, unlisted-all n)))
     where
@@ -196,7 +199,3 @@ ranked-no-loop reads n rank a h = go (hasLoop reads n) refl
     go : (b : Bool) → hasLoop reads n ≡ b → b ≡ false
     go true e = absurd (ranked-no-walk reads n rank h (loop-walk reads n a e))
     go false e = refl
-
--- stuck fields are a loop
-pub stuck-loop : (reads : ℕ → ℕ) (n : ℕ) → n ≤ 64 → StuckFields reads n → hasLoop reads n ≡ true
-stuck-loop reads n few s = walk-loop reads n few (stuck-walk reads n s)

@@ -2,64 +2,19 @@
 use fieldset::below;
 use fieldset::first;
 use fieldset::meets;
-use fieldset::nonempty;
 use fieldset::union;
 use fieldset::with;
 use fieldset::without;
 use fieldset::without_lowest;
 ghost use mathlib.Core.Path.{_≡_};
-ghost use mathlib.Core.Bool.{cond};
 ghost use mathlib.Core.List.{_++_};
 ghost use Prim.Native.Nat.{_≤_, _<_};
 ghost use lib.ListN.{length, drop};
 ghost use Rattle.fieldset.specs.Tables.{at};
-ghost use Rattle.fieldset.specs.Fields.{meets, with, without};
-ghost use Rattle.ordering.specs.Order.{order, hasLoop};
+ghost use Rattle.fieldset.specs.Fields.{with};
+ghost use Rattle.ordering.specs.Order.{order};
 ghost use Rattle.ordering.specs.Walks.{Among};
-ghost use Rattle.ordering.specs.Steps.{Passed, Changed, Readers, readyOf};
-
-// What is left of a set when f, which reads `reads`, is listed where it can be.
-fn listed(left: u64, f: usize, reads: u64) -> u64
-    requires { ⌜ f < 64 ⌝ }
-    ensures { λ r. ⌜ r ≡ cond (meets reads left) left (without left f) ⌝ }
-{
-    if meets(reads, left) {
-        left
-    } else {
-        without(left, f)
-    }
-}
-
-// One pass in rising order: lists each field of the set that reads nothing of what is left.
-fn pass(set: u64, reads: &[u64; 64]) -> u64
-    ensures { λ r. ⌜ Passed (at (now (reads .entry))) set r ⌝ }
-{
-    let mut left = set;
-    let mut rest = set;
-    while rest != 0 {
-        let f = first(rest);
-        left = listed(left, f, reads[f]);
-        rest = without_lowest(rest);
-    }
-    left
-}
-
-// Whether the reads of the first n fields have a loop: passes list what they can, until all fields are listed or a pass lists none.
-// A field that reads nothing is in no loop.
-pub fn has_loop(reads: &[u64; 64], n: usize) -> bool
-    requires { ⌜ Among (now reads) n ⌝ }
-    ensures { λ r. ⌜ r ≡ hasLoop (at (now (reads .entry))) n ⌝ }
-{
-    let mut left = nonempty(reads, n);
-    while left != 0 {
-        let next = pass(left, reads);
-        if next == left {
-            return true;
-        }
-        left = next;
-    }
-    false
-}
+ghost use Rattle.ordering.specs.Steps.{Changed, Readers, readyOf};
 
 // Enters the field f into the set of readers of each field of `reads`.
 pub fn enter_readers(f: usize, reads: u64, readers: &mut [u64; 64])
