@@ -1,20 +1,18 @@
 -- What the tests of changed values mean: two values differ exactly when they are not equal (`differ-exactly`), and the set of fields whose values
 -- changed has exactly those whose values are not equal (`member-revalued`).
-use Prim.Native.Nat.{ℕ, _^_, _≤_, _<_}
+use Prim.Native.Nat.{ℕ, _<_}
 use mathlib.Core.Path.{_≡_, refl, sym, ap, _∙_}
 use mathlib.Core.Bool.{Bool, true, false, _||_}
 use mathlib.Core.List.{List}
 use mathlib.Core.Logic.{_≢_, _↔_}
-use native.Mathlib.Nat.{lt-of-lt-of-le}
 use native.Mathlib.Omega.{arith}
-use borrow.Author.Tests.{lt-ltb, le-ltb, ltb-true, ltb-false}
+use borrow.Author.Tests.{le-ltb, ltb-true, ltb-false}
 use lib.Dec.{ltb}
 use lib.IntN.{ℤ, pos, negsuc}
-use lib.Pow.{pow-mono}
 use Rattle.fieldset.specs.Fields.{member}
 use Rattle.fieldset.proofs.Tests.{and-left, and-right}
 use Rattle.fieldset.proofs.Numbers.{clash}
-use Rattle.fieldset.proofs.Fields.{setOf-lt, member-setOf, member-setOf-lt}
+use Rattle.fieldset.proofs.Fields.{member-setOf, member-setOf-lt}
 use Rattle.values.specs.Limits.{valueAt}
 use Rattle.values.specs.Changes.{differ, revalued}
 
@@ -60,7 +58,3 @@ module _ (n : ℕ) (before after : List ℤ) where
     where
       other : ℕ → Bool
       other f = differ (valueAt before f) (valueAt after f)
-
-  pub revalued-lt : n ≤ 64 → revalued n before after < 2 ^ 64
-  unfolding revalued
-  revalued-lt few = lt-of-lt-of-le (setOf-lt _ n) (pow-mono few)
