@@ -47,8 +47,8 @@ example : (holds ≡ pair (stay 1) 1 ∷ pair (link 0) 0 ∷ pair (stay 2) 2 ∷
     × (run .store .stays ≡ 1 ∷ 0 ∷ 2 ∷ [])
     × (map held-up-to (0 ∷ 15 ∷ 16 ∷ 17 ∷ 18 ∷ []) ≡ 1 ∷ 1 ∷ 2 ∷ 2 ∷ 3 ∷ [])
 unfolding count any lowest tabulate member setOf with without only within greatest strength lowestAt strongest path next following order
-    hasLoop setterOf isInForce opened toFront strengthOf isBlocked pathFor reversed planOf isLooped rowsOf reverseStep enterStep touchStep planStep anyOf
-    fieldsIn isRising areFieldBytes checked passing place strike countUpTo rows held stepped after
+    hasLoop setterOf isInForce opened toFront strengthOf isBlocked pathFor reversed planOf isLooped rowsOf reverseStep enterStep touchStep planStep
+    anyOf fieldsIn isRising areFieldBytes checked passing place strike countUpTo rows held stepped after
 example = (refl, refl, refl)
 
 -- ---- choices and loops
