@@ -81,6 +81,7 @@ unfolding refusalOf
 command-other s (solving c) = panel-other (s .panel) c
 command-other s (entering f v) =
     entering-reply (λ b. refusalOf b ≢ 0x01) s f v (panel-other (s .panel) (touching f)) (λ e. omega arith) (λ e. omega arith)
+    (λ m l e. omega arith)
 command-other s (relating id formula) =
     checks-reply (λ b. refusalOf b ≢ 0x01) (formulaChecks (s .panel) id formula)
     (λ e. omega arith, (λ e. omega arith, (λ e. omega arith, (λ e. omega arith, (λ e. omega arith, tt))))) (λ e. omega arith)

@@ -13,23 +13,24 @@ use lib.IntN.{ℤ}
 use lib.ListN.{length, getD, drop}
 use Rattle.fieldset.specs.Tables.{at}
 use Rattle.fieldset.specs.Lists.{In, All}
-use Rattle.fieldset.proofs.Numbers.{clash, count-le}
+use Rattle.fieldset.proofs.Numbers.{clash}
 use Rattle.fieldset.proofs.Tests.{and-left}
+use Rattle.fieldset.proofs.Fields.{size-le}
 use Rattle.fieldset.proofs.Lists.{Whole}
 use Rattle.panel.specs.declared.Panel.{Panel}
 use Rattle.panel.specs.declared.Refusal.{Refusal}
 use Rattle.panel.specs.declared.Refusal.the-variants.{BadHex, BadFrame, AlreadyOpen, NotOpen, BadSize, BadLink, NoSuchField, LinkTaken, NoSuchLink, Conflict, Loop, TextTooLong, OutOfRange, FieldDriven, BadFormula, BadHeader, UnclearUnit, FlowCount}
 use Rattle.panel.specs.Items.{Item, link, stay, inForce}
 use Rattle.panel.specs.Answers.{Answer, refusalBytes}
-use Rattle.panel.specs.Panels.{opened, moved}
+use Rattle.panel.specs.Panels.{opened}
 use Rattle.panel.specs.Solution.{level, strengthOf, planOf, rowsOf}
+use Rattle.panel.specs.Moved.{moved}
 use Rattle.panel.specs.Commands as panel
 use Rattle.panel.specs.Commands.{opening, adding, removing, touching, planning, changing, checkReply}
 use Rattle.panel.specs.Legal.{Legal}
 use Rattle.panel.proofs.Legal.{force-formed}
 use Rattle.panel.proofs.Setters.{whole, setter-force}
 use Rattle.panel.proofs.Changes.{legal-opened}
-use Rattle.panel.proofs.Performed.{legal-performed}
 use Rattle.optimality.proofs.Graphs.{settersOf, legal-whole, strength-least}
 use Rattle.optimality.proofs.Held.{plan-whole}
 use Rattle.optimality.proofs.Answers.{Outcome, OfChecks, opening-outcome, adding-outcome, changing-outcome, removing-outcome, touching-outcome, planning-outcome}
@@ -79,11 +80,9 @@ bad-hex-reply offset h = record { form = Form.badHex offset refl; bytes = (omega
 count-reply : (kind m : ℕ) → Counts kind → m ≤ 64 → IsReply kind (0x00 ∷ m ∷ [])
 count-reply kind m k l = record { form = Form.count m k l; bytes = (omega arith, (omega arith, tt)) }
 
-moved-reply : (kind : ℕ) (p q : Panel) → Counts kind → q .size ≤ 64 → IsReply kind (0x00 ∷ moved p q ∷ [])
+moved-reply : (kind : ℕ) (p q : Panel) → Counts kind → IsReply kind (0x00 ∷ moved p q ∷ [])
 unfolding moved
-moved-reply kind p q k l =
-    let fields : moved p q ≤ q .size = count-le _ (q .size) in
-    count-reply kind (moved p q) k (omega arith)
+moved-reply kind p q k = count-reply kind (moved p q) k (size-le _)
 
 -- ---- plans
 
@@ -160,13 +159,12 @@ module _ (p : Panel) (h : Legal p) where
   abbrev Refuses : ℕ → Refusal → Type 0
   Refuses kind r = IsReply kind (0xFF ∷ refusalBytes r)
 
-  -- the panel after a command has at most 64 fields
   abbrev Tells : ℕ → Panel → List ℕ → Type 0
-  Tells kind q bytes = q .size ≤ 64 → IsReply kind (0x00 ∷ bytes)
+  Tells kind q bytes = IsReply kind (0x00 ∷ bytes)
 
-  told : (kind : ℕ) (a : Answer) → Outcome (Refuses kind) (Tells kind) p a → a .panel .size ≤ 64 → IsReply kind (a .reply)
-  told kind a (Outcome.no r x) l = x
-  told kind a (Outcome.yes q bytes x) l = x l
+  told : (kind : ℕ) (a : Answer) → Outcome (Refuses kind) (Tells kind) p a → IsReply kind (a .reply)
+  told kind a (Outcome.no r x) = x
+  told kind a (Outcome.yes q bytes x) = x
 
   early : (kind : ℕ) (r : Refusal) → OfChecks r → Refuses kind r
   early kind r l = refusal-reply kind r (omega arith) (omega arith)
@@ -174,26 +172,26 @@ module _ (p : Panel) (h : Legal p) where
   -- a touch, whatever kind of frame asks for it
   touch-outcome : (kind : ℕ) → Counts kind → (f : ℕ) → Outcome (Refuses kind) (Tells kind) p (panel.performed p (touching f))
   touch-outcome kind k f =
-      touching-outcome _ _ p (early kind) (λ q l. moved-reply kind p q k l) (refusal-reply kind Loop (omega arith) (omega arith)) f
+      touching-outcome _ _ p (early kind) (λ q. moved-reply kind p q k) (refusal-reply kind Loop (omega arith) (omega arith)) f
 
   outcome : (c : panel.Command) → Outcome (Refuses (kindFor c)) (Tells (kindFor c)) p (panel.performed p c)
-  outcome (opening n) = opening-outcome _ _ p (early 0x01) (λ m l. count-reply 0x01 0 (inl (omega arith)) (omega arith)) n
+  outcome (opening n) = opening-outcome _ _ p (early 0x01) (λ m. count-reply 0x01 0 (inl (omega arith)) (omega arith)) n
   outcome (adding id level bytes) =
-      adding-outcome _ _ p (early 0x02) (λ q l. moved-reply 0x02 p q (inl (omega arith)) l) (refusal-reply 0x02 Loop (omega arith) (omega arith)) id level bytes
-      (λ e. refusal-reply 0x02 Conflict (omega arith) (omega arith))
+      adding-outcome _ _ p (early 0x02) (λ q. moved-reply 0x02 p q (inl (omega arith))) (refusal-reply 0x02 Loop (omega arith) (omega arith))
+      id level bytes (λ e. refusal-reply 0x02 Conflict (omega arith) (omega arith))
   outcome (removing id) =
-      removing-outcome _ _ p (early 0x03) (λ q l. moved-reply 0x03 p q (inl (omega arith)) l) (refusal-reply 0x03 Loop (omega arith) (omega arith)) id
+      removing-outcome _ _ p (early 0x03) (λ q. moved-reply 0x03 p q (inl (omega arith))) (refusal-reply 0x03 Loop (omega arith) (omega arith)) id
   outcome (touching f) = touch-outcome 0x04 (inl (omega arith)) f
   outcome (changing id level bytes) =
-      changing-outcome _ _ p (early 0x06) (λ q l. moved-reply 0x06 p q (inr (inl refl)) l) (refusal-reply 0x06 Loop (omega arith) (omega arith)) id level bytes
-      (λ e. refusal-reply 0x06 Conflict (omega arith) (omega arith))
-  outcome planning = planning-outcome _ _ p (early 0x05) (λ e l. plan-reply p h (ltb-true 0 (p .size) e))
+      changing-outcome _ _ p (early 0x06) (λ q. moved-reply 0x06 p q (inr (inl refl))) (refusal-reply 0x06 Loop (omega arith) (omega arith))
+      id level bytes (λ e. refusal-reply 0x06 Conflict (omega arith) (omega arith))
+  outcome planning = planning-outcome _ _ p (early 0x05) (λ e. plan-reply p h (ltb-true 0 (p .size) e))
 
   command-reply : (c : panel.Command) → IsReply (kindFor c) (panel.performed p c .reply)
-  command-reply c = told (kindFor c) (panel.performed p c) (outcome c) (legal-performed p c h .few)
+  command-reply c = told (kindFor c) (panel.performed p c) (outcome c)
 
   touch-reply : (kind : ℕ) → Counts kind → (f : ℕ) → IsReply kind (panel.performed p (touching f) .reply)
-  touch-reply kind k f = told kind (panel.performed p (touching f)) (touch-outcome kind k f) (legal-performed p (touching f) h .few)
+  touch-reply kind k f = told kind (panel.performed p (touching f)) (touch-outcome kind k f)
 
 -- ---- kinds 07 and 08
 
@@ -219,7 +217,7 @@ module _ (s : Sheet) (h : LegalSheet s) where
   entered-reply : (f : ℕ) (v : ℤ) → IsReply 0x07 (performed s (entering f v) .reply)
   entered-reply f v =
       entering-reply (IsReply 0x07) s f v (touch-reply (s .panel) (h .panel) 0x07 (inr (inr refl)) f) (value-reply 14 (omega arith) (omega arith))
-      (value-reply 13 (omega arith) (omega arith))
+      (value-reply 13 (omega arith) (omega arith)) (λ m l. count-reply 0x07 m (inr (inr refl)) l)
 
   -- a frame is answered as the command of its kind
   frame-reply : (bytes : List ℕ) → isFrame bytes ≡ true → IsReply (at bytes 0) (answered s bytes (commandOf bytes) .reply)

@@ -17,7 +17,7 @@ use Rattle.panel.specs.declared.Panel.{Panel}
 use Rattle.panel.specs.Items.{linkAt}
 use Rattle.panel.specs.Answers as answers
 use Rattle.panel.specs.Answers.{isRefusal}
-use Rattle.panel.specs.Panels.{moved}
+use Rattle.panel.specs.Moved.{moved}
 use Rattle.panel.specs.Steps.{changeStep}
 use Rattle.panel.specs.Commands as panel
 use Rattle.panel.specs.Commands.{changing, Passes, changeChecks, checkReply, coveredIn, outputsIn}

@@ -2,3 +2,4 @@ pub mod Values
 pub mod Solutions
 pub mod Lists
 pub mod Changes
+pub mod Redraws

@@ -77,7 +77,7 @@ sheet-sound b s (entering f v) x = go (entering-cases s f v)
   where
     go : Left s (performed s (entering f v)) ⊎ Stored s f v (performed s (entering f v)) → SoundAfter b (store.entered b (touching f)) (performed s (entering f v))
     go (inl l) = rw (l .refusal, l .same) x
-    go (inr a) = subst (SoundAfter b (store.entered b (touching f))) (sym (a .is)) (performed-sound b (s .panel) (touching f) x)
+    go (inr a) = subst (SoundAfter b (store.entered b (touching f))) (sym (a .is)) (rw (a .touched) at (performed-sound b (s .panel) (touching f) x))
 sheet-sound b s (relating id formula) x = subst (λ (d : Store). Sound d (s .panel)) (sym (either b (isRefusal (performed s (relating id formula) .reply)))) x
 
 sound-kept : (r : Run sheets) (c : Command) → SoundRun r → SoundRun (stepped sheets r c)
@@ -108,6 +108,7 @@ entering-never-conflict s f v =
     entering-reply (λ b. b ≡ 0xFF ∷ refusalBytes Conflict → ⊥) s f v (touch-never-conflict (s .panel) f)
     (λ e. let z : _≡_ {A = ℕ} 14 10 = ap (λ (b : List ℕ). at b 1) e in omega arith)
     (λ e. let z : _≡_ {A = ℕ} 13 10 = ap (λ (b : List ℕ). at b 1) e in omega arith)
+    (λ m l e. let z : _≡_ {A = ℕ} 0x00 0xFF = ap (λ (b : List ℕ). at b 0) e in omega arith)
 
 -- ---- legal sheets
 

@@ -34,7 +34,7 @@ use Rattle.evaluation.proofs.Complete.{Target, Meets, complete}
 use Rattle.evaluation.proofs.Planned.{order-ordered}
 use Rattle.sheet.specs.declared.Sheet.{Sheet}
 use Rattle.sheet.specs.Sheets.{sheetOf, evaluated}
-use Rattle.sheet.specs.Commands.{Answer, entering, entered, performed}
+use Rattle.sheet.specs.Commands.{Answer, entering, renewed, entered, performed}
 use Rattle.sheet.specs.Legal.{LegalSheet}
 use Rattle.sheet.proofs.Legal.{Left, Stored, entering-cases, legal-sheet, Touched}
 use Rattle.sheet.proofs.Legal as legality
@@ -115,11 +115,11 @@ out-of-range-exactly s h f v ok free = (
     -- the values of a run that ends are some
     solved : result s h f v ok .fits ≡ true → Solution s f v (result s h f v ok .values)
     solved t =
-        let is : performed s (entering f v) ≡ record { sheet = sheetOf (touched s f .panel) (s .formulas) (result s h f v ok .values); reply = touched s f .reply } =
+        let is : performed s (entering f v) ≡ renewed s (sheetOf (touched s f .panel) (s .formulas) (result s h f v ok .values)) =
         rw (ok, free, t) refl in
         record {
           exact =
-              subst (λ (a : Answer). Exact s (a .sheet) f v) is (entered-exactly s h f v (ap (λ (a : Answer). isRefusal (a .reply)) is ∙ ok));
+              subst (λ (a : Answer). Exact s (a .sheet) f v) is (entered-exactly s h f v (ap (λ (a : Answer). isRefusal (a .reply)) is));
           within = λ g l. ap (λ (a : Answer). outside (valueAt (a .sheet .values) g)) (sym is) ∙ legal-sheet s h (entering f v) .within g;
         }
 

@@ -3,7 +3,7 @@
 use Prim.Native.Nat.{ℕ, _≤_, _<_}
 use mathlib.Core.Path.{_≡_, refl, sym, ap, subst, _∙_}
 use mathlib.Core.Bool.{Bool, true, false}
-use mathlib.Core.List.{List, _∷_}
+use mathlib.Core.List.{List, [], _∷_}
 use mathlib.Core.Logic.{_⊎_, inl, inr, _≢_}
 use native.Mathlib.Omega.{arith}
 use borrow.Author.Tests.{lt-ltb, ltb-true, ltb-false}
@@ -11,6 +11,7 @@ use lib.Dec.{ltb}
 use lib.IntN.{ℤ}
 use lib.ListN.{getD, set}
 use Rattle.fieldset.specs.Tables.{at}
+use Rattle.fieldset.specs.Fields.{size}
 use Rattle.fieldset.proofs.Numbers.{clash}
 use Rattle.panel.specs.declared.Link.{Link}
 use Rattle.panel.specs.declared.Refusal.{Refusal}
@@ -31,7 +32,7 @@ use Rattle.evaluation.specs.Runs.{Settled}
 use Rattle.evaluation.proofs.Planned.{plan-settled}
 use Rattle.sheet.specs.declared.Sheet.{Sheet}
 use Rattle.sheet.specs.Sheets.{sheetOf, formulaAt, evaluated}
-use Rattle.sheet.specs.Commands.{solving, entering, relating, Answer, isDriven, entered, sumPast, performed}
+use Rattle.sheet.specs.Commands.{solving, entering, relating, Answer, isDriven, redrawn, entered, sumPast, performed}
 use Rattle.sheet.specs.Legal.{LegalSheet}
 use Rattle.sheet.proofs.Legal.{Left, Stored, entering-cases, Touched}
 use Rattle.sheet.proofs.Legal as legality
@@ -105,7 +106,7 @@ entered-as-touched s f v ok = go (entering-cases s f v)
     go : Left s (performed s (entering f v)) ⊎ Stored s f v (performed s (entering f v)) → AsTouched s f v
     go (inl l) = absurd (clash (l .refusal) ok)
     go (inr a) = record {
-      reply = ap (λ (x : Answer). x .reply) (a .is);
+      reply = subst (λ (x : Answer). x .reply ≡ 0x00 ∷ size (redrawn s (x .sheet)) ∷ []) (sym (a .is)) refl;
       panel = ap (λ (x : Answer). x .sheet .panel) (a .is);
       formulas = ap (λ (x : Answer). x .sheet .formulas) (a .is);
     }
@@ -154,12 +155,12 @@ entering-exactly s f v =
           accepted = (λ r. absurd (clash (ap isRefusal is) r), λ h. absurd (clash (h .2) g));
         }
     go false e false d true g =
-        let is : performed s (entering f v) .reply ≡ touched s f .reply = rw (e, d, g) refl in
+        let is : isRefusal (performed s (entering f v) .reply) ≡ false = rw (e, d, g) refl in
         record {
           first = λ r. absurd (clash r e);
-          driven = (λ r. absurd (clash (ap isRefusal (sym is ∙ r)) e), λ h. absurd (clash (h .1) d));
-          out = (λ r. absurd (clash (ap isRefusal (sym is ∙ r)) e), λ h. absurd (clash g (h .2)));
-          accepted = (λ r. (e, d, g), λ h. ap isRefusal is ∙ e);
+          driven = (λ r. absurd (clash (ap isRefusal r) is), λ h. absurd (clash (h .1) d));
+          out = (λ r. absurd (clash (ap isRefusal r) is), λ h. absurd (clash g (h .2)));
+          accepted = (λ r. (e, d, g), λ h. is);
         }
 
 pub relating-exactly : RelatingExactly
@@ -191,5 +192,5 @@ refused-sheet-unchanged s (entering f v) e = go (entering-cases s f v)
   where
     go : Left s (performed s (entering f v)) ⊎ Stored s f v (performed s (entering f v)) → performed s (entering f v) .sheet ≡ s
     go (inl l) = l .same
-    go (inr a) = absurd (clash (ap (λ (x : Answer). isRefusal (x .reply)) (sym (a .is)) ∙ e) (a .touched))
+    go (inr a) = absurd (clash e (ap (λ (x : Answer). isRefusal (x .reply)) (a .is)))
 refused-sheet-unchanged s (relating id formula) e = rw e refl

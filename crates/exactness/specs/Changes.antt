@@ -7,7 +7,7 @@ use mathlib.Core.Logic.{_≢_, _⊎_}
 use Rattle.fieldset.specs.Fields.{member}
 use Rattle.panel.specs.Items.{linkAt}
 use Rattle.panel.specs.Answers.{isRefusal}
-use Rattle.panel.specs.Panels.{moved}
+use Rattle.panel.specs.Moved.{moved}
 use Rattle.panel.specs.Commands.{adding, removing, changing, changeChecks, checkReply, coveredIn}
 use Rattle.formulas.specs.declared.Formula.the-variants.{None}
 use Rattle.sheet.specs.declared.Sheet.{Sheet}

@@ -1,3 +1,4 @@
 pub mod Values
 pub mod Lists
 pub mod Changes
+pub mod Redraws

@@ -7,6 +7,7 @@ use mathlib.Core.Logic.{_≢_, _↔_}
 use lib.IntN.{ℤ}
 use lib.ListN.{set}
 use Rattle.fieldset.specs.Tables.{at}
+use Rattle.fieldset.specs.Fields.{size}
 use Rattle.panel.specs.declared.Link.{Link}
 use Rattle.panel.specs.declared.Refusal.{Refusal}
 use Rattle.panel.specs.declared.Refusal.the-variants.{NotOpen, BadLink, NoSuchField, NoSuchLink, OutOfRange, FieldDriven, BadFormula}
@@ -23,7 +24,7 @@ use Rattle.formulas.specs.declared.Formula.the-variants.{None}
 use Rattle.formulas.specs.Formulas.{accepted, Right}
 use Rattle.sheet.specs.declared.Sheet.{Sheet}
 use Rattle.sheet.specs.Sheets.{sheetOf, formulaAt, evaluated}
-use Rattle.sheet.specs.Commands.{Command, entering, relating, isDriven, sumPast, performed}
+use Rattle.sheet.specs.Commands.{Command, entering, relating, isDriven, redrawn, sumPast, performed}
 
 -- ---- rounding
 
@@ -58,9 +59,10 @@ EnteredExactly s = (f : ℕ) (v : ℤ) → isRefusal (performed s (entering f v)
 abbrev pub touched : Sheet → ℕ → answers.Answer
 touched s f = panel.performed (s .panel) (touching f)
 
--- it "touches f": where it is accepted, it replies and leaves the panel as the touch does; formulas stay
+-- it "touches f": where it is accepted, it leaves the panel as the touch does, and formulas stay; it replies 00 and the count of what is redrawn
+-- (request 6)
 pub record AsTouched (s : Sheet) (f : ℕ) (v : ℤ) : Type 0 where
-  pub reply : performed s (entering f v) .reply ≡ touched s f .reply
+  pub reply : performed s (entering f v) .reply ≡ 0x00 ∷ size (redrawn s (performed s (entering f v) .sheet)) ∷ []
   pub panel : performed s (entering f v) .sheet .panel ≡ touched s f .panel
   pub formulas : performed s (entering f v) .sheet .formulas ≡ s .formulas
 

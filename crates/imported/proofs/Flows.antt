@@ -1,5 +1,5 @@
 -- What a panel of flows holds: both fields of a flow, by half their number (`member-both`), its setters and links, and no loop, since a link that
--- sets 2j + 1 reads only 2j and a stay reads nothing (`reads-below`).
+-- sets 2j + 1 reads only 2j and a stay reads nothing (`reads-flow`).
 use Prim.Native.Nat.{ℕ, suc, _+_, _*_, _/_, _%_, _≤_, _<_}
 use mathlib.Core.Path.{_≡_, refl, sym, ap, _∙_}
 use mathlib.Core.Bool.{Bool, true, false, _&&_, _||_, cond, and-false, or-false}
@@ -39,12 +39,16 @@ member-both i u l = member-pair i u l ∙ go (ℕ-discrete u (2 * i)) (ℕ-discr
     go (no d) (yes e) = rw (ne-eqb u (2 * i) d, eq-eqb u (2 * i + 1) e, eq-eqb (u / 2) i (omega arith))
     go (no d) (no e) = rw (ne-eqb u (2 * i) d, ne-eqb u (2 * i + 1) e, ne-eqb (u / 2) i (λ h. omega arith))
 
+pub size-only : (f : ℕ) → f < 64 → size (only f) ≡ 1
+size-only f l =
+    let one : size (without (only f) f) + 1 ≡ size (only f) = size-without (only f) (only-lt f) f (member-only f f l ∙ eq-eqb f f refl) in
+    omega (arith, one, ap size (without-only f), size-empty)
+
 pub size-both : (i : ℕ) → i < 32 → size (bothOf i) ≡ 2
 size-both i l =
     let f = perMinute i in
     let apart : member (only f) (perSecond i) ≡ false = member-only f (perSecond i) (omega arith) ∙ ne-eqb (perSecond i) f (λ e. omega arith) in
-    let one : size (without (only f) f) + 1 ≡ size (only f) = size-without (only f) (only-lt f) f (member-only f f (omega arith) ∙ eq-eqb f f refl) in
-    omega (arith, size-with (only f) (perSecond i) (omega arith) apart, one, ap size (without-only f), size-empty)
+    omega (arith, size-with (only f) (perSecond i) (omega arith) apart, size-only f (omega arith))
 
 -- the byte of an output
 module _ (f : ℕ) (l : f < 64) where
@@ -116,19 +120,21 @@ module _ (k i : ℕ) where
   unfolding flowPanel
   links-length = length-tabulate (linkOf i) 128
 
-  -- ---- no loop
+  -- ---- what is read, and no loop
 
-  reads-below : (g f : ℕ) → g < 64 → f < 64 → member (setterReads (flowPanel k i) g) f ≡ true → f < g
-  reads-below g f lg lf m = go (eqb (g % 2) 1 && ltb (g / 2) i) refl
+  -- the field per second reads the field per minute, and there are no other reads
+  pub reads-flow : (g f : ℕ) → g < 64 → f < 64 → member (setterReads (flowPanel k i) g) f ≡ true → (f % 2 ≡ 0) × (g ≡ f + 1)
+  reads-flow g f lg lf m = go (eqb (g % 2) 1 && ltb (g / 2) i) refl
     where
-      go : (b : Bool) → (eqb (g % 2) 1 && ltb (g / 2) i) ≡ b → f < g
+      go : (b : Bool) → (eqb (g % 2) 1 && ltb (g / 2) i) ≡ b → (f % 2 ≡ 0) × (g ≡ f + 1)
       go true e =
           let odd = eqb-true (g % 2) 1 (and-left (eqb (g % 2) 1) (ltb (g / 2) i) e) in
           let in-use = and-right (eqb (g % 2) 1) (ltb (g / 2) i) e in
           let setter : setterOf (flowPanel k i .setter) g ≡ link (g / 2) = number-setter _ g (g / 2) (setter-at g lg ∙ rw e) (omega arith) in
           let there : linkAt (flowPanel k i .links) (g / 2) ≡ flowLink (g / 2) = link-at (g / 2) (omega arith) ∙ rw in-use in
           let (both, apart) = without-cases (bothOf (g / 2)) g f lf (rw (setter, there) at m) in
-          omega (arith, eqb-true (f / 2) (g / 2) (sym (member-both (g / 2) f lf) ∙ both))
+          let same = eqb-true (f / 2) (g / 2) (sym (member-both (g / 2) f lf) ∙ both) in
+          (omega arith, omega arith)
       go false e =
           let h : at (flowPanel k i .setter) g ≡ 128 = setter-at g lg ∙ rw e in
           absurd (clash (rw (setter-stay (flowPanel k i .setter) g (omega arith)) at m) (member-empty f))
@@ -137,5 +143,5 @@ module _ (k i : ℕ) where
   unfolding isLooped flowPanel
   no-loop few =
       ranked-no-loop (setterReads (flowPanel k i)) (2 * k) (λ f. f)
-      (record { few = omega arith; inside = λ g f lg lf m. omega (arith, reads-below g f (omega arith) lf m) })
-      (record { falls = λ v u lv lu m. reads-below v u (omega arith) (omega arith) m; small = λ f l. l })
+      (record { few = omega arith; inside = λ g f lg lf m. omega (arith, reads-flow g f (omega arith) lf m .1) })
+      (record { falls = λ v u lv lu m. omega (arith, reads-flow v u (omega arith) (omega arith) m .1); small = λ f l. l })

@@ -1,36 +1,41 @@
--- The add of flow i takes the panel of flows with i links to that with one more, and moves field 2i + 1. Both fields of the flow are set by their
--- stays, whose strengths are their levels, so the new link is blocked, its strongest output is 2i + 1 and the path ends there.
+-- The add of flow i takes the panel of flows with i links to that with one more, and moves field 2i + 1, which nothing reads. Both fields of the
+-- flow are set by their stays, whose strengths are their levels, so the new link is blocked, its strongest output is 2i + 1 and the path ends there.
 use Prim.Native.Nat.{ℕ, zero, suc, _+_, _*_, _/_, _≤_, _<_}
 use mathlib.Core.Path.{_≡_, refl, sym, ap, ap₂, _∙_}
-use mathlib.Core.Bool.{Bool, true, false, not}
+use mathlib.Core.Bool.{true, false, not}
 use mathlib.Core.List.{[], _∷_}
+use mathlib.Core.Logic.{_≢_}
 use native.Mathlib.Decide.{ℕ-discrete}
 use native.Mathlib.Omega.{arith}
 use borrow.Author.Tests.{lt-ltb, le-ltb, lt-leb, eq-eqb, ne-eqb, eqb-true}
 use lib.Dec.{eqb}
 use lib.Seq.{set-set}
 use Rattle.fieldset.specs.Tables.{at}
-use Rattle.fieldset.specs.Fields.{member}
-use Rattle.fieldset.proofs.Numbers.{ltb-suc, but, but-same, but-other, count-but, count-none}
-use Rattle.fieldset.proofs.Fields.{without-only}
+use Rattle.fieldset.specs.Fields.{member, only, size}
+use Rattle.fieldset.proofs.Numbers.{ltb-suc}
+use Rattle.fieldset.proofs.Fields.{member-only, only-lt, without-only}
 use Rattle.fieldset.proofs.Tables.{set-table}
 use Rattle.strength.specs.Strength.{strongest, path}
 use Rattle.strength.proofs.Maxima.{greatest-ge}
 use Rattle.strength.proofs.Depth.{strength-alone}
 use Rattle.strength.proofs.Paths.{strongest-found, path-stop}
+use Rattle.downstream.specs.Meaning.{Closed}
+use Rattle.downstream.proofs.Spreading.{spread-closed-set}
 use Rattle.panel.specs.declared.Link.{Link}
 use Rattle.panel.specs.declared.Panel.{Panel}
 use Rattle.panel.specs.Items.{Item, link, stay, noLink, linkAt, outputsOf, setterOf, isInForce}
-use Rattle.panel.specs.Panels.{waitingLink, withLink, moved}
-use Rattle.panel.specs.Solution.{level, setterLevel, setterOthers, strengthOf, isBlocked, pathFor, reversed, isLooped}
+use Rattle.panel.specs.Panels.{waitingLink, withLink}
+use Rattle.panel.specs.Solution.{level, setterLevel, setterOthers, setterReads, strengthOf, isBlocked, pathFor, reversed, isLooped}
+use Rattle.panel.specs.Moved.{turned, redrawn, moved}
 use Rattle.panel.specs.Steps.{accepted, reverseStep, enterStep, addStep}
 use Rattle.panel.specs.Commands.{adding, performed, isOutput, anyOf, isRising, areFieldBytes, addChecks, Passes}
 use Rattle.panel.proofs.Reversed.{setter-stay, link-here}
 use Rattle.panel.proofs.Checks.{checked-step}
 use Rattle.panel.proofs.Reversal.{blocked-by}
+use Rattle.panel.proofs.Moved.{turned-is}
 use Rattle.importing.specs.Imports.{perMinute, perSecond}
 use Rattle.imported.specs.Imported.{bothOf, flowLink, flowSetter, flowPanel}
-use Rattle.imported.proofs.Flows.{linkOf, member-both, byte-field, byte-output, byte-frame, flowBytes, fields-both, setter-before, setter-new, setter-kept, flow-size, setter-at, place-at, link-at, links-length, no-loop}
+use Rattle.imported.proofs.Flows.{linkOf, member-both, size-only, byte-field, byte-output, byte-frame, flowBytes, fields-both, setter-before, setter-new, setter-kept, flow-size, setter-at, place-at, link-at, links-length, reads-flow, no-loop}
 
 -- where the strongest output has its setter's level as its strength, it is the whole path
 path-own : (p : Panel) (c : Item) (v : ℕ) → 0 < p .size → strongest (strengthOf p) (outputsOf (p .links) c) ≡ v → setterLevel p v ≡ strengthOf p v
@@ -120,26 +125,36 @@ module _ (k i : ℕ) (few : k ≤ 32) (l : i < k) where
       let setters = set-table 0 (flowSetter i) (flowSetter (suc i)) 64 v i (omega arith) (sym (setter-new i)) (setter-kept i) in
       rw (own-setter v half, new-here, set-set, links, setters)
 
-  new-moved : moved (flowPanel k i) (flowPanel k (suc i)) ≡ 1
-  unfolding moved
-  new-moved =
-      rw (flow-size k (suc i))
-      (count-but changed (2 * k) v (omega arith) here ∙ ap suc (count-none (but changed v) (2 * k) (λ f h. there f h (ℕ-discrete f v))))
-    where
-      changed : ℕ → Bool
-      changed f = not (eqb (at (flowPanel k i .setter) f) (at (flowPanel k (suc i) .setter) f))
+  -- ---- the moved count
 
-      here : changed v ≡ true
-      here =
+  -- one field gets another setter
+  new-turned : only v ≡ turned (flowPanel k i) (flowPanel k (suc i))
+  new-turned =
+      turned-is (flowPanel k i) (flowPanel k (suc i)) (only v) (omega (arith, flow-size k (suc i))) (only-lt v)
+      (λ f h. member-only v f h ∙ go f h (ℕ-discrete f v))
+      (λ f past h. kept f h (λ e. omega (arith, flow-size k (suc i))))
+    where
+      kept : (f : ℕ) → f < 64 → f ≢ v → at (flowPanel k i .setter) f ≡ at (flowPanel k (suc i) .setter) f
+      kept f h e = setter-at k i f h ∙ setter-kept i f e ∙ sym (setter-at k (suc i) f h)
+
+      go : (f : ℕ) → f < 64 → Dec (f ≡ v) → eqb f v ≡ not (eqb (at (flowPanel k i .setter) f) (at (flowPanel k (suc i) .setter) f))
+      go f h (yes e) =
           let was : at (flowPanel k i .setter) v ≡ 128 = setter-at k i v (omega arith) ∙ setter-before i v (omega arith) in
           let now : at (flowPanel k (suc i) .setter) v ≡ i = setter-at k (suc i) v (omega arith) ∙ setter-new i in
-          rw (was, now) (ap not (ne-eqb 128 i (λ e. omega arith)))
+          rw (e, was, now, eq-eqb v v refl, ne-eqb 128 i (λ d. omega arith))
+      go f h (no e) = ne-eqb f v e ∙ sym (ap not (eq-eqb _ _ (kept f h e)))
 
-      there : (f : ℕ) → f < 2 * k → Dec (f ≡ v) → but changed v f ≡ false
-      there f h (yes e) = rw e (but-same changed v)
-      there f h (no e) =
-          let same = setter-at k i f (omega arith) ∙ setter-kept i f e ∙ sym (setter-at k (suc i) f (omega arith)) in
-          but-other changed v f e ∙ ap not (eq-eqb _ _ same)
+  -- nothing reads it
+  new-unread : Closed (setterReads (flowPanel k (suc i))) (flowPanel k (suc i) .size) (only v)
+  new-unread = record {
+    joins = λ f g h l r e.
+        let here = eqb-true f v (sym (member-only v f h) ∙ e) in
+        absurd (omega (arith, reads-flow k (suc i) g f (omega (arith, flow-size k (suc i))) h r .0));
+  }
+
+  new-moved : moved (flowPanel k i) (flowPanel k (suc i)) ≡ 1
+  unfolding moved redrawn
+  new-moved = rw (← new-turned) (ap size (spread-closed-set _ _ (only v) (only-lt v) new-unread) ∙ size-only v (omega arith))
 
   -- ---- the add
 

@@ -21,8 +21,9 @@ use Rattle.panel.specs.declared.Refusal.{Refusal}
 use Rattle.panel.specs.declared.Refusal.the-variants.{AlreadyOpen, NotOpen, BadSize, BadLink, NoSuchField, LinkTaken, NoSuchLink, Conflict, Loop}
 use Rattle.panel.specs.Items.{Item, link, stay, linkAt}
 use Rattle.panel.specs.Answers.{Answer, isRefusal, refused, refusalBytes}
-use Rattle.panel.specs.Panels.{opened, dropped, moved}
+use Rattle.panel.specs.Panels.{opened, dropped}
 use Rattle.panel.specs.Solution.{isBlocked, isLooped, pathFor, reversed, leastBlocked, planOf, rowsOf}
+use Rattle.panel.specs.Moved.{moved}
 use Rattle.panel.specs.Steps.{accepted, reverseStep, openStep, enterStep, addStep, settled, dropStep, removeStep, touchStep, planStep, changeStep}
 use Rattle.panel.specs.Commands.{Command, opening, adding, removing, touching, planning, changing, performed, Check, checked, Passes, isOpen, openChecks, addChecks, removeChecks, touchChecks, planChecks, changeChecks, coveredIn, outputsIn}
 use Rattle.panel.proofs.Answers.{refusals-apart}

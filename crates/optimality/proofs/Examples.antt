@@ -13,7 +13,7 @@ use Rattle.fieldset.specs.Fields.{member, setOf, with, without, only, within}
 use Rattle.strength.specs.Strength.{greatest, strength, lowestAt, strongest, path}
 use Rattle.ordering.specs.Order.{next, following, order, hasLoop}
 use Rattle.panel.specs.Items.{Item, link, stay, setterOf, isInForce, itemsOf}
-use Rattle.panel.specs.Panels.{opened, dropped, toFront, moved}
+use Rattle.panel.specs.Panels.{opened, dropped, toFront}
 use Rattle.panel.specs.Solution.{strengthOf, isBlocked, pathFor, reversed, least, leastBlocked, planOf, isLooped, rowsOf}
 use Rattle.panel.specs.Steps.{reverseStep, enterStep, removeStep, touchStep, changeStep, planStep}
 use Rattle.panel.specs.Commands.{Command, opening, adding, removing, touching, planning, changing, anyOf, fieldsIn, isRising, areFieldBytes, checked}
@@ -47,8 +47,8 @@ example : (holds ≡ pair (stay 1) 1 ∷ pair (link 0) 0 ∷ pair (stay 2) 2 ∷
     × (run .store .stays ≡ 1 ∷ 0 ∷ 2 ∷ [])
     × (map held-up-to (0 ∷ 15 ∷ 16 ∷ 17 ∷ 18 ∷ []) ≡ 1 ∷ 1 ∷ 2 ∷ 2 ∷ 3 ∷ [])
 unfolding count any lowest tabulate member setOf with without only within greatest strength lowestAt strongest path next following order
-    hasLoop setterOf isInForce opened toFront moved strengthOf isBlocked pathFor reversed planOf isLooped rowsOf reverseStep enterStep touchStep planStep anyOf
-    fieldsIn isRising areFieldBytes checked passing place strike countUpTo rows held stepped after
+    hasLoop setterOf isInForce opened toFront strengthOf isBlocked pathFor reversed planOf isLooped rowsOf reverseStep enterStep touchStep planStep
+    anyOf fieldsIn isRising areFieldBytes checked passing place strike countUpTo rows held stepped after
 example = (refl, refl, refl)
 
 -- ---- choices and loops
@@ -184,14 +184,14 @@ one-link = opening 2 ∷ adding 0 0 (0x81 ∷ []) ∷ []
 -- "Conflict is given exactly when no choice ..": 02010081 is refused with Conflict, so no choice holds both links
 no-choice : Possible (entered (after panels start one-link .store) (adding 1 0 (0x81 ∷ []))) → ⊥
 unfolding count any lowest tabulate member setOf with without only within greatest strength lowestAt strongest path next following order
-    hasLoop setterOf isInForce opened moved strengthOf isBlocked pathFor reversed isLooped reverseStep enterStep anyOf fieldsIn isRising areFieldBytes
+    hasLoop setterOf isInForce opened strengthOf isBlocked pathFor reversed isLooped reverseStep enterStep anyOf fieldsIn isRising areFieldBytes
     checked stepped after
 no-choice = conflict-exactly one-link 1 (0x81 ∷ []) (refl, (refl, (refl, (refl, tt)))) .0 refl
 
 -- 02010080 is not, so it cannot be that no choice holds both
 some-choice : (Possible (entered (after panels start one-link .store) (adding 1 0 (0x80 ∷ []))) → ⊥) → ⊥
 unfolding count any lowest tabulate member setOf with without only within greatest strength lowestAt strongest path next following order
-    hasLoop setterOf isInForce opened moved strengthOf isBlocked pathFor reversed isLooped reverseStep enterStep anyOf fieldsIn isRising areFieldBytes
+    hasLoop setterOf isInForce opened strengthOf isBlocked pathFor reversed isLooped reverseStep enterStep anyOf fieldsIn isRising areFieldBytes
     checked stepped after
 some-choice none =
     let e = conflict-exactly one-link 1 (0x80 ∷ []) (refl, (refl, (refl, (refl, tt)))) .1 none in
@@ -224,7 +224,7 @@ Looping cs c = Loops (reversal (after panels start cs .state) c)
 loops-found : Looping before-add (adding 1 0 (0x80 ∷ 0x01 ∷ [])) × Looping before-removal (removing 2) × Looping before-touch (touching 1)
     × Looping before-change (changing 0 0 (0x81 ∷ []))
 unfolding count any lowest tabulate member setOf with without only within greatest strength lowestAt strongest path next following order
-    hasLoop setterOf isInForce opened dropped toFront moved strengthOf isBlocked pathFor reversed least leastBlocked itemsOf isLooped reverseStep
+    hasLoop setterOf isInForce opened dropped toFront strengthOf isBlocked pathFor reversed least leastBlocked itemsOf isLooped reverseStep
     enterStep removeStep changeStep touchStep anyOf fieldsIn isRising areFieldBytes checked stepped after
 loops-found = (
   loop-exactly before-add (adding 1 0 (0x80 ∷ 0x01 ∷ [])) (refl, (refl, (refl, (refl, tt)))) .0 refl,
@@ -236,7 +236,7 @@ loops-found = (
 -- where it is not given, there is none
 no-loop : Looping before-add (adding 1 0 (0x80 ∷ [])) → ⊥
 unfolding count any lowest tabulate member setOf with without only within greatest strength lowestAt strongest path next following order
-    hasLoop setterOf isInForce opened moved strengthOf isBlocked pathFor reversed isLooped reverseStep enterStep anyOf fieldsIn isRising areFieldBytes
+    hasLoop setterOf isInForce opened strengthOf isBlocked pathFor reversed isLooped reverseStep enterStep anyOf fieldsIn isRising areFieldBytes
     checked stepped after
 no-loop l =
     let e = loop-exactly before-add (adding 1 0 (0x80 ∷ [])) (refl, (refl, (refl, (refl, tt)))) .1 l in

@@ -5,19 +5,20 @@ use Prim.Native.Nat.{ℕ, _^_, _≤_, _<_}
 use mathlib.Core.Path.{_≡_, refl, sym, ap, _∙_}
 use mathlib.Core.Bool.{Bool, true, false, not, _||_, cond, or-false}
 use mathlib.Core.List.{List, [], _∷_}
-use mathlib.Core.Logic.{_≢_, inl, inr}
+use mathlib.Core.Logic.{_≢_, _↔_, inl, inr}
 use native.Mathlib.Decide.{ℕ-discrete, decLt}
 use native.Mathlib.Nat.{lt-of-lt-of-le}
 use native.Mathlib.Omega.{arith}
-use borrow.Author.Tests.{eq-eqb, ne-eqb, eqb-true, eqb-false}
-use lib.Dec.{eqb}
+use borrow.Author.Tests.{ltb-true, eq-eqb, ne-eqb, eqb-true, eqb-false, not-true}
+use lib.Dec.{eqb, ltb}
 use lib.Pow.{pow-mono}
 use lib.Seq.{getD-set-other}
 use Rattle.fieldset.specs.Tables.{at}
 use Rattle.fieldset.specs.Lists.{In, All, Distinct}
 use Rattle.fieldset.specs.Fields.{member, setOf, union, size}
+use Rattle.fieldset.proofs.Tests.{and-left, and-right}
 use Rattle.fieldset.proofs.Numbers.{clash}
-use Rattle.fieldset.proofs.Fields.{setOf-lt, ext-member, member-high, member-setOf-lt, member-empty, empty-of-none, union-lt, member-union, size-empty}
+use Rattle.fieldset.proofs.Fields.{setOf-lt, ext-member, member-high, member-setOf, member-setOf-lt, member-empty, empty-of-none, union-lt, member-union, size-empty}
 use Rattle.fieldset.proofs.Lists.{all-in}
 use Rattle.downstream.proofs.Spreading.{spread-lt, spread-nothing}
 use Rattle.panel.specs.declared.Panel.{Panel}
@@ -136,6 +137,19 @@ unfolding turned
 turned-none p q e =
     empty-of-none (q .size) _ (setOf-lt _ (q .size))
     (λ f l. member-setOf-lt _ (q .size) f l ∙ ap not (eq-eqb (at (p .setter) f) (at (q .setter) f) (ap (λ (s : List ℕ). at s f) (sym e))))
+
+-- the fields of the panel whose setters are not equal
+pub member-turned : (p q : Panel) (f : ℕ) → member (turned p q) f ≡ true ↔ ((f < q .size) × (at (p .setter) f ≢ at (q .setter) f))
+unfolding turned
+member-turned p q f = (
+  λ e.
+      let h = sym (member-setOf other (q .size) f) ∙ e in
+      (ltb-true f (q .size) (and-left (ltb f (q .size)) (other f) h), eqb-false _ _ (not-true _ (and-right (ltb f (q .size)) (other f) h))),
+  λ h. member-setOf-lt other (q .size) f (h .0) ∙ ap not (ne-eqb _ _ (h .1)),
+)
+  where
+    other : ℕ → Bool
+    other f = not (eqb (at (p .setter) f) (at (q .setter) f))
 
 pub turned-lt : (p q : Panel) → q .size ≤ 64 → turned p q < 2 ^ 64
 unfolding turned
