@@ -18,6 +18,7 @@ use Rattle.panel.specs.declared.Reply.the-variants.{Accepted}
 use Rattle.panel.specs.declared.Step.{Step}
 use Rattle.panel.specs.Items.{linkAt}
 use Rattle.panel.specs.Answers.{isRefusal, replyBytes, rowsLength}
+use Rattle.panel.specs.Moved.{turned}
 use Rattle.panel.specs.Outcomes.{taken, Takes, counted, redrawnBy, stepReply, Decides}
 use Rattle.panel.specs.Legal.{Legal}
 use Rattle.panel.specs.Commands.{opening, adding, removing, touching, planning, changing, coveredIn, performed}
@@ -283,6 +284,9 @@ module _ (s : Sheet) (c : Command) (tail path rows : List ℕ) (values : List �
 
   pub changed-panel : r .panel ≡ commandAnswer s c tail .state .panel
   changed-panel = changes .panel ∙ ap (λ (c : Command). commandAnswer s c tail .state .panel) (sym is)
+
+  pub changed-turned : r .changed ≡ turned (s .panel) (r .panel)
+  changed-turned = changes .changed
 
   pub changed-tabled : Tabled (r .panel) levels others reads
   changed-tabled = changes .tabled

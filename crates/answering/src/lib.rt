@@ -13,7 +13,7 @@ use frames::value_of;
 use keeping::refresh;
 use panel::Panel;
 use panel::ROWS;
-use redrawing::redraw;
+use redrawing::count_reply;
 use removing::remove;
 use replies::LONGEST;
 use replies::put_reply;
@@ -99,14 +99,8 @@ pub fn answer_lines(
     let mut readers = [0u64; 64];
     let mut down = [0u64; 64];
     fill_tables(q, &mut levels, &mut others, &mut reads);
-    refresh(
-        &reads,
-        q.size,
-        below(q.size),
-        &mut shown,
-        &mut readers,
-        &mut down,
-    );
+    let all = below(q.size);
+    refresh(&reads, q.size, all, &mut shown, &mut readers, &mut down);
     while at < text.len() && LONGEST <= room - n {
         let end = lines::line_end(text, at);
         let line = frames::read_line(&text[at..end]);
@@ -144,17 +138,8 @@ pub fn answer_lines(
             turned = c.changed;
             stale = below(q.size);
         }
-        reply = redraw(
-            reply,
-            turned,
-            step.revalued,
-            &reads,
-            q.size,
-            stale,
-            &mut shown,
-            &mut readers,
-            &mut down,
-        );
+        refresh(&reads, q.size, stale, &mut shown, &mut readers, &mut down);
+        reply = count_reply(reply, turned, step.revalued, &down);
         if sets_formula(command) {
             formulas.of[k] = rule_after(line, reply, old.covered, formulas.of[k]);
         }

@@ -1,7 +1,7 @@
 -- The kept tables from one panel to the next. Before a redraw they are those of the panel before the line, and the reads may differ from theirs in the
 -- fields that got another setter (`stale-step`), since a setter that stays reads what it read (`reads-kept`); after a change of a link in any field
 -- (`stale-change`). What is redrawn by the tables is then what is redrawn on the panel (`redrawn-is`).
-use Prim.Native.Nat.{ℕ, _≤_, _<_}
+use Prim.Native.Nat.{ℕ, _^_, _≤_, _<_}
 use mathlib.Core.Path.{_≡_, refl, sym, ap, _∙_, subst}
 use mathlib.Core.Bool.{false, not}
 use mathlib.Core.List.{List}
@@ -18,10 +18,10 @@ use Rattle.fieldset.proofs.Numbers.{clash}
 use Rattle.fieldset.proofs.Fields.{member-empty, member-below, member-setOf, member-setOf-lt}
 use Rattle.ordering.specs.Order.{hasLoop}
 use Rattle.ordering.specs.Walks.{Among}
-use Rattle.downstream.specs.Downstream.{spread}
+use Rattle.downstream.specs.Downstream.{gathered}
 use Rattle.downstream.proofs.Tables.{spread-ext, nothing-downstream, nothing-direct}
 use Rattle.keeping.specs.Keeping.{Kept, Differ}
-use Rattle.keeping.proofs.Keeping.{kept-nothing}
+use Rattle.keeping.proofs.Keeping.{kept-nothing, kept-spread}
 use Rattle.panel.specs.declared.Panel.{Panel}
 use Rattle.panel.specs.declared.Step.{Step}
 use Rattle.panel.specs.Items.{setterOf}
@@ -65,12 +65,14 @@ module _ {p : Panel} (h : Legal p) {levels others reads : List ℕ} (t : Tabled 
   unfolding setterOf
   reads-past f a b = t .setting f b .reads-are ∙ rw (h .setter-past f a b) refl
 
-  -- what is redrawn by the table is what is redrawn on the panel
-  pub redrawn-is : (changed revalued : ℕ) → union (spread (at reads) (p .size) changed) revalued ≡ redrawnBy changed revalued p
+  -- what is redrawn by the kept tables is what is redrawn on the panel
+  pub redrawn-is : {readers down : List ℕ} → Kept (p .size) reads readers down → (changed : ℕ) → changed < 2 ^ 64 → (revalued : ℕ)
+      → union (gathered (at down) changed) revalued ≡ redrawnBy changed revalued p
   unfolding redrawnBy
-  redrawn-is changed revalued =
+  redrawn-is k changed small revalued =
       ap (λ (m : ℕ). union m revalued)
-      (spread-ext (at reads) (setterReads p) (p .size) (λ f i l k. ap (λ (m : ℕ). member m i) (panel-reads p h levels others reads t f l)) changed)
+      (kept-spread k changed small
+      ∙ spread-ext (at reads) (setterReads p) (p .size) (λ f i l k. ap (λ (m : ℕ). member m i) (panel-reads p h levels others reads t f l)) changed)
 
   -- any field may have other reads than the kept ones
   pub stale-any : {shown readers down : List ℕ} → Kept (p .size) shown readers down → ((f : ℕ) → p .size ≤ f → f < 64 → at shown f ≡ 0)

@@ -7,7 +7,7 @@ use borrow.Author.Tests.{leb-true, leb-false}
 use mathlib.Core.Path.{_≡_, refl, sym, ap, _∙_, subst}
 use mathlib.Core.Logic.{⊎-elim}
 use mathlib.Core.List.{List, [], _∷_}
-use Prim.Native.Nat.{ℕ, _+_, _-_, _≤_, _<_}
+use Prim.Native.Nat.{ℕ, _+_, _-_, _^_, _≤_, _<_}
 use native.Mathlib.Omega.{arith}
 use mir.Facts.{toZ-ofZ}
 use lib.ListN.{length, take, drop, replicate}
@@ -15,6 +15,7 @@ use lib.Seq.{sets, length-sets}
 use Rattle.panel.specs.declared.Panel.{Panel}
 use Rattle.panel.specs.Items.{linkAt}
 use Rattle.panel.specs.Legal.{Legal}
+use Rattle.panel.proofs.Moved.{turned-lt}
 use Rattle.panel.specs.Outcomes.{Takes, counted, redrawnBy}
 use Rattle.formulas.specs.declared.Formulas.{Formulas}
 use Rattle.sheet.specs.declared.Sheet.{Sheet}
@@ -39,19 +40,19 @@ use Rattle.frames.specs.Reading.{tailOf}
 use Rattle.deciding.specs.Lines.{Framed, formulaAfter, setsFormula, AnswerRest, TouchStep}
 use Rattle.deciding.proofs.Arms.{OneOf, framed, entered-touch}
 use Rattle.answering.specs.Scans.{lineScan}
-use Rattle.answering.proofs.LineAnswers.{removal-no-change, removed-scan, no-scan, removed-step, touch-taken, touch-setters, entered-step, stepPanel, Stepped, step-legal, step-sizes, answer-legal, answer-sizes, decided-stepped, step-panel, changed-panel, changed-tabled, changed-rest, changed-worked, formulas-same, did}
+use Rattle.answering.proofs.LineAnswers.{removal-no-change, removed-scan, no-scan, removed-step, touch-taken, touch-setters, entered-step, stepPanel, Stepped, step-legal, step-sizes, answer-legal, answer-sizes, decided-stepped, step-panel, changed-panel, changed-turned, changed-tabled, changed-rest, changed-worked, formulas-same, did}
 use Rattle.answering.proofs.Going.{Did, Going, start, line-done, finish-end, finish-full}
 use Rattle.answering.proofs.answer_lines.Statement.{statement}
 use Rattle.answering.proofs.answer_lines.Tie as tie
 
 abbrev Inv-loop : tie.InvT-loop
-Inv-loop text at₀ t₀ out₀ room q₀ formulas₀ values₀ n₀ worked₀ rows₀ path₀ levels₀ others₀ reads₀ after₀ shown₀ readers₀ down₀ at t out q formulas values n worked rows path levels others reads after shown readers down =
+Inv-loop text at₀ t₀ out₀ room q₀ formulas₀ values₀ n₀ worked₀ rows₀ path₀ levels₀ others₀ reads₀ after₀ shown₀ readers₀ down₀ all at t out q formulas values n worked rows path levels others reads after shown readers down =
     (length rows ≡ rowsLength) × (length path ≡ 64) × Tabled q levels others reads
     × Going lineAnswer lineScan LegalSheet text at₀ room (sheetOf q₀ formulas₀ values₀) t₀ out₀ out (record { next = at; state = sheetOf q formulas values; tally = t; written = n; worked = worked })
     × (shown ≡ reads) × Kept (q .size) reads readers down
 
 abbrev μ-loop : tie.MeasureT-loop
-μ-loop text at₀ t₀ out₀ room q₀ formulas₀ values₀ n₀ worked₀ rows₀ path₀ levels₀ others₀ reads₀ after₀ shown₀ readers₀ down₀ at t out q formulas values n worked rows path levels others reads after shown readers down =
+μ-loop text at₀ t₀ out₀ room q₀ formulas₀ values₀ n₀ worked₀ rows₀ path₀ levels₀ others₀ reads₀ after₀ shown₀ readers₀ down₀ all at t out q formulas values n worked rows path levels others reads after shown readers down =
     length text - at
 
 -- ---- the places: the line is read, and the link that its command names is known
@@ -103,15 +104,15 @@ fill-tables-requires : tie.Need-fill-tables-requires Inv-loop μ-loop
 fill-tables-requires c κs = (begin c .pre .0 .panel, refl, refl, refl)
 
 below-requires : tie.Need-below-requires Inv-loop μ-loop
-below-requires c κs = begin (c .before .before) .pre .0 .panel .few
+below-requires c κs = begin (c .before) .pre .0 .panel .few
 
 -- nothing is kept yet
-starts : (c : tie.After-below Inv-loop μ-loop) → let f = c .before .before in let p = begin (f .before) .args .s .panel in
+starts : (c : tie.After-below Inv-loop μ-loop) → let f = c .before in let p = begin (f .before) .args .s .panel in
     Stale (p .size) (c .below .result) (f .fill-tables .last .1 .1 .1 .0) (replicate 64 0) (replicate 64 0) (replicate 64 0)
-starts c = let f = c .before .before in rw (c .below .ensures) (stale-start (begin (f .before) .pre .0 .panel) (f .fill-tables .ensures))
+starts c = let f = c .before in rw (c .below .ensures) (stale-start (begin (f .before) .pre .0 .panel) (f .fill-tables .ensures))
 
 refresh-requires : tie.Need-refresh-requires Inv-loop μ-loop
-refresh-requires c κs = let k = starts (c .before .before .before) in ((k .kept, k .full, k .among, k .loopless), (k .low, k .differ))
+refresh-requires c κs = let k = starts (c .before .before .before .before) in ((k .kept, k .full, k .among, k .loopless), (k .low, k .differ))
 
 loop-holds : tie.Need-loop-holds Inv-loop μ-loop
 loop-holds c =
@@ -360,8 +361,22 @@ stale-is c =
     (subst (λ (q : Panel). Tabled q (c .match3 .levels) (c .match3 .others) (c .match3 .reads)) (w .1 ∙ t .panel) (tabled-is c)) (takes-at m) (number-small (n .before)))))
     (c .match3 .came)
 
-redraw-requires : tie.Need-redraw-requires Inv-loop μ-loop
-redraw-requires c κs =
+turned-small : (c : tie.At-match3-came Inv-loop μ-loop) → c .match3 .turned < 2 ^ 64
+turned-small c =
+    let m = met-again c in
+    let n = m .before in
+    let few = legal-is c .few in
+    ⊎-elim
+    (λ w. rw (
+      w .15,
+      changed-turned (sheet-of n) (command-of n) (tail-at n) _ _ _ _ (stepped m) _ _ (sym (same-command m) ∙ w .1 .given .1) _ (taken (c .before) .panel) _ _ _ _ _ (w .6 .result)
+          (w .6 .ensures),
+    )
+    (turned-lt _ _ (rw (w .9) at few)))
+    (λ w. rw (w .7, takes-at m .changed) (turned-lt _ _ (legal-after m .few))) (c .match3 .came)
+
+refresh-requires-2 : tie.Need-refresh-requires-2 Inv-loop μ-loop
+refresh-requires-2 c κs =
     let j = c .before .before .before .before in
     let l = looped (met-again j .before) .loop in
     let k = stale-is j in
@@ -374,27 +389,31 @@ abbrev line-of : tie.After-old Inv-loop μ-loop → List ℕ
 line-of c = let l = looped c in take (ended c .line-end .result - l .loop .at) (drop (l .loop .at) (text-of l))
 
 -- the count is taken
-abbrev settled : tie.After-redraw Inv-loop μ-loop → tie.At-match3-came Inv-loop μ-loop
-settled c = c .before .before .before .before .before
+abbrev refreshed : tie.After-count-reply Inv-loop μ-loop → tie.After-refresh2 Inv-loop μ-loop
+refreshed c = c .before .before
 
-abbrev met-then : tie.After-redraw Inv-loop μ-loop → tie.At-match-came Inv-loop μ-loop
+abbrev settled : tie.After-count-reply Inv-loop μ-loop → tie.At-match3-came Inv-loop μ-loop
+settled c = refreshed c .before .before .before .before .before
+
+abbrev met-then : tie.After-count-reply Inv-loop μ-loop → tie.At-match-came Inv-loop μ-loop
 met-then c = met-again (settled c)
 
-abbrev reply-of : tie.After-redraw Inv-loop μ-loop → List ℕ
-reply-of j = let m = met-then j in wholeReply (command-of (m .before)) (j .redraw .result) (m .match .rows)
+abbrev reply-of : tie.After-count-reply Inv-loop μ-loop → List ℕ
+reply-of j = let m = met-then j in wholeReply (command-of (m .before)) (j .count-reply .result) (m .match .rows)
 
-counted-is : (c : tie.After-redraw Inv-loop μ-loop) → let m = met-then c in let n = m .before in
-    AnswerRest (sheet-of n) (numberOf (command-of n)) (command-of n) (tail-at n) (m .match .rows) (m .match .values) (c .redraw .result)
+counted-is : (c : tie.After-count-reply Inv-loop μ-loop) → let m = met-then c in let n = m .before in
+    AnswerRest (sheet-of n) (numberOf (command-of n)) (command-of n) (tail-at n) (m .match .rows) (m .match .values) (c .count-reply .result)
 counted-is c =
     let j = settled c in
     let t = j .match3 in
     let m = met-then c in
     let n = m .before in
     subst (AnswerRest (sheet-of n) (numberOf (command-of n)) (command-of n) (tail-at n) (m .match .rows) (m .match .values))
-    (sym (c .redraw .ensures .0 ∙ ap (counted (t .reply)) (redrawn-is (legal-is j) (tabled-is j) (t .turned) (m .match .step .revalued)))) (rest-is j)
+    (sym (c .count-reply .ensures
+    ∙ ap (counted (t .reply)) (redrawn-is (legal-is j) (tabled-is j) (refreshed c .refresh2 .ensures .1) (t .turned) (turned-small j) (m .match .step .revalued)))) (rest-is j)
 
 -- the formulas afterwards
-abbrev turned : tie.After-rule-after-arg Inv-loop μ-loop → tie.After-redraw Inv-loop μ-loop
+abbrev turned : tie.After-rule-after-arg Inv-loop μ-loop → tie.After-count-reply Inv-loop μ-loop
 turned c = c .before .before .before
 
 mul-rule-after : tie.Need-mul-rule-after Inv-loop μ-loop
@@ -412,15 +431,15 @@ mul-t117 c = omega (arith, number-small (met-then (turned (c .before)) .before .
 element-set-from-formulas : tie.Need-element-set-from-formulas Inv-loop μ-loop
 element-set-from-formulas c = number-small (met-then (turned (c .before)) .before .before)
 
-abbrev ruled : tie.Joined3 Inv-loop μ-loop → tie.After-redraw Inv-loop μ-loop
+abbrev ruled : tie.Joined3 Inv-loop μ-loop → tie.After-count-reply Inv-loop μ-loop
 ruled c = c .before .before
 
 -- with the formula that the line leaves the link of number k
-abbrev ruledBy : tie.After-redraw Inv-loop μ-loop → ℕ → Formulas
+abbrev ruledBy : tie.After-count-reply Inv-loop μ-loop → ℕ → Formulas
 ruledBy j k =
     let n = met-then j .before in
     let l = looped n .loop in
-    withFormula (l .formulas) k (formulaAfter (command-of n) (tail-at n) (j .redraw .result) (linkAt (l .q .links) k .covered) (formulaAt (l .formulas) k))
+    withFormula (l .formulas) k (formulaAfter (command-of n) (tail-at n) (j .count-reply .result) (linkAt (l .q .links) k .covered) (formulaAt (l .formulas) k))
 
 rule-at : (c : tie.Joined3 Inv-loop μ-loop) → c .if3 .formulas ≡ ruledBy (ruled c) (met-then (ruled c) .before .before .wide .result)
 rule-at c =
@@ -429,7 +448,7 @@ rule-at c =
     let n = m .before in
     let k = n .before .wide .result in
     ⊎-elim (λ w. w .3 ∙ ap (withFormula (looped n .loop .formulas) k) (w .2 .ensures))
-    (λ w. w .1 ∙ formulas-same (sheet-of n) k (command-of n) (tail-at n) (j .redraw .result) _
+    (λ w. w .1 ∙ formulas-same (sheet-of n) k (command-of n) (tail-at n) (j .count-reply .result) _
     (ap setsFormula (sym (same-command m)) ∙ sym (c .before .sets-formula .ensures) ∙ w .0 .left)) (c .if3 .came)
 
 rule-is : (c : tie.Joined3 Inv-loop μ-loop) → c .if3 .formulas ≡ ruledBy (ruled c) (numberOf (command-of (met-then (ruled c) .before)))
@@ -466,8 +485,8 @@ scans c =
     (λ w. w .9 ∙ no-scan (l .worked) (sheet-of n) (line-of n) (command-of n) (tail-at n) framed (w .0 .keys2) not-change)) (m .match .came))
     (c .match3 .came)
 
-is-written : (j : tie.After-redraw Inv-loop μ-loop) → let m = met-then j in wholeReply (m .match .command) (j .redraw .result) (m .match .rows) ≡ reply-of j
-is-written j = let m = met-then j in ap (λ (k : Command). wholeReply k (j .redraw .result) (m .match .rows)) (same-command m)
+is-written : (j : tie.After-count-reply Inv-loop μ-loop) → let m = met-then j in wholeReply (m .match .command) (j .count-reply .result) (m .match .rows) ≡ reply-of j
+is-written j = let m = met-then j in ap (λ (k : Command). wholeReply k (j .count-reply .result) (m .match .rows)) (same-command m)
 
 slice-aggregate-put-reply : tie.Need-slice-aggregate-put-reply Inv-loop μ-loop
 slice-aggregate-put-reply c = sym (stepped (met-then (ruled (c .before .before))) .rows-full)
@@ -477,9 +496,9 @@ put-reply-requires c κs =
     let j = ruled (c .before .before) in
     let m = met-then j in
     let l = looped (m .before) in
-    let few = ap (λ (k : Command). restOf k (j .redraw .result)) (same-command m) in
+    let few = ap (λ (k : Command). restOf k (j .count-reply .result)) (same-command m) in
     let rest = counted-is j .rest in
-    let short = reply-short (m .match .command) (j .redraw .result) (m .match .rows) (omega (arith, few, rest)) in
+    let short = reply-short (m .match .command) (j .count-reply .result) (m .match .rows) (omega (arith, few, rest)) in
     (omega (arith, few, rest, stepped m .rows-full), omega (arith, short, l .loop .inv .3 .fits, begin (filled l) .pre .1))
 
 -- the reply is written, and its refusal told
@@ -511,10 +530,10 @@ loop-again c =
       line-done _ _ _ _ _ _ _ _ _ _ _ (l .inv .3) (e .before .before .loop-test .taken) (leb-true _ _ (e .before .if1 .taken)) (e .line-end .result) (e .line-end .ensures)
           (line-of n) refl _ _ (reply-of j) (line-does t)
           (w .0 ∙ ap (λ (b : List ℕ). sets (l .out) (l .n) (lineOf b)) (is-written j)) (w .1 ∙ ap (λ (b : List ℕ). l .n + length (lineOf b)) (is-written j))
-          (c .before .tallied-line .ensures ∙ ap (tallied (l .t)) (c .before .before .refusal-of .ensures ∙ rows-tell-none (command-of n) (j .redraw .result) (m .match .rows))) (c .behind .ensures)
+          (c .before .tallied-line .ensures ∙ ap (tallied (l .t)) (c .before .before .refusal-of .ensures ∙ rows-tell-none (command-of n) (j .count-reply .result) (m .match .rows))) (c .behind .ensures)
           (scans (settled j)),
-      j .redraw .ensures .1 .0,
-      j .redraw .ensures .1 .1,
+      refreshed j .refresh2 .ensures .0,
+      refreshed j .refresh2 .ensures .1,
     )
 
 same-length : tie.Need-same-length Inv-loop μ-loop
@@ -561,7 +580,8 @@ answer-lines-spec =
     (λ c. search needs)
     changed-requires
     below-requires-2
-    redraw-requires
+    refresh-requires-2
+    (λ c κs. search needs)
     (λ c κs. search needs)
     mul-rule-after
     element-copy-out-rule-after
