@@ -72,18 +72,19 @@ fn removal_turns_for_the_least_level() {
 /// not the lowest number.
 ///
 /// Link 0 (required, outputs 0 and 1) sets 1; link 2 (level 3) sets 0, so both
-/// strengths are 3. Links 1 (level 5) and 3 (level 4), which may set only field
-/// 1, wait. The touch of 1 gives its stay level 16 and that of 0 level 17;
-/// strength 3 does not block it. When link 2 goes, the stay of 0 sets 0 and both
-/// strengths are 17: links 1 and 3 and the stay of 1 are blocked. The least
-/// level is 4: link 0 turns to 0, link 3 sets 1, moved 2. Then both strengths
-/// are 4, and field 1 is listed first, since link 0 reads it.
+/// strengths are 3; link 0 reads 0, so field 1 is redrawn too. Links 1 (level 5)
+/// and 3 (level 4), which may set only field 1, wait. The touch of 1 gives its
+/// stay level 16 and that of 0 level 17; strength 3 does not block it. When link
+/// 2 goes, the stay of 0 sets 0 and both strengths are 17: links 1 and 3 and the
+/// stay of 1 are blocked. The least level is 4: link 0 turns to 0, link 3 sets 1,
+/// moved 2. Then both strengths are 4, and field 1 is listed first, since link 0
+/// reads it.
 #[test]
 fn removal_turns_once_among_links_and_stays() {
     check(&[
         ("0102", "0000"),
         ("0200008081", "0001"),
-        ("02020380", "0001"),
+        ("02020380", "0002"),
         ("02010581", "0000"),
         ("02030481", "0000"),
         ("0401", "0000"),
@@ -94,13 +95,13 @@ fn removal_turns_once_among_links_and_stays() {
 }
 
 /// Links for a loop through a field that is merely read: link 0 (required,
-/// outputs 0 and 1, covers 2) sets 1, link 1 (required) reads 0 and sets 2. If
-/// link 0 turns to 0, it reads 2, and link 1 reads 0: a loop. Over outputs
-/// alone link 1 reads nothing, and the loop is missed.
+/// outputs 0 and 1, covers 2) sets 1, link 1 (required) reads 0 and sets 2, which
+/// link 0 reads: moved 2. If link 0 turns to 0, it reads 2, and link 1 reads 0: a
+/// loop. Over outputs alone link 1 reads nothing, and the loop is missed.
 const READ_LOOP: [(&str, &str); 4] = [
     ("0103", "0000"),
     ("020000808102", "0001"),
-    ("0201000082", "0001"),
+    ("0201000082", "0002"),
     ("05", "0003008010020100010010"),
 ];
 
@@ -115,14 +116,15 @@ fn touch_loop_over_a_read_field() {
     check(&[&READ_LOOP[..], &rest].concat());
 }
 
-/// The same for a removal: link 2 (level 3) sets 0, so the strength of 1 is 3
-/// and the touch of 1 turns nothing. When link 2 goes, the strength of 1 is 17,
-/// from the stay of 0, and the stay of 1, level 16, is blocked. Link 0 would
-/// turn to 0. The removal is refused, and link 2 still holds.
+/// The same for a removal: link 2 (level 3) sets 0, moved 3 with 2 and 1, which
+/// are downstream. The strength of 1 is then 3, and the touch of 1 turns nothing.
+/// When link 2 goes, the strength of 1 is 17, from the stay of 0, and the stay of
+/// 1, level 16, is blocked. Link 0 would turn to 0. The removal is refused, and
+/// link 2 still holds.
 #[test]
 fn removal_loop_over_a_read_field() {
     let rest = [
-        ("02020380", "0001"),
+        ("02020380", "0003"),
         ("0401", "0000"),
         ("0302", "FF0B"),
         ("05", "0003000203020100010003"),

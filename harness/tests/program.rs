@@ -79,6 +79,12 @@ fn changes_of_links() {
     check(&worked::changes::all());
 }
 
+/// Document 02, request 6.
+#[test]
+fn redraw_counts() {
+    check(&worked::redraws::all());
+}
+
 #[test]
 fn full_panels() {
     check(&worked::panels::all());

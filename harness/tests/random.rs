@@ -8,7 +8,7 @@ use harness::compare::{check_met, compared};
 use harness::generate::{frames, long_text, text, Mix, Rng, MIXES};
 use harness::plain::{hex, lines, values_after, TEXT_LIMIT};
 use harness::program::PANEL;
-use harness::worked::values::{look, store};
+use harness::worked::values::{look, store, LOOK};
 use harness::worked::Lines;
 use std::collections::BTreeMap;
 
@@ -318,12 +318,12 @@ fn values_after_random_texts() {
         let replies = lines(&output);
         // The tally is the last line.
         let replies = &replies[replies.len() - 1 - looks.len()..];
-        for (look, replies) in looks.chunks(5).zip(replies.chunks(5)) {
+        for (look, replies) in looks.chunks(LOOK).zip(replies.chunks(LOOK)) {
             let as_expected =
                 |((_, reply), given): (&(String, String), &&[u8])| reply.as_bytes() == *given;
             if look.iter().zip(replies).all(as_expected) {
                 seen += 1;
-                not_zero += (look[3].1 != "0000") as usize;
+                not_zero += (look[3].1 == "FF0D") as usize;
             }
         }
     }
