@@ -23,11 +23,13 @@ impl Panel {
         let setters = self.setters().into_iter().enumerate();
         let reads: Vec<Vec<u8>> = setters.map(|(f, c)| self.reads(c, f as u8)).collect();
         let mut found = fields.to_vec();
-        while let Some(reader) = (0..self.size()).find(|f| {
-            let reads_one = reads[*f as usize].iter().any(|read| found.contains(read));
-            reads_one && !found.contains(f)
-        }) {
-            found.push(reader);
+        loop {
+            let mut others = (0..self.size()).filter(|field| !found.contains(field));
+            let reads_one = |&f: &u8| reads[f as usize].iter().any(|read| found.contains(read));
+            match others.find(reads_one) {
+                Some(reader) => found.push(reader),
+                None => break,
+            }
         }
         found.sort();
         found
