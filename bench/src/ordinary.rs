@@ -133,28 +133,47 @@ impl Tables {
         }
     }
 
-    /// Whether the reads after a walk is turned for an item with these covered fields have a loop.
-    fn turn_has_loop(&mut self, path: &[u8], covered: u64, size: usize) -> bool {
+    /// Enters the reads after a walk is turned for an item with these covered fields; the answer is the fields of the
+    /// walk.
+    fn turn_reads(&mut self, path: &[u8], covered: u64) -> u64 {
         let mut cover = covered;
+        let mut fields = 0;
         for &f in path {
             let f = f as usize & 63;
             let old = self.reads[f] | only(f);
             self.reads[f] = without(cover, f);
             cover = old;
+            fields |= only(f);
         }
+        fields
+    }
+
+    /// These fields and all downstream of them, whose setters read one of them directly or through others; none where the
+    /// reads have a loop. Each field comes after all that it reads, so that it is looked at once for both.
+    fn redrawn(&self, changed: u64, size: usize) -> Option<u64> {
+        let mut redrawn = changed;
         let mut left = below(size);
         while left != 0 {
             let before = left;
             for f in each(before) {
                 if self.reads[f] & left == 0 {
                     left = without(left, f);
+                    redrawn |= u64::from(self.reads[f] & redrawn != 0) << f;
                 }
             }
             if left == before {
-                return true;
+                return None;
             }
         }
-        false
+        Some(redrawn)
+    }
+
+    /// The same where the reads have no loop.
+    fn downstream(&self, changed: u64, size: usize) -> u64 {
+        match changed {
+            0 => 0,
+            _ => self.redrawn(changed, size).unwrap_or(changed),
+        }
     }
 }
 
@@ -166,14 +185,13 @@ impl Panel {
     }
 
     /// Turns for a link or stay with these outputs and covered fields, whose outputs' strengths are known; the answer
-    /// is the number of fields that moved.
-    fn turn(&mut self, t: &mut Tables, id: u8, outputs: u64, covered: u64) -> Result<u8, Refusal> {
+    /// is the set of the fields that are redrawn. The tables then have the reads after it.
+    fn turn(&mut self, t: &mut Tables, id: u8, outputs: u64, covered: u64) -> Result<u64, Refusal> {
         let most = t.greatest(outputs);
         let (path, len) = t.walk(t.first_at(outputs, most));
         let path = &path[..len & 127];
-        if t.turn_has_loop(path, covered, self.size) {
-            return Err(Refusal::Loop);
-        }
+        let turned = t.turn_reads(path, covered);
+        let redrawn = t.redrawn(turned, self.size).ok_or(Refusal::Loop)?;
         let mut incoming = id;
         for &f in path {
             let old = self.setter[f as usize & 63];
@@ -182,7 +200,7 @@ impl Panel {
             incoming = old;
         }
         self.hold(incoming, None);
-        Ok(len as u8)
+        Ok(redrawn)
     }
 
     /// A field that the panel has, after the checks 4 and 7.
@@ -203,17 +221,18 @@ impl Panel {
     }
 
     /// Turns for the first stay, whose field a link sets, if it is blocked. The tables then have the reads after it.
-    fn turn_for_stay(&mut self, t: &mut Tables, v: usize) -> Result<u8, Refusal> {
+    fn turn_for_stay(&mut self, t: &mut Tables, v: usize) -> Result<u64, Refusal> {
         match t.strength(v) {
             0..=16 => Ok(0),
             _ => self.turn(t, STAY, only(v), only(v)),
         }
     }
 
-    /// The values after this one is stored and the plan is run; none where a result is outside the limits. The tables
-    /// have the reads of the setters as they are.
-    fn run_plan(&self, t: &Tables, stored: usize, value: i32) -> Option<[i32; 64]> {
+    /// The values after this one is stored and the plan is run, and the set of those that changed; none where a result is
+    /// outside the limits. The tables have the reads of the setters as they are.
+    fn run_plan(&self, t: &Tables, stored: usize, value: i32) -> Option<([i32; 64], u64)> {
         let mut values = self.values;
+        let mut changed = u64::from(values[stored] != value) << stored;
         values[stored] = value;
         let mut fits = true;
         t.list(self.size, |f| {
@@ -221,12 +240,15 @@ impl Panel {
             if id != STAY {
                 let covered = self.links[id as usize & 127].covered;
                 match self.formulas[id as usize & 127].result(covered, f, &values) {
-                    Some(result) => values[f] = result,
+                    Some(result) => {
+                        changed |= u64::from(values[f] != result) << f;
+                        values[f] = result;
+                    }
                     None => fits = false,
                 }
             }
         });
-        fits.then_some(values)
+        fits.then_some((values, changed))
     }
 
     /// Gives the fields the setters that they had, and the links that were turned since then the field that each held,
@@ -244,10 +266,10 @@ impl Panel {
         self.setter = setters;
     }
 
-    /// How many fields have another setter than they had.
-    fn moved_from(&self, setters: &[u8; 64]) -> u8 {
+    /// The fields that have another setter than they had.
+    fn moved_from(&self, setters: &[u8; 64]) -> u64 {
         let moved = (0..self.size).filter(|&f| setters[f] != self.setter[f]);
-        moved.count() as u8
+        moved.fold(0, |set, f| set | only(f))
     }
 
     /// The link of an add or a change, after the checks 4, 6 and 7.
@@ -264,14 +286,14 @@ impl Panel {
         })
     }
 
-    /// Takes a link into use under a number not in use. A refusal leaves the panel as it was.
-    fn enter_link(&mut self, id: u8, link: Link) -> Result<u8, Refusal> {
-        let mut t = Tables::of(self);
-        let mut moved = 0;
+    /// Takes a link into use under a number not in use; the answer is the set of the fields that are redrawn. The tables
+    /// are the panel's and then have the reads after it. A refusal leaves the panel as it was.
+    fn enter_link(&mut self, t: &mut Tables, id: u8, link: Link) -> Result<u64, Refusal> {
+        let mut redrawn = 0;
         if t.greatest(link.outputs) > link.level {
             self.links[id as usize] = link;
-            match self.turn(&mut t, id, link.outputs, link.covered) {
-                Ok(n) => moved = n,
+            match self.turn(t, id, link.outputs, link.covered) {
+                Ok(fields) => redrawn = fields,
                 Err(refusal) => {
                     self.links[id as usize] = NO_LINK;
                     return Err(refusal);
@@ -282,27 +304,30 @@ impl Panel {
         } else {
             self.links[id as usize] = link;
         }
-        Ok(moved)
+        Ok(redrawn)
     }
 
-    /// Takes a link out of use and turns for what is then blocked. A refusal leaves the panel as it was.
-    fn drop_link(&mut self, id: u8) -> Result<u8, Refusal> {
+    /// Takes a link out of use and turns for what is then blocked, a walk that ends at the field set free. The answer is
+    /// the set of the fields that are redrawn; where nothing is turned, only if they are counted. A refusal leaves the
+    /// panel as it was.
+    fn drop_link(&mut self, id: u8, counted: bool) -> Result<u64, Refusal> {
         let old = self.links[id as usize];
         self.links[id as usize] = NO_LINK;
         let Some(v) = old.holds else {
             return Ok(0);
         };
-        let before = self.setter;
         self.setter[v as usize & 63] = STAY;
         let mut t = Tables::of(self);
-        if let Some((item, outputs, covered)) = self.first_blocked(&mut t) {
-            if let Err(refusal) = self.turn(&mut t, item, outputs, covered) {
-                self.links[id as usize] = old;
-                self.setter[v as usize & 63] = id;
-                return Err(refusal);
-            }
+        let Some((item, outputs, covered)) = self.first_blocked(&mut t) else {
+            let freed = if counted { only(v as usize) } else { 0 };
+            return Ok(t.downstream(freed, self.size));
+        };
+        let redrawn = self.turn(&mut t, item, outputs, covered);
+        if redrawn.is_err() {
+            self.links[id as usize] = old;
+            self.setter[v as usize & 63] = id;
         }
-        Ok(self.moved_from(&before))
+        redrawn
     }
 
     /// The blocked link or stay of least level: its number or `STAY`, its outputs and covered fields.
@@ -356,7 +381,8 @@ impl Solver for Panel {
         if self.links[id as usize].outputs != 0 {
             return Err(Refusal::LinkTaken);
         }
-        self.enter_link(id, link)
+        let redrawn = self.enter_link(&mut Tables::of(self), id, link);
+        redrawn.map(count)
     }
 
     fn remove(&mut self, id: u8) -> Result<u8, Refusal> {
@@ -369,9 +395,9 @@ impl Solver for Panel {
         if self.links[id as usize].outputs == 0 {
             return Err(Refusal::NoSuchLink);
         }
-        let moved = self.drop_link(id)?;
+        let redrawn = self.drop_link(id, true)?;
         self.formulas[id as usize] = Formula::None;
-        Ok(moved)
+        Ok(count(redrawn))
     }
 
     fn change(&mut self, id: u8, level: u8, field_bytes: &[u8]) -> Result<u8, Refusal> {
@@ -381,8 +407,9 @@ impl Solver for Panel {
             return Err(Refusal::NoSuchLink);
         }
         let before = self.setter;
-        self.drop_link(id)?;
-        if let Err(refusal) = self.enter_link(id, link) {
+        self.drop_link(id, false)?;
+        let mut t = Tables::of(self);
+        if let Err(refusal) = self.enter_link(&mut t, id, link) {
             self.links[id as usize] = old;
             self.put_back(before);
             return Err(refusal);
@@ -390,7 +417,7 @@ impl Solver for Panel {
         if link.covered != old.covered {
             self.formulas[id as usize] = Formula::None;
         }
-        Ok(self.moved_from(&before))
+        Ok(count(t.downstream(self.moved_from(&before), self.size)))
     }
 
     fn touch(&mut self, field: u8) -> Result<u8, Refusal> {
@@ -400,11 +427,11 @@ impl Solver for Panel {
         if self.setter[v] == STAY {
             return Ok(0);
         }
-        let moved = self.turn_for_stay(&mut Tables::of(self), v);
-        if moved.is_err() {
+        let redrawn = self.turn_for_stay(&mut Tables::of(self), v);
+        if redrawn.is_err() {
             self.place = before;
         }
-        moved
+        redrawn.map(count)
     }
 
     fn plan(&self, reply: &mut [u8; LONGEST_REPLY]) -> Result<usize, Refusal> {
@@ -438,10 +465,10 @@ impl Solver for Panel {
         let refusal = match touched {
             Err(refusal) => refusal,
             Ok(_) if self.setter[v] != STAY => Refusal::FieldDriven,
-            Ok(moved) => match self.run_plan(&t, v, value) {
-                Some(values) => {
+            Ok(redrawn) => match self.run_plan(&t, v, value) {
+                Some((values, changed)) => {
                     self.values = values;
-                    return Ok(moved);
+                    return Ok(count(redrawn | changed));
                 }
                 None => Refusal::OutOfRange,
             },
@@ -456,4 +483,9 @@ impl Solver for Panel {
         self.formulas[id as usize & 127] = formula;
         Ok(0)
     }
+}
+
+/// The size of a set of fields.
+fn count(fields: u64) -> u8 {
+    fields.count_ones() as u8
 }

@@ -1,11 +1,13 @@
 //! A tuned solver: as the ordinary one, and between commands it keeps what would be worked out again: the read
-//! fields of each field's setter, the fields that links set, the links that wait. Strengths are worked out from the
-//! links, only where they are needed, and the loop test looks only above the turned walk. Values are worked out only
-//! where a formula sets them. Comments in quotation marks are sentences of documents 01 and 02.
+//! fields of each field's setter, the fields whose setters read each field, the fields that links set, the links that
+//! wait. Strengths are worked out from the links, only where they are needed, and the loop test looks only above the
+//! turned walk. Values are worked out only where a formula sets them. Comments in quotation marks are sentences of
+//! documents 01 and 02.
 
 mod blocked;
 mod panel;
 mod plan;
+mod redraw;
 mod reversal;
 mod steps;
 mod strength;

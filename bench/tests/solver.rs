@@ -151,6 +151,12 @@ fn changes_of_links() {
     check_worked(&worked::changes::all());
 }
 
+/// What is redrawn, by the outputs worked out by hand.
+#[test]
+fn redraw_counts() {
+    check_worked(&worked::redraws::all());
+}
+
 /// Full panels, by the outputs worked out by hand.
 #[test]
 fn full_panels() {

@@ -181,7 +181,7 @@ fn values_are_mostly_accepted_over_formulas() {
     let count = |reply| of_kind("07").filter(|(_, r)| r.starts_with(reply)).count();
     let (accepted, refused) = (count("00"), count("FF"));
     assert!(accepted > 9 * refused, "{accepted} {refused}");
-    for reply in ["0000", "0002", "0003", "FF0B", "FF0D", "FF0E"] {
+    for reply in ["0001", "0002", "0003", "0009", "FF0B", "FF0D", "FF0E"] {
         assert!(count(reply) > 50, "{reply}: {}", count(reply));
     }
     assert_eq!(count("FF0B") + count("FF0D") + count("FF0E"), refused);

@@ -46,7 +46,12 @@ fn check(text: &[u8]) {
 
 #[test]
 fn worked_out_by_hand() {
-    for texts in [worked::values::valued(), worked::changes::valued()] {
+    let parts = [
+        worked::values::valued(),
+        worked::changes::valued(),
+        worked::redraws::valued(),
+    ];
+    for texts in parts {
         assert!(!texts.is_empty());
         for (text, of_fields) in texts.iter().flat_map(Valued::texts) {
             assert_eq!(values(&text.text), expected(&of_fields), "{}", text.name);
@@ -125,6 +130,7 @@ fn worked_texts() {
         worked::panels::all(),
         worked::values::all(),
         worked::changes::all(),
+        worked::redraws::all(),
     ]
     .into_iter()
     .flatten()

@@ -28,6 +28,8 @@ fn drawn_mix(rng: &mut Rng) -> Mix {
         output_percent: rng.between(0, 100),
         weights: std::array::from_fn(|_| rng.between(1, 40)),
         damaged_percent: rng.below(30),
+        reread_percent: rng.below(100),
+        few_values_percent: rng.below(60),
         ..MIXES[0]
     }
 }

@@ -1,9 +1,9 @@
 //! A plain solver, written sentence by sentence from document 01 and from the
 //! change requests of document 02 that have landed: 1, the offset in the reply
 //! to a bad line, 2, values and formulas, 4, a record of the scans for blocked
-//! links and stays that removals need, and 5, the change of a link in one
-//! command. Request 3, the import of airflow channels from EDF, is a plain
-//! importer of its own, `import`.
+//! links and stays that removals need, 5, the change of a link in one command,
+//! and 6, the redraw count. Request 3, the import of airflow channels from EDF,
+//! is a plain importer of its own, `import`.
 //!
 //! It is meant to be read next to the documents, not to be fast. Comments in
 //! quotation marks are sentences of the documents.
@@ -13,6 +13,7 @@ mod formula;
 mod frame;
 mod import;
 mod panel;
+mod redraw;
 mod refusal;
 mod steps;
 mod strength;

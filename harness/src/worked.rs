@@ -10,6 +10,7 @@ pub mod headers;
 pub mod items;
 pub mod offsets;
 pub mod panels;
+pub mod redraws;
 pub mod values;
 
 /// Lines with their replies.

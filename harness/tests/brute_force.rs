@@ -9,6 +9,7 @@ use harness::plain::{hex, Formula, Run, Standing, Tally};
 use support::book::{link, Book, Member, Name};
 use support::choices::{all_can_hold, best_counts, best_counts_by_paths, counts, end_of_levels};
 use support::held::{bytes, closed_walk, held, of_field, reads, waiting, Held};
+use support::redraws::redrawn;
 use support::values::{is_right, rule_of, run_plan, Rule};
 
 /// One line with what stood before and after it.
@@ -354,21 +355,36 @@ fn plan_lists_the_lowest_field_that_can_come() {
     });
 }
 
-/// "The reply to Add, Remove and Touch counts the fields whose setter after the
-/// command is not the one before." "Opening replies 0." A change "compares the state
-/// before with the state after both, a link of the same number being the same setter".
+/// Checks the count of an accepted line: "fields whose setter changed, and all fields
+/// downstream of these in the state after the command; for kind 07 also every field
+/// whose value changed". "Opening replies 0." A change "compares the state before with
+/// the state after both, a link of the same number being the same setter". The answer
+/// is how many fields are only downstream, and how many only changed their value.
+fn check_moved(step: &Step) -> [usize; 2] {
+    if step.refused() || step.line == b"05" {
+        return [0, 0];
+    }
+    let before = held(&step.before);
+    let counted = redrawn(&step.book, &before, &step.held);
+    let setter_changed = |entry: &&Held| of_field(&step.held, entry.field).setter != entry.setter;
+    let setters = before.iter().filter(setter_changed).count();
+    let with_downstream = counted.iter().filter(|&&counted| counted).count();
+    let values = step.before.values.iter().zip(&step.after.values);
+    let by_value = counted.iter().zip(values);
+    let values = by_value.filter(|(&counted, (old, new))| !counted && old != new);
+    let values = values.count();
+    assert_eq!(step.reply, format!("00{:02X}", with_downstream + values));
+    [with_downstream - setters, values]
+}
+
 #[test]
-fn moved_counts_changed_setters() {
+fn moved_counts_what_is_redrawn() {
+    let mut only = [0, 0];
     for_each_small_line(|step| {
-        if step.refused() || step.line == b"05" {
-            return;
-        }
-        let before = held(&step.before);
-        let changed = before
-            .iter()
-            .filter(|entry| of_field(&step.held, entry.field).setter != entry.setter);
-        assert_eq!(step.reply, format!("00{:02X}", changed.count()));
+        let [downstream, values] = check_moved(step);
+        only = [only[0] + downstream, only[1] + values];
     });
+    assert!(only[0] > 2_000 && only[1] > 4_500, "{only:?}");
 }
 
 /// A refusal "changes only the tally", and a plan changes nothing else either.
@@ -422,16 +438,17 @@ fn check_value(step: &Step, met: &mut [usize; 4]) {
         }
         Ok(values) => {
             met[3] += 1;
-            assert_eq!(step.reply, touch);
+            assert!(step.reply >= touch, "{} {touch}", step.reply);
             assert_eq!(step.after.panel, touched.panel);
             assert_eq!(step.after.values, values);
         }
     }
 }
 
-/// Kind 07 is a touch, with its refusals, its moved count and its panel after;
-/// then FieldDriven exactly where the plan gives f a link; then OutOfRange exactly
-/// where a result of the whole plan is outside the limits, and else these values.
+/// Kind 07 is a touch, with its refusals, its panel after and a moved count that is
+/// no less; then FieldDriven exactly where the plan gives f a link; then OutOfRange
+/// exactly where a result of the whole plan is outside the limits, and else these
+/// values.
 #[test]
 fn value_is_a_touch_and_a_run_of_the_plan() {
     let mut met = [0; 4];
@@ -539,8 +556,8 @@ fn adds_on_two_fields(id: u8) -> Vec<Vec<u8>> {
     field_bytes.into_iter().flat_map(frames).collect()
 }
 
-/// Checks condition 3 after every list of so many commands on two fields, and
-/// gives the number of lists.
+/// Checks condition 3 after every list of so many commands on two fields, and the
+/// count of each command, and gives the number of lists.
 fn check_lists(run: &Run, book: &Book, length: u8) -> usize {
     if length == 0 {
         return 1;
@@ -555,6 +572,7 @@ fn check_lists(run: &Run, book: &Book, length: u8) -> usize {
         let line = hex(&frame).into_bytes();
         let step = Step::new(&line, run, book);
         assert_eq!(held_counts(&step), best_counts(&step.book.members()));
+        check_moved(&step);
         lists += check_lists(&step.after, &step.book, length - 1);
     }
     lists
@@ -585,8 +603,8 @@ const WITH_VALUES: [&str; 12] = [
     "07016AAAAAAB",
 ];
 
-/// Checks every value in every list of so many of these commands, and counts the
-/// lists.
+/// Checks every value and every count in every list of so many of these commands, and
+/// counts the lists.
 fn check_lists_with_values(run: &Run, book: &Book, length: u8, met: &mut [usize; 4]) -> usize {
     if length == 0 {
         return 1;
@@ -594,6 +612,7 @@ fn check_lists_with_values(run: &Run, book: &Book, length: u8, met: &mut [usize;
     let mut lists = 0;
     for line in WITH_VALUES {
         let step = Step::new(line.as_bytes(), run, book);
+        check_moved(&step);
         match line.starts_with("07") {
             true => check_value(&step, met),
             false => assert_eq!(step.after.values, run.values),

@@ -341,6 +341,12 @@ fn changes_of_links() {
     check_worked(worked::changes::all());
 }
 
+// Document 02, request 6.
+#[test]
+fn redraw_counts() {
+    check_worked(worked::redraws::all());
+}
+
 #[test]
 fn full_panels() {
     check_worked(worked::panels::all());
@@ -362,11 +368,12 @@ fn chain_of_eight_outputs() {
 
 /// A link that may only set field 7: the walk goes from 7 to 6, whose stay has
 /// level 22. Link 0 then sets 6 and reads 0 to 5 and 7. The strength of 7 is 0,
-/// that of 6 is 21 from field 5, and 21 passes on to fields 8 to 63.
+/// that of 6 is 21 from field 5, and 21 passes on to fields 8 to 63, all of which
+/// are downstream of 7: moved 58.
 #[test]
 fn chain_turned_at_its_start() {
     let mut run = chain();
-    assert_eq!(run.line(b"02400087"), "0002");
+    assert_eq!(run.line(b"02400087"), "003A");
     let strengths = run.panel.strengths();
     assert_eq!(strengths[..9], [16, 17, 18, 19, 20, 21, 21, 0, 21]);
     assert_eq!(strengths[8..], [21; 56]);
@@ -384,14 +391,16 @@ fn chain_turned_at_its_end() {
 }
 
 /// Touch 6: its stay sets it already. Touch 7: all stays but 7's move down and
-/// field 5 has the greatest strength, 23, so link 0 turns from 7 to 5. Then the
-/// strength of 8 to 63 is 22, and nothing is blocked when link 56 goes.
+/// field 5 has the greatest strength, 23, so link 0 turns from 7 to 5. Field 8 reads
+/// both, and each field above it the one below: all but 0 to 4 and 6 are redrawn,
+/// 58. Then the strength of 8 to 63 is 22, and nothing is blocked when link 56 goes,
+/// which sets 63, where nothing is downstream.
 #[test]
 fn chain_touched() {
     let mut run = chain();
     assert_eq!(run.line(b"0406"), "0000");
     assert_eq!(run.panel.strengths()[7..], [22; 57]);
-    assert_eq!(run.line(b"0407"), "0002");
+    assert_eq!(run.line(b"0407"), "003A");
     assert_eq!(run.panel.links()[&0].standing, Standing::Holding(5));
     assert_eq!(run.panel.strengths()[8..], [22; 56]);
     assert_eq!(run.line(b"0338"), "0001");

@@ -41,6 +41,7 @@ fn note_text(cases: &mut Cases, text: &[u8]) {
             note_command(cases, &before.panel, &command, &run.panel, &reply);
             note_change(cases, &before, &command, &run.panel, &reply);
             note_values(cases, &before, &command, &run, &reply);
+            note_redraw(cases, &before, &command, &run, &reply);
         }
     }
     note_end(cases, &run.panel);
@@ -246,7 +247,7 @@ fn note_change(cases: &mut Cases, before: &Run, command: &Command, after: &Panel
             if moved > 0 && reply == "0000" {
                 note(cases, "change: moved 0, the removal more");
             }
-            if moved > 1 {
+            if before.panel.dropped(id).first_blocked().is_some() {
                 note(cases, "change: removal turned");
             }
             if blocked {
@@ -298,6 +299,68 @@ fn note_values(cases: &mut Cases, before: &Run, command: &Command, after: &Run, 
             }
         }
         _ => {}
+    }
+}
+
+/// The cases of the redraw count: how fields that keep their setter are downstream of
+/// those that do not, and which values change.
+fn note_redraw(cases: &mut Cases, before: &Run, command: &Command, after: &Run, reply: &str) {
+    let kind = match command {
+        _ if reply.starts_with("FF") => return,
+        Command::Add(..) => "add",
+        Command::Remove(_) => "remove",
+        Command::Touch(_) => "touch",
+        Command::Change(..) => "change",
+        Command::Store(..) => "value",
+        Command::Open(_) | Command::Plan | Command::Formula(..) => return,
+    };
+    let (old, new) = (before.panel.setters(), after.panel.setters());
+    let changed: Vec<u8> = (0..after.panel.size())
+        .filter(|&field| old[field as usize] != new[field as usize])
+        .collect();
+    let redrawn = after.panel.with_downstream(&changed);
+    for &field in redrawn.iter().filter(|field| !changed.contains(field)) {
+        let reads = after.panel.reads(new[field as usize], field);
+        let directly = reads.iter().any(|read| changed.contains(read));
+        let how = if directly {
+            "directly"
+        } else {
+            "through others"
+        };
+        note(cases, format!("{kind}: downstream {how}"));
+    }
+    let earlier = before.panel.with_downstream(&changed);
+    if earlier.iter().any(|field| !redrawn.contains(field)) {
+        note(cases, format!("{kind}: downstream before alone"));
+    }
+    if redrawn.iter().any(|field| !earlier.contains(field)) {
+        note(cases, format!("{kind}: downstream after alone"));
+    }
+    if kind == "value" {
+        note_changed_values(cases, before, after, &redrawn);
+    }
+}
+
+/// The cases of the values that a kind 07 counts, beside fields that it redraws anyway.
+fn note_changed_values(cases: &mut Cases, before: &Run, after: &Run, redrawn: &[u8]) {
+    let fields = 0..after.panel.size();
+    let changed: Vec<u8> = fields
+        .filter(|&field| before.values[field as usize] != after.values[field as usize])
+        .collect();
+    let downstream = after.panel.with_downstream(&changed);
+    let counted = |field: &u8| redrawn.contains(field) || changed.contains(field);
+    let turned = if redrawn.is_empty() { "" } else { "turned, " };
+    let forms = [
+        ("no value changed", changed.is_empty()),
+        (
+            "value and setter",
+            changed.iter().any(|f| redrawn.contains(f)),
+        ),
+        ("value alone", changed.iter().any(|f| !redrawn.contains(f))),
+        ("downstream of a value", !downstream.iter().all(counted)),
+    ];
+    for (form, _) in forms.iter().filter(|(_, met)| *met) {
+        note(cases, format!("value: {turned}{form}"));
     }
 }
 
@@ -508,6 +571,23 @@ const CASES: &[&str] = &[
     "FF0F: ratio of 3",
     "FF0F: sum, one field",
     "FF0F: sum, not covered",
+    "add: downstream directly",
+    "add: downstream through others",
+    "remove: downstream directly",
+    "remove: downstream through others",
+    "touch: downstream directly",
+    "touch: downstream through others",
+    "change: downstream directly",
+    "change: downstream through others",
+    "value: downstream directly",
+    "value: downstream through others",
+    "value: no value changed",
+    "value: value alone",
+    "value: downstream of a value",
+    "value: turned, no value changed",
+    "value: turned, value and setter",
+    "value: turned, value alone",
+    "value: turned, downstream of a value",
 ];
 
 #[test]

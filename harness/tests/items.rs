@@ -35,7 +35,8 @@ fn p_sizes() {
     assert_eq!(sizes, [1, 0, 64, 0]);
 }
 
-/// "Field 0 has strength 16, so it is taken, moved 1, field 0's stay waits."
+/// "Field 0 has strength 16, so it is taken, moved 1, field 0's stay waits", with
+/// document 02's request 6 moved 2.
 #[test]
 fn p_stay_is_displaced() {
     let before = run_lines(&items::STAY_IS_DISPLACED.lines[..2]);

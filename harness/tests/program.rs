@@ -79,6 +79,12 @@ fn changes_of_links() {
     check(&worked::changes::all());
 }
 
+/// Document 02, request 6.
+#[test]
+fn redraw_counts() {
+    check(&worked::redraws::all());
+}
+
 #[test]
 fn full_panels() {
     check(&worked::panels::all());
@@ -236,7 +242,7 @@ fn damaged_run() {
 
 /// A text of middle size, with damaged lines.
 fn middle_text() -> Vec<u8> {
-    let text = generate::text(869);
+    let text = generate::text(814);
     assert!((9_000..20_000).contains(&text.len()), "{}", text.len());
     text
 }

@@ -8,7 +8,7 @@ use harness::compare::{check_met, compared};
 use harness::generate::{frames, long_text, text, Mix, Rng, MIXES};
 use harness::plain::{hex, lines, values_after, TEXT_LIMIT};
 use harness::program::PANEL;
-use harness::worked::values::{look, store};
+use harness::worked::values::{look, store, LOOK};
 use harness::worked::Lines;
 use std::collections::BTreeMap;
 
@@ -67,10 +67,11 @@ const SHAPES: [Mix; 9] = [
         weights: [60, 24, 12, 4, 6, 4, 8],
         ..EVEN
     },
-    // Links that stay and are changed again and again.
+    // Links that stay and are changed again and again, often only in what they read.
     Mix {
         levels: &[0, 0, 1, 4, 4, 9],
         weights: [24, 6, 14, 4, 6, 6, 60],
+        reread_percent: 40,
         ..EVEN
     },
     // Mostly damaged lines.
@@ -83,12 +84,13 @@ const SHAPES: [Mix; 9] = [
 /// The same for values and formulas, with a quarter of the link numbers, so that
 /// many fields are set by their stays.
 const VALUE_SHAPES: [Mix; 3] = [
-    // Rows of ratios in both directions.
+    // Rows of ratios in both directions, values that fields have already.
     Mix {
         levels: &[0, 0, 2, 7],
         covered: (2, 2),
         output_percent: 85,
         weights: [14, 9, 3, 2, 50, 22, 10],
+        few_values_percent: 50,
         ..EVEN
     },
     // Sums and ratios, many of them in one direction.
@@ -169,9 +171,10 @@ fn kind(line: &[u8], reply: &[u8]) -> String {
         bad_hex if bad_hex.starts_with("FF01") => bad_hex_kind(line, &bad_hex[4..]),
         "FF09" | "FF0A" | "FF0B" | "FF0F" => format!("{reply} {command}"),
         refusal if refusal.starts_with("FF") => refusal.to_string(),
+        _ if command == "plan" => "plan".to_string(),
         "0000" => format!("{command}, moved 0"),
         "0001" => format!("{command}, moved 1"),
-        _ if command == "plan" => "plan".to_string(),
+        few if few < "000A" => format!("{command}, moved up to 9"),
         _ => format!("{command}, moved more"),
     }
 }
@@ -190,8 +193,9 @@ fn bad_hex_kind(line: &[u8], offset: &str) -> String {
 }
 
 /// How often each kind of reply is met at least, in each half. A touch that
-/// turns a walk moves two fields or more, as a value's does.
-const LEAST: [(&str, usize); 44] = [
+/// turns a walk moves two fields or more, as a value's does; a value moves 0 where
+/// it is the one that the field has.
+const LEAST: [(&str, usize); 50] = [
     ("FF01 empty line", 600),
     ("FF01 character up to 255", 5_000),
     ("FF01 character over 255", 250),
@@ -215,25 +219,31 @@ const LEAST: [(&str, usize); 44] = [
     ("FF0B change", 9_000),
     ("FF0B touch", 2_500),
     ("FF0B value", 1_800),
-    ("FF0D", 12_000),
+    ("FF0D", 10_000),
     ("FF0E", 30_000),
     ("FF0F ratio", 2_000),
     ("FF0F sum", 7_000),
     ("open, moved 0", 90),
-    ("add, moved 0", 50_000),
-    ("add, moved 1", 50_000),
-    ("add, moved more", 12_000),
-    ("remove, moved 0", 40_000),
-    ("remove, moved 1", 50_000),
-    ("remove, moved more", 14_000),
+    ("add, moved 0", 45_000),
+    ("add, moved 1", 40_000),
+    ("add, moved up to 9", 30_000),
+    ("add, moved more", 3_000),
+    ("remove, moved 0", 38_000),
+    ("remove, moved 1", 40_000),
+    ("remove, moved up to 9", 32_000),
+    ("remove, moved more", 3_300),
     ("touch, moved 0", 70_000),
-    ("touch, moved more", 9_000),
+    ("touch, moved up to 9", 6_500),
+    ("touch, moved more", 1_300),
     ("plan", 16_000),
     ("change, moved 0", 32_000),
-    ("change, moved 1", 6_000),
-    ("change, moved more", 8_000),
-    ("value, moved 0", 25_000),
-    ("value, moved more", 8_000),
+    ("change, moved 1", 3_300),
+    ("change, moved up to 9", 9_000),
+    ("change, moved more", 1_500),
+    ("value, moved 0", 450),
+    ("value, moved 1", 17_000),
+    ("value, moved up to 9", 16_000),
+    ("value, moved more", 900),
     ("ratio, moved 0", 8_000),
     ("sum, moved 0", 14_000),
 ];
@@ -318,12 +328,12 @@ fn values_after_random_texts() {
         let replies = lines(&output);
         // The tally is the last line.
         let replies = &replies[replies.len() - 1 - looks.len()..];
-        for (look, replies) in looks.chunks(5).zip(replies.chunks(5)) {
+        for (look, replies) in looks.chunks(LOOK).zip(replies.chunks(LOOK)) {
             let as_expected =
                 |((_, reply), given): (&(String, String), &&[u8])| reply.as_bytes() == *given;
             if look.iter().zip(replies).all(as_expected) {
                 seen += 1;
-                not_zero += (look[3].1 != "0000") as usize;
+                not_zero += (look[3].1 == "FF0D") as usize;
             }
         }
     }

@@ -3,8 +3,8 @@
 
 use harness::generate::Rng;
 use harness::plain::{lines, run_text, values_after, Formula, Run};
-use harness::worked::changes;
 use harness::worked::values::{self, frames, ratios, refusals, steps, sums, Valued};
+use harness::worked::{changes, redraws};
 
 /// The replies to the text up to each part, and the values after it.
 fn check(texts: Vec<Valued>) {
@@ -55,6 +55,12 @@ fn worked_refusals() {
 #[test]
 fn worked_changes() {
     check(changes::valued());
+}
+
+/// Request 6: the values that are counted.
+#[test]
+fn worked_redraws() {
+    check(redraws::valued());
 }
 
 #[test]

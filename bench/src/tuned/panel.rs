@@ -1,6 +1,6 @@
 //! The state of a panel.
 
-use crate::fields::{only, without};
+use crate::fields::{each, only, without};
 use crate::formula::Formula;
 use crate::text::Refusal;
 
@@ -41,7 +41,7 @@ pub(super) const A_STAY: Setter = Setter {
     covered: 0,
 };
 
-/// A panel, 4.8 KB. Past `size` the arrays by field are as in an unopened panel.
+/// A panel, 5.3 KB. Past `size` the arrays by field are as in an unopened panel.
 pub struct Panel {
     /// The number of fields, 0 while unopened.
     pub(super) size: usize,
@@ -53,6 +53,8 @@ pub struct Panel {
     pub(super) links: [Link; 128],
     /// By field: what its setter reads.
     pub(super) reads: [u64; 64],
+    /// By field: the fields whose setters read it.
+    pub(super) readers: [u64; 64],
     /// By field: the number of the link that sets it, or `STAY`.
     pub(super) setter: [u8; 64],
     /// By field: the place of its stay.
@@ -71,6 +73,7 @@ impl Panel {
             waiting: [0; 2],
             links: [NO_LINK; 128],
             reads: [0; 64],
+            readers: [0; 64],
             setter: [STAY; 64],
             place: std::array::from_fn(|field| field as u8),
             formulas: [Formula::None; 128],
@@ -124,7 +127,11 @@ impl Panel {
             covered: self.reads[field] | only(field),
         };
         self.setter[field] = setter.id;
-        self.reads[field] = without(setter.covered, field);
+        let reads = without(setter.covered, field);
+        for read in each(self.reads[field] ^ reads) {
+            self.readers[read] ^= only(field);
+        }
+        self.reads[field] = reads;
         self.held = match setter.id {
             STAY => without(self.held, field),
             _ => self.held | only(field),

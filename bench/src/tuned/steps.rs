@@ -19,7 +19,8 @@ impl Panel {
         if self.link(id).outputs != 0 {
             return Err(Refusal::LinkTaken);
         }
-        self.enter_link(id, link).map(count)
+        let moved = self.enter_link(id, link)?;
+        Ok(count(self.redrawn(moved)))
     }
 
     pub fn remove(&mut self, id: u8) -> Result<u8, Refusal> {
@@ -32,7 +33,7 @@ impl Panel {
         }
         let moved = self.drop_link(id)?;
         *self.formula_mut(id) = Formula::None;
-        Ok(count(moved))
+        Ok(count(self.redrawn(moved)))
     }
 
     /// "Removes the link and adds it anew as one, its formula kept if the covered
@@ -57,7 +58,8 @@ impl Panel {
             *self.formula_mut(id) = Formula::None;
         }
         let moved = each(freed | taken).filter(|&field| self.setter[field] != setters[field]);
-        Ok(moved.count() as u8)
+        let moved = moved.fold(0, |set, field| set | only(field));
+        Ok(count(self.redrawn(moved)))
     }
 
     /// The link of an add or a change, after the checks 4, 6 and 7.
@@ -129,9 +131,9 @@ impl Panel {
         Ok(moved | only(freed))
     }
 
-    /// Gives the fields that a removal moved the setters that they had, and enters
-    /// which links waited.
-    fn put_back(&mut self, fields: u64, setters: &[u8; 64], waiting: [u64; 2]) {
+    /// Gives the fields that a removal or a touch moved the setters that they had, and
+    /// enters which links waited.
+    pub(super) fn put_back(&mut self, fields: u64, setters: &[u8; 64], waiting: [u64; 2]) {
         for field in each(fields) {
             let id = setters[field];
             let covered = if id == STAY { 0 } else { self.link(id).covered };
@@ -145,7 +147,8 @@ impl Panel {
     }
 
     pub fn touch(&mut self, field: u8) -> Result<u8, Refusal> {
-        self.touch_fields(field).map(count)
+        let moved = self.touch_fields(field)?;
+        Ok(count(self.redrawn(moved)))
     }
 
     /// "f's stay moves to place 0 ... If that stay waits and is now blocked, turn

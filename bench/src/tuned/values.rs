@@ -6,25 +6,38 @@ use crate::fields::{each, has, lowest, only, without};
 use crate::formula::Formula;
 use crate::text::Refusal;
 
+/// The values while the plan is run, and which of them changed.
+struct Running {
+    values: [i32; 64],
+    changed: u64,
+}
+
+impl Running {
+    fn enter(&mut self, field: usize, value: i32) {
+        self.changed |= u64::from(self.values[field] != value) << field;
+        self.values[field] = value;
+    }
+}
+
 impl Panel {
     /// "Touches f, stores the value and runs the whole plan once"; "every refusal
-    /// undoes the touch". Where a link still sets the field nothing was turned.
+    /// undoes the touch". Where a link still sets the field nothing was turned, and
+    /// otherwise the touch turned no link that waited or waits. The count is of what
+    /// the touch redraws and "also every field whose value changed".
     pub fn store(&mut self, field: u8, value: i32) -> Result<u8, Refusal> {
         let (places, setters) = (self.place, self.setter);
-        let (held, reads) = (self.held, self.reads);
         let moved = self.touch_fields(field)?;
         let field = field as usize & 63;
         if has(self.held, field) {
             self.place = places;
             return Err(Refusal::FieldDriven);
         }
-        if let Some(values) = self.run_plan(field, value) {
-            self.values = values;
-            return Ok(count(moved));
+        if let Some(run) = self.run_plan(field, value) {
+            self.values = run.values;
+            return Ok(count(self.redrawn(moved) | run.changed));
         }
-        (self.place, self.setter) = (places, setters);
-        (self.held, self.reads) = (held, reads);
-        self.enter_setters(moved);
+        self.place = places;
+        self.put_back(moved, &setters, self.waiting);
         Err(Refusal::OutOfRange)
     }
 
@@ -32,9 +45,12 @@ impl Panel {
     /// result is outside the limits. Only fields whose link has a formula are
     /// worked out, each after those of them that it reads: any such order gives
     /// the values that the plan's does.
-    fn run_plan(&self, stored: usize, value: i32) -> Option<[i32; 64]> {
-        let mut values = self.values;
-        values[stored] = value;
+    fn run_plan(&self, stored: usize, value: i32) -> Option<Running> {
+        let mut run = Running {
+            values: self.values,
+            changed: 0,
+        };
+        run.enter(stored, value);
         let mut left = 0;
         for field in each(self.held) {
             if self.formula(self.setter[field]) != Formula::None {
@@ -42,20 +58,21 @@ impl Panel {
             }
         }
         while left != 0 {
-            left = self.run_field(lowest(left), left, &mut values)?;
+            left = self.run_field(lowest(left), left, &mut run)?;
         }
-        Some(values)
+        Some(run)
     }
 
     /// Works out a field after all it reads that is left. The answer is what is
     /// left then.
-    fn run_field(&self, field: usize, mut left: u64, values: &mut [i32; 64]) -> Option<u64> {
+    fn run_field(&self, field: usize, mut left: u64, run: &mut Running) -> Option<u64> {
         let reads = self.reads[field];
         while reads & left != 0 {
-            left = self.run_field(lowest(reads & left), left, values)?;
+            left = self.run_field(lowest(reads & left), left, run)?;
         }
         let formula = self.formula(self.setter[field]);
-        values[field] = formula.result(reads | only(field), field, values)?;
+        let result = formula.result(reads | only(field), field, &run.values)?;
+        run.enter(field, result);
         Some(without(left, field))
     }
 

@@ -23,6 +23,11 @@ pub struct Mix {
     /// Weights of add, remove, touch, plan, value (kind 07), formula (kind 08) and
     /// change (kind 06).
     pub weights: [usize; 7],
+    /// Chance of a change to leave level and outputs and to draw only the fields that
+    /// are merely read; else it is drawn from all changes.
+    pub reread_percent: usize,
+    /// Chance of a value to be one of few, so that a field often has it already.
+    pub few_values_percent: usize,
     /// Chance of a line to be damaged, in those texts that have damaged lines.
     pub damaged_percent: usize,
 }
@@ -38,6 +43,8 @@ const MIDDLE: Mix = Mix {
     output_percent: 60,
     frames: (10, 80),
     weights: [50, 25, 20, 5, 15, 10, 15],
+    reread_percent: 0,
+    few_values_percent: 0,
     damaged_percent: 10,
 };
 
@@ -113,6 +120,7 @@ pub const MIXES: &[Mix] = &[
         frames: (250, 400),
         weights: [95, 0, 3, 2, 3, 2, 2],
         damaged_percent: 1,
+        ..MIDDLE
     },
     // Rows of ratios in both directions.
     Mix {
@@ -162,6 +170,20 @@ pub const MIXES: &[Mix] = &[
         frames: (300, 1500),
         weights: [40, 35, 20, 5, 20, 10, 20],
         damaged_percent: 2,
+        ..MIDDLE
+    },
+    // Links that keep their outputs and read other fields, values that fields have
+    // already: what is redrawn.
+    Mix {
+        fields: (2, 5),
+        ids: 7,
+        levels: &[0, 1, 4, 4, 4, 4],
+        covered: (1, 3),
+        output_percent: 80,
+        frames: (20, 120),
+        weights: [25, 15, 8, 3, 12, 6, 35],
+        reread_percent: 70,
+        few_values_percent: 80,
         ..MIDDLE
     },
 ];
@@ -223,7 +245,7 @@ fn frame(rng: &mut Rng, mix: &Mix, fields: usize, used: &mut Used) -> Vec<u8> {
         }
         2 => vec![4, rng.below(fields) as u8],
         3 => vec![5],
-        4 => values::store(rng, fields),
+        4 => values::store(rng, mix, fields),
         5 => {
             let id = used_id(rng, mix, used);
             let field_bytes = used.get(&id).map_or(&[][..], |body| &body[1..]);

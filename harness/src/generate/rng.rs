@@ -39,6 +39,11 @@ impl Rng {
         self.below(100) < percent
     }
 
+    /// The same, but where the percentage is 0 nothing is drawn.
+    pub fn chance(&mut self, percent: usize) -> bool {
+        percent > 0 && self.percent(percent)
+    }
+
     /// One of the choices, which are not empty.
     pub fn pick<'a, T>(&mut self, choices: &'a [T]) -> &'a T {
         &choices[self.below(choices.len())]

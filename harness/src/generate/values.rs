@@ -1,11 +1,16 @@
 //! Random frames of kinds 07 and 08.
 
+use super::frames::Mix;
 use super::rng::Rng;
 
 /// A frame of kind 07 for one of so many fields.
-pub fn store(rng: &mut Rng, fields: usize) -> Vec<u8> {
+pub fn store(rng: &mut Rng, mix: &Mix, fields: usize) -> Vec<u8> {
     let mut frame = vec![7, rng.below(fields) as u8];
-    frame.extend(value(rng).to_be_bytes());
+    let value = match rng.chance(mix.few_values_percent) {
+        true => rng.below(4) as i32 - 1,
+        false => value(rng),
+    };
+    frame.extend(value.to_be_bytes());
     frame
 }
 

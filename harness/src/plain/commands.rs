@@ -1,5 +1,6 @@
 //! The commands, each on a run's panel, values and formulas. Values and
-//! formulas are those of document 02, request 2.
+//! formulas are those of document 02, request 2, the count of a value is that of
+//! request 6.
 
 use super::formula::Formula;
 use super::frame::Command;
@@ -59,16 +60,28 @@ impl Run {
     /// "Every refusal undoes the touch": nothing is taken over before the end.
     fn store(&mut self, field: u8, value: i32) -> Result<u8, Refusal> {
         let mut panel = self.panel.clone();
-        let moved = panel.touch(field)?;
+        panel.touch(field)?;
         if panel.setter(field) != Item::Stay(field) {
             return Err(Refusal::FieldDriven);
         }
         let mut values = self.values.clone();
         values[field as usize] = value;
         self.run_plan(&panel, &mut values)?;
+        let moved = self.redrawn_by_value(&panel, &values);
         self.panel = panel;
         self.values = values;
         Ok(moved)
+    }
+
+    /// The count of kind 07, which leaves this panel and these values: "fields
+    /// whose setter changed, and all fields downstream of these ..; for kind 07
+    /// also every field whose value changed". What lies downstream of a field that
+    /// only changed its value does not count for that.
+    fn redrawn_by_value(&self, panel: &Panel, values: &[i32]) -> u8 {
+        let redrawn = panel.redrawn(&self.panel);
+        let value_changed = |field: u8| values[field as usize] != self.values[field as usize];
+        let counted = (0..panel.size()).filter(|&f| redrawn.contains(&f) || value_changed(f));
+        counted.count() as u8
     }
 
     /// Works out the fields in the order of the plan; "a link without formula,

@@ -137,11 +137,10 @@ impl Panel {
         }
     }
 
-    /// Takes over the panel after a command, whole, and "counts the fields whose
-    /// setter after the command is not the one before".
+    /// Takes over the panel after a command, whole, and counts the fields that are
+    /// redrawn.
     fn replace_with(&mut self, after: Panel) -> u8 {
-        let (old, new) = (self.setters(), after.setters());
-        let moved = old.iter().zip(&new).filter(|(a, b)| a != b).count();
+        let moved = after.redrawn(self).len();
         *self = after;
         moved as u8
     }

@@ -1,6 +1,6 @@
 //! The items of document 01: "One run in full", the empty input, and every
-//! item of "Neighbouring commands". Where an item says who holds a field, a
-//! plan follows that shows it.
+//! item of "Neighbouring commands", with what document 02's requests 1 and 6 make
+//! of them. Where an item says who holds a field, a plan follows that shows it.
 
 use super::Worked;
 
@@ -79,14 +79,16 @@ pub const SIZES: [Item; 4] = [
 ];
 
 /// P "0102, 0200008081, 02010080: link 1 is permitted only field 0. Field 0 has
-/// strength 16, so it is taken, moved 1, field 0's stay waits."
+/// strength 16, so it is taken, moved 1, field 0's stay waits." Document 02, request
+/// 6: "The case in which link 1 is permitted only field 0 now gives moved 2", field 0
+/// and field 1, whose link 0 reads it.
 pub const STAY_IS_DISPLACED: Item = Item {
     name: "stay is displaced",
     lines: &[
         ("0102", "0000"),
         ("0200008081", "0001"),
         ("05", "0002008010010010"),
-        ("02010080", "0001"),
+        ("02010080", "0002"),
         ("05", "0002000100010000"),
     ],
     tally: "EE00000500000500000000",

@@ -70,7 +70,8 @@ pub fn chain_plan() -> String {
 /// walk goes down by sevens to 7, then to 6. Link 56 would set 56 and read 57,
 /// whose link 50 reads 56: a loop. One that may only set field 7: the walk goes
 /// from 7 to 6, and link 0 sets 6 and reads 7. The strength of 7 is 0, that of
-/// 6 is 21 from field 5, and 21 passes on to fields 8 to 63.
+/// 6 is 21 from field 5, and 21 passes on to fields 8 to 63. Field 8 reads 6 and 7,
+/// and each field above it reads the one below: 58 fields, from 6 on, are redrawn.
 fn chain_turned() -> Worked {
     let mut lines = chain();
     push(&mut lines, &[("024000BF", "FF0B"), ("05", &chain_plan())]);
@@ -78,7 +79,7 @@ fn chain_turned() -> Worked {
     let turned = [[7, 64, 0], [6, 0, 21]];
     let set = (8..64).map(|field| [field, field - 7, 21]);
     let turned = plan(stays.chain(turned).chain(set));
-    push(&mut lines, &[("02400087", "0002"), ("05", &turned)]);
+    push(&mut lines, &[("02400087", "003A"), ("05", &turned)]);
     Worked::new("chain turned", &lines, "EE00003E00003D0000010B")
 }
 
@@ -171,15 +172,16 @@ fn row_changed() -> Worked {
 
 /// 128 links on 21 threes of fields a, a + 1, a + 2, a being 3b, and field 63.
 /// Link 2b, required, is permitted a and a + 1, sets a + 1 and reads the other
-/// two. Link 2b + 1, required, reads a and sets a + 2. The links from 42 on,
-/// level 15, each wait for some a + 2, of strength 0.
+/// two. Link 2b + 1, required, reads a and sets a + 2, which a + 1 is downstream
+/// of: moved 2. The links from 42 on, level 15, each wait for some a + 2, of
+/// strength 0.
 fn threes() -> Lines {
     let mut lines = opening();
     for b in 0..21 {
         let a = 3 * b;
         let first = add(2 * b, 0, [a | 0x80, (a + 1) | 0x80, a + 2]);
         let second = add(2 * b + 1, 0, [a, (a + 2) | 0x80]);
-        push(&mut lines, &[(&first, "0001"), (&second, "0001")]);
+        push(&mut lines, &[(&first, "0001"), (&second, "0002")]);
     }
     for id in 42..128 {
         let waiting = add(id, 15, [(3 * (id % 21) + 2) | 0x80]);
@@ -212,12 +214,13 @@ fn threes_touched() -> Worked {
 }
 
 /// Without link 2b + 1 the first of the links that wait for a + 2 sets it and
-/// reads nothing, so the touch of a + 1 turns link 2b to a: moved 2.
+/// reads nothing: moved 2, since link 2b reads a + 2 to set a + 1. Then the touch of
+/// a + 1 turns link 2b to a: moved 2.
 fn threes_turned() -> Worked {
     let mut lines = threes();
     for b in 0..21 {
         let (remove, touch) = (hex(&[3, 2 * b + 1]), hex(&[4, 3 * b + 1]));
-        push(&mut lines, &[(&touch, "FF0B"), (&remove, "0001")]);
+        push(&mut lines, &[(&touch, "FF0B"), (&remove, "0002")]);
         push(&mut lines, &[(&touch, "0002")]);
     }
     let three = |b: u8| {

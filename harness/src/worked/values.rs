@@ -1,8 +1,9 @@
 //! Values and formulas (document 02, request 2).
 //!
-//! No reply tells a value. It is seen by a sum: a field x, which nothing else
-//! covers, and a link that makes a field s the sum of x and the field looked at.
-//! A kind 07 on x is then refused exactly where the sum is outside the limits.
+//! No reply tells a value, only how many changed (request 6). It is seen by a sum: a
+//! field x, which nothing else covers, and a link that makes a field s the sum of x
+//! and the field looked at. A kind 07 on x is then refused exactly where the sum is
+//! outside the limits.
 //! It runs the whole plan, so it is a look only where that changes nothing else:
 //! where each held formula is right, as after every accepted kind 07.
 
@@ -97,25 +98,40 @@ impl Valued {
     }
 }
 
+/// How many lines a look has.
+pub const LOOK: usize = 7;
+
 /// Lines with the replies that they have exactly where a field has this value,
-/// on a panel of so many fields. Behind them x and s have other values and the
-/// stay of x is the first; all else is as before.
+/// on a panel of so many fields in which x and s are zero. Behind them x and s are
+/// zero again and their stays are the first; all else is as before.
 pub fn look(fields: u8, field: u8, value: i32) -> Lines {
     let (x, s) = (fields - 2, fields - 1);
     // What x may be at most or at least, and one step more. A value of zero is
-    // both at most and at least zero.
+    // both at most and at least zero, so that x and s then change twice.
     let (within, further, reply) = match value {
-        0 => (GREATEST, LEAST, "0000"),
+        0 => (GREATEST, LEAST, "0002"),
         1.. => (GREATEST - value, GREATEST - value + 1, "FF0D"),
         _ => (LEAST - value, LEAST - value - 1, "FF0D"),
     };
+    let stored = changed(&[0, 0], &[within, value + within]);
+    let last = if value == 0 { further } else { within };
     owned(&[
         (&add(LOOKING, 0, [field, x, s | 0x80]), "0001"),
         (&sum(LOOKING, s), "0000"),
-        (&store(x, within), "0000"),
+        (&store(x, within), &stored),
         (&store(x, further), reply),
         (&hex(&[3, LOOKING]), "0001"),
+        (&store(x, 0), &changed(&[last], &[0])),
+        // The sum was the greatest or the least value.
+        (&store(s, 0), "0001"),
     ])
+}
+
+/// The reply to a kind 07 that gives fields these values in place of those and turns
+/// nothing: "every field whose value changed".
+fn changed(before: &[i32], after: &[i32]) -> String {
+    let pairs = before.iter().zip(after);
+    hex(&[0, pairs.filter(|(old, new)| old != new).count() as u8])
 }
 
 /// A line of kind 07.

@@ -20,7 +20,12 @@ pub fn bytes(digits: &str) -> Vec<u8> {
 
 /// What the panel holds, in the order of the plan.
 pub fn held(run: &Run) -> Vec<Held> {
-    let reply = bytes(&run.clone().line(b"05"));
+    held_of(&run.clone().line(b"05"))
+}
+
+/// What the reply to a plan tells.
+pub fn held_of(plan: &str) -> Vec<Held> {
+    let reply = bytes(plan);
     if reply == [0xFF, 4] {
         return Vec::new();
     }

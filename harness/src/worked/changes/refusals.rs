@@ -38,15 +38,15 @@ fn conflict() -> Worked {
     )
 }
 
-/// Link 0 reads 0 and sets 1, link 1 sets 0. Link 1 cannot be changed to read 1, at
-/// whatever level, until link 0 is gone.
+/// Link 0 reads 0 and sets 1, link 1 sets 0: moved 2. Link 1 cannot be changed to
+/// read 1, at whatever level, until link 0 is gone.
 fn loop_of_the_adding() -> Worked {
     Worked::of_lines(
         "loop of the adding",
         &[
             ("0102", "0000"),
             ("0200000081", "0001"),
-            ("02010080", "0001"),
+            ("02010080", "0002"),
             ("0601008001", "FF0B"),
             ("06010F8001", "FF0B"),
             ("05", "0002000100010000"),
@@ -93,14 +93,15 @@ pub fn loop_of_the_removal() -> Worked {
     )
 }
 
-/// Link 2 (level 3) sets field 0, link 0 (required, outputs 0 and 1) sets 1, link 4
-/// (required) reads 1 and sets 2. Links 1 (level 5) and 3 (level 4), which may set
-/// only 1, wait. The stay of 1 is the first.
+/// Link 2 (level 3) sets field 0, link 0 (required, outputs 0 and 1) reads it and
+/// sets 1, link 4 (required) reads 1 and sets 2. Links 1 (level 5) and 3 (level 4),
+/// which may set only 1, wait. The stay of 1 is the first.
 ///
 /// Without link 2 link 3 sets 1 and link 0 turns to 0. Then link 2 as a required link
 /// for 2 meets a Conflict. As a required link that reads 2 and sets 0 it turns link 0
 /// back to 1, which link 4 reads to set 2: a Loop. Each time all is as before; link 3
-/// waits again, and the removal of link 2 turns for it.
+/// waits again, and the removal of link 2 turns for it: fields 0 and 1 have another
+/// setter, and 2 is downstream of 1.
 fn refused_behind_a_turned_removal() -> Worked {
     let plan = "0003000203010003020400";
     Worked::of_lines(
@@ -108,7 +109,7 @@ fn refused_behind_a_turned_removal() -> Worked {
         &[
             ("0103", "0000"),
             ("0200008081", "0001"),
-            ("02020380", "0001"),
+            ("02020380", "0002"),
             ("02010581", "0000"),
             ("02030481", "0000"),
             ("0204000182", "0001"),
@@ -118,17 +119,18 @@ fn refused_behind_a_turned_removal() -> Worked {
             ("05", plan),
             ("0602008002", "FF0B"),
             ("05", plan),
-            ("0302", "0002"),
+            ("0302", "0003"),
             ("05", "0003010304000004020400"),
         ],
     )
 }
 
 /// Link 0 (required, outputs 0 and 1, covers 2) sets 1, link 1 reads 0 and sets 2, link
-/// 2 (level 3) sets 0, and the stay of 1 is the first. Without link 2 the stay of 1 is
-/// blocked and would turn link 0 to 0, which reads 2, whose link 1 reads 0. Link 2
-/// cannot go to field 3, where nothing stands in its way, until link 1 is gone: then
-/// the stay of 1 sets 1, link 0 sets 0 and link 2 sets 3, moved 3.
+/// 2 (level 3) sets 0, and the stay of 1 is the first. So 1 is downstream of 2, and
+/// both are downstream of 0. Without link 2 the stay of 1 is blocked and would turn
+/// link 0 to 0, which reads 2, whose link 1 reads 0. Link 2 cannot go to field 3, where
+/// nothing stands in its way, until link 1 is gone: then the stay of 1 sets 1, link 0
+/// sets 0 and link 2 sets 3, moved 3.
 fn loop_of_a_blocked_stay() -> Worked {
     let plan = "0004000203020100010003038013";
     Worked::of_lines(
@@ -136,13 +138,13 @@ fn loop_of_a_blocked_stay() -> Worked {
         &[
             ("0104", "0000"),
             ("020000808102", "0001"),
-            ("0201000082", "0001"),
-            ("02020380", "0001"),
+            ("0201000082", "0002"),
+            ("02020380", "0003"),
             ("0401", "0000"),
             ("05", plan),
             ("06020383", "FF0B"),
             ("05", plan),
-            ("0301", "0001"),
+            ("0301", "0002"),
             ("06020383", "0003"),
             ("05", "0004018010028012000010030203"),
         ],

@@ -1,6 +1,8 @@
 //! Changes that are accepted: the link is removed, with the walk that may follow,
 //! and added anew on the panel that this leaves. "Moved compares the state before
-//! with the state after both, a link of the same number being the same setter."
+//! with the state after both, a link of the same number being the same setter." What
+//! is downstream is counted too (request 6), as after every command; here it is as a
+//! rule among the fields with another setter.
 
 use super::Worked;
 
@@ -105,13 +107,13 @@ fn fields_read() -> Worked {
     )
 }
 
-/// Link 2 (level 3) sets field 0 and link 0 (required, outputs 0 and 1) sets 1.
-/// Links 1 (level 5) and 3 (level 4), which may set only 1, wait. The stay of 1 is
-/// the first.
+/// Link 2 (level 3) sets field 0 and link 0 (required, outputs 0 and 1) sets 1 and
+/// reads 0. Links 1 (level 5) and 3 (level 4), which may set only 1, wait. The stay
+/// of 1 is the first.
 const BEFORE: [(&str, &str); 7] = [
     ("0102", "0000"),
     ("0200008081", "0001"),
-    ("02020380", "0001"),
+    ("02020380", "0002"),
     ("02010581", "0000"),
     ("02030481", "0000"),
     ("0401", "0000"),
@@ -148,17 +150,17 @@ fn as_one() -> Worked {
     Worked::of_lines("as one", &[&BEFORE[..], &rest].concat())
 }
 
-/// Link 0 (required, outputs 0 and 1) sets 1, link 1 (level 3) sets 0, and the stay
-/// of 1 is the first. When link 1 goes to field 2, field 0 is left to its stay,
-/// level 17; the stay of 1, level 16, is blocked, sets 1, and link 0 turns to 0:
-/// moved 3. Back at field 0 link 1 turns link 0 to 1 again, moved 3.
+/// Link 0 (required, outputs 0 and 1) sets 1, link 1 (level 3) sets 0, which link 0
+/// reads, and the stay of 1 is the first. When link 1 goes to field 2, field 0 is
+/// left to its stay, level 17; the stay of 1, level 16, is blocked, sets 1, and link
+/// 0 turns to 0: moved 3. Back at field 0 link 1 turns link 0 to 1 again, moved 3.
 fn stay_found_blocked() -> Worked {
     Worked::of_lines(
         "stay found blocked",
         &[
             ("0103", "0000"),
             ("0200008081", "0001"),
-            ("02010380", "0001"),
+            ("02010380", "0002"),
             ("0401", "0000"),
             ("05", "0003000103010003028012"),
             ("06010582", "0003"),

@@ -18,7 +18,8 @@ pub fn all() -> Vec<Worked> {
 
 /// "Another length or formula kind is a BadFrame": kind 07 of 1 to 12 bytes, and
 /// kind 08 of 1 to 12 bytes with every formula kind. The bytes behind the formula
-/// kind are 01.
+/// kind are 01. Where the value comes link 0 has a sum, of four bytes: both fields
+/// change.
 fn lengths(open: bool) -> Worked {
     let mut lines = Lines::new();
     if open {
@@ -26,6 +27,7 @@ fn lengths(open: bool) -> Worked {
     }
     let mut line = |frame: &[u8], right: bool| {
         let reply = match right {
+            true if open && frame[0] == 7 => "0002",
             true if open => "0000",
             true => "FF04",
             false => "FF02",

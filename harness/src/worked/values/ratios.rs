@@ -1,7 +1,7 @@
 //! Ratios: "higher field = lower × p / q, or the reverse with q and p swapped,
 //! p and q from 1 to 65,535, rounded to nearest, halves away from zero".
 
-use super::{owned, ratio, store, Valued, Worked, GREATEST, LEAST};
+use super::{changed, owned, ratio, store, Valued, Worked, GREATEST, LEAST};
 
 /// Every text of this file.
 pub fn all() -> Vec<Valued> {
@@ -22,7 +22,7 @@ fn airflow() -> Valued {
             ],
             &[0, 0],
         )
-        .part(&[("070000007530", "0000")], &[30_000, 500])
+        .part(&[("070000007530", "0002")], &[30_000, 500])
         .part(&[("0701000002EE", "0002")], &[45_000, 750])
         .part(&[("0700FFFFFFE2", "0002")], &[-30, -1])
 }
@@ -34,7 +34,7 @@ pub fn sample() -> Worked {
         ("0102", "0000"),
         ("0200008081", "0001"),
         ("0800010001003C", "0000"),
-        ("070000007530", "0000"),
+        ("070000007530", "0002"),
         ("05", "0002008010010010"),
         ("0701000002EE", "0002"),
         ("05", "0002018010000010"),
@@ -45,8 +45,8 @@ pub fn sample() -> Worked {
 
 /// The same with the volume of a breath of four seconds (field 2), 4 to 1 from
 /// airflow per second. A volume of 2,400 turns both links: 600 a second, 36,000 a
-/// minute. 500 a second turns link 1 back to field 2 and leaves link 0 at field 0:
-/// 2,000 and 30,000.
+/// minute. 500 a second turns link 1 back to field 2 and leaves link 0 at field 0,
+/// downstream of field 1: 2,000 and 30,000.
 fn breath() -> Valued {
     Valued::new("breath volume")
         .part(
@@ -59,9 +59,9 @@ fn breath() -> Valued {
             ],
             &[0, 0, 0],
         )
-        .part(&[("070000007530", "0000")], &[30_000, 500, 2_000])
+        .part(&[("070000007530", "0003")], &[30_000, 500, 2_000])
         .part(&[("070200000960", "0003")], &[36_000, 600, 2_400])
-        .part(&[("0701000001F4", "0002")], &[30_000, 500, 2_000])
+        .part(&[("0701000001F4", "0003")], &[30_000, 500, 2_000])
 }
 
 /// A value, p, q, and what value × p / q is rounded to; none outside the limits.
@@ -183,8 +183,9 @@ fn cases(name: &str, link: &str, case: impl Fn(Case) -> ([String; 2], Option<[i3
         let formula = (formula.as_str(), "0000");
         text = match after {
             Some(after) => {
+                let reply = changed(&values, &after);
                 values = after;
-                text.part(&[formula, (&stored, "0000")], &values)
+                text.part(&[formula, (&stored, &reply)], &values)
             }
             None => text.unsettled(&[formula, (&stored, "FF0D")], &values),
         };
@@ -201,25 +202,25 @@ fn bytes() -> Valued {
                 ("0104", "0000"),
                 ("0200000081", "0001"),
                 ("08000101020001", "0000"),
-                ("070000000003", "0000"),
+                ("070000000003", "0002"),
             ],
             &[3, 774],
         )
         .part(
-            &[("08000100010102", "0000"), ("070000000306", "0000")],
+            &[("08000100010102", "0000"), ("070000000306", "0002")],
             &[774, 3],
         )
         .part(
-            &[("08000100010001", "0000"), ("070000000001", "0000")],
+            &[("08000100010001", "0000"), ("070000000001", "0002")],
             &[1, 1],
         )
-        .part(&[("070000000100", "0000")], &[256, 256])
-        .part(&[("070000010000", "0000")], &[65_536, 65_536])
-        .part(&[("070001000000", "0000")], &[16_777_216, 16_777_216])
-        .part(&[("070012345678", "0000")], &[305_419_896, 305_419_896])
-        .part(&[("07007FFFFFFF", "0000")], &[GREATEST, GREATEST])
-        .part(&[("070080000000", "0000")], &[LEAST, LEAST])
-        .part(&[("0700FFFFFFFF", "0000")], &[-1, -1])
-        .part(&[("0700FFFFFF00", "0000")], &[-256, -256])
-        .part(&[("070080000001", "0000")], &[-GREATEST, -GREATEST])
+        .part(&[("070000000100", "0002")], &[256, 256])
+        .part(&[("070000010000", "0002")], &[65_536, 65_536])
+        .part(&[("070001000000", "0002")], &[16_777_216, 16_777_216])
+        .part(&[("070012345678", "0002")], &[305_419_896, 305_419_896])
+        .part(&[("07007FFFFFFF", "0002")], &[GREATEST, GREATEST])
+        .part(&[("070080000000", "0002")], &[LEAST, LEAST])
+        .part(&[("0700FFFFFFFF", "0002")], &[-1, -1])
+        .part(&[("0700FFFFFF00", "0002")], &[-256, -256])
+        .part(&[("070080000001", "0002")], &[-GREATEST, -GREATEST])
 }

@@ -32,15 +32,17 @@ fn zero_at_opening() -> Valued {
 }
 
 /// Field 1 gets 5 while its stay sets it. The link that then sets it has no
-/// formula and keeps 5.
+/// formula and keeps 5, so that a value for field 0, which it reads, redraws only
+/// field 0.
 fn link_without_formula() -> Valued {
     Valued::new("link without formula")
-        .part(&[("0104", "0000"), ("070100000005", "0000")], &[0, 5])
+        .part(&[("0104", "0000"), ("070100000005", "0001")], &[0, 5])
         .part(&[("0200000081", "0001")], &[0, 5])
-        .part(&[("070000000009", "0000")], &[9, 5])
+        .part(&[("070000000009", "0001")], &[9, 5])
 }
 
-/// Link 0 sets field 0 from 1, link 1 sets 1 from 2: the plan is 2, 1, 0. Field 1
+/// Link 0 sets field 0 from 1, link 1 sets 1 from 2, which leaves 0 downstream of 1:
+/// the plan is 2, 1, 0. Field 1
 /// is 3 times field 2, field 0 is 2 times field 1. By rising number field 0 would
 /// come from the old value of field 1.
 fn order_of_the_plan() -> Valued {
@@ -49,14 +51,14 @@ fn order_of_the_plan() -> Valued {
             &[
                 ("0105", "0000"),
                 ("0200008001", "0001"),
-                ("0201008102", "0001"),
+                ("0201008102", "0002"),
                 ("08000100010002", "0000"),
                 ("08010100010003", "0000"),
-                ("070200000005", "0000"),
+                ("070200000005", "0003"),
             ],
             &[30, 15, 5],
         )
-        .part(&[("070200000001", "0000")], &[6, 3, 1])
+        .part(&[("070200000001", "0003")], &[6, 3, 1])
 }
 
 /// Field 1 is to be 2 times field 0, field 3 to be 3 times field 2. The formulas
@@ -69,7 +71,7 @@ fn whole_plan() -> Valued {
                 ("0106", "0000"),
                 ("0200000081", "0001"),
                 ("0201000283", "0001"),
-                ("070000000007", "0000"),
+                ("070000000007", "0001"),
             ],
             &[7, 0, 0, 0],
         )
@@ -77,7 +79,7 @@ fn whole_plan() -> Valued {
             &[("08000100020001", "0000"), ("08010100030001", "0000")],
             &[7, 0, 0, 0],
         )
-        .part(&[("070200000005", "0000")], &[7, 14, 5, 15])
+        .part(&[("070200000005", "0003")], &[7, 14, 5, 15])
         .part(&[("0300", "0001")], &[7, 14, 5, 15])
 }
 
@@ -89,7 +91,7 @@ fn formula_computes_nothing() -> Valued {
             &[
                 ("0104", "0000"),
                 ("0200008081", "0001"),
-                ("070000000007", "0000"),
+                ("070000000007", "0001"),
             ],
             &[7, 0],
         )
@@ -109,7 +111,7 @@ fn other_kinds_change_no_value() -> Valued {
                 ("0104", "0000"),
                 ("0200008081", "0001"),
                 ("08000100010002", "0000"),
-                ("070000000003", "0000"),
+                ("070000000003", "0002"),
             ],
             &[3, 2],
         )
@@ -118,7 +120,7 @@ fn other_kinds_change_no_value() -> Valued {
         .unsettled(&[("0104", "FF03")], &[3, 2])
         .unsettled(&[("02010580", "0002"), ("0301", "0002")], &[3, 2])
         .part(&[("0300", "0001")], &[3, 2])
-        .part(&[("0205000081", "0001"), ("070000000009", "0000")], &[9, 2])
+        .part(&[("0205000081", "0001"), ("070000000009", "0001")], &[9, 2])
 }
 
 /// A ratio by another one, by a sum, by a sum into the other field, and back. One
@@ -130,23 +132,23 @@ fn formula_replaced() -> Valued {
                 ("0104", "0000"),
                 ("0200000081", "0001"),
                 ("08000100020001", "0000"),
-                ("070000000003", "0000"),
+                ("070000000003", "0002"),
             ],
             &[3, 6],
         )
         .part(
-            &[("08000100000001", "FF0F"), ("070000000004", "0000")],
+            &[("08000100000001", "FF0F"), ("070000000004", "0002")],
             &[4, 8],
         )
-        .part(&[("08000202", "FF0F"), ("070000000005", "0000")], &[5, 10])
+        .part(&[("08000202", "FF0F"), ("070000000005", "0002")], &[5, 10])
         .part(
-            &[("08000100030001", "0000"), ("070000000005", "0000")],
+            &[("08000100030001", "0000"), ("070000000005", "0001")],
             &[5, 15],
         )
-        .part(&[("08000201", "0000"), ("070000000006", "0000")], &[6, 6])
-        .part(&[("08000200", "0000"), ("070000000007", "0000")], &[7, 7])
+        .part(&[("08000201", "0000"), ("070000000006", "0002")], &[6, 6])
+        .part(&[("08000200", "0000"), ("070000000007", "0002")], &[7, 7])
         .part(
-            &[("08000100010007", "0000"), ("070000000015", "0000")],
+            &[("08000100010007", "0000"), ("070000000015", "0002")],
             &[21, 3],
         )
 }
@@ -160,14 +162,14 @@ fn formula_dropped() -> Valued {
                 ("0104", "0000"),
                 ("0200008081", "0001"),
                 ("08000100020001", "0000"),
-                ("070000000003", "0000"),
+                ("070000000003", "0002"),
             ],
             &[3, 6],
         )
         .part(&[("0300", "0001"), ("08000201", "FF09")], &[3, 6])
-        .part(&[("0200008081", "0001"), ("070000000005", "0000")], &[5, 6])
+        .part(&[("0200008081", "0001"), ("070000000005", "0001")], &[5, 6])
         .part(
-            &[("08000100030001", "0000"), ("070000000005", "0000")],
+            &[("08000100030001", "0000"), ("070000000005", "0001")],
             &[5, 15],
         )
 }
@@ -184,17 +186,17 @@ fn formula_of_a_waiting_link() -> Valued {
                 ("0201050081", "0000"),
                 ("08000100020001", "0000"),
                 ("08010100030001", "0000"),
-                ("070000000004", "0000"),
+                ("070000000004", "0002"),
             ],
             &[4, 8],
         )
         .unsettled(&[("0300", "0001")], &[4, 8])
-        .part(&[("070000000004", "0000")], &[4, 12])
+        .part(&[("070000000004", "0001")], &[4, 12])
         .part(
             &[
                 ("0301", "0001"),
                 ("0201050081", "0001"),
-                ("070000000009", "0000"),
+                ("070000000009", "0001"),
             ],
             &[9, 12],
         )
@@ -213,34 +215,35 @@ fn formula_dropped_while_waiting() -> Valued {
                 ("0301", "0000"),
                 ("0201050081", "0000"),
                 ("0300", "0001"),
-                ("070000000004", "0000"),
+                ("070000000004", "0001"),
             ],
             &[4, 0],
         )
         .part(
-            &[("08010100030001", "0000"), ("070000000004", "0000")],
+            &[("08010100030001", "0000"), ("070000000004", "0001")],
             &[4, 12],
         )
 }
 
-/// The removal of link 2 would let the stay of 1 turn link 0 to field 0, which
-/// reads 2, whose link 1 reads 0: a loop. Link 2 keeps its formula, field 0 is 2
-/// times field 3.
+/// Link 0 sets 1 and reads 0 and 2, link 1 sets 2 from 0, link 2 sets 0 from 3: 1 is
+/// downstream of 2, and both are downstream of 0. The removal of link 2 would let
+/// the stay of 1 turn link 0 to field 0, which reads 2, whose link 1 reads 0: a loop.
+/// Link 2 keeps its formula, field 0 is 2 times field 3.
 fn formula_kept_by_a_refused_removal() -> Valued {
     Valued::new("formula kept by a refused removal")
         .part(
             &[
                 ("0106", "0000"),
                 ("020000808102", "0001"),
-                ("0201000082", "0001"),
-                ("0202038003", "0001"),
+                ("0201000082", "0002"),
+                ("0202038003", "0003"),
                 ("08020100010002", "0000"),
-                ("070300000004", "0000"),
+                ("070300000004", "0002"),
             ],
             &[8, 0, 0, 4],
         )
         .part(&[("0401", "0000"), ("0302", "FF0B")], &[8, 0, 0, 4])
-        .part(&[("070300000005", "0000")], &[10, 0, 0, 5])
+        .part(&[("070300000005", "0002")], &[10, 0, 0, 5])
 }
 
 /// Link 0 is added again over other fields: the old formula would make field 2
@@ -252,8 +255,8 @@ fn formula_of_other_fields() -> Valued {
                 ("0106", "0000"),
                 ("020000000182", "0001"),
                 ("08000202", "0000"),
-                ("070000000003", "0000"),
-                ("070100000004", "0000"),
+                ("070000000003", "0002"),
+                ("070100000004", "0002"),
             ],
             &[3, 4, 7, 0],
         )
@@ -261,12 +264,12 @@ fn formula_of_other_fields() -> Valued {
             &[
                 ("0300", "0001"),
                 ("020000010283", "0001"),
-                ("070100000006", "0000"),
+                ("070100000006", "0001"),
             ],
             &[3, 6, 7, 0],
         )
         .part(
-            &[("08000203", "0000"), ("070100000006", "0000")],
+            &[("08000203", "0000"), ("070100000006", "0001")],
             &[3, 6, 7, 13],
         )
 }
@@ -282,13 +285,14 @@ fn row(name: &str, p: u16, q: u16) -> Valued {
     Valued::new(name).with(lines, &[0; 62], true)
 }
 
-/// 1 to 1: every field follows the first one. A value for the last one turns all
-/// links, so that each of the 62 fields has another setter.
+/// 1 to 1: every field follows the first one, so that a value changes 62 values. One
+/// for the last field turns all links, so that each of the 62 fields has another
+/// setter too.
 fn row_of_ratios() -> Valued {
     row("row of ratios", 1, 1)
-        .part(&[("0700000003E8", "0000")], &[1_000; 62])
+        .part(&[("0700000003E8", "003E")], &[1_000; 62])
         .part(&[("073DFFFFFC18", "003E")], &[-1_000; 62])
-        .part(&[("073D80000000", "0000")], &[LEAST; 62])
+        .part(&[("073D80000000", "003E")], &[LEAST; 62])
 }
 
 /// 1 to 2 along the row. The greatest value gives 2 to the 30th, since its half
@@ -302,13 +306,14 @@ fn halved_61_times() -> Valued {
     }
     let negative = values.map(|value| -value);
     row("halved 61 times", 1, 2)
-        .part(&[("07007FFFFFFF", "0000")], &values)
-        .part(&[("070080000001", "0000")], &negative)
+        .part(&[("07007FFFFFFF", "003E")], &values)
+        .part(&[("070080000001", "003E")], &negative)
 }
 
 /// Links 0 to 60 (required), each of which sets a field from the one before it, 1
 /// to 1, and links 61 to 126 (level 5), which wait for the same fields with other
-/// formulas: one for each number but the one that looks.
+/// formulas: one for each number but the one that looks. A value for field 0 changes
+/// those of all 62.
 fn formulas_of_all_numbers() -> Valued {
     let mut lines = owned(&[("0140", "0000")]);
     for id in 0..127 {
@@ -324,6 +329,6 @@ fn formulas_of_all_numbers() -> Valued {
         let link = add(id, level, [first, (first + 1) | 0x80]);
         lines.extend(owned(&[(&link, reply), (&formula, "0000")]));
     }
-    lines.extend(owned(&[(&store(0, GREATEST), "0000")]));
+    lines.extend(owned(&[(&store(0, GREATEST), "003E")]));
     Valued::new("formulas of all numbers").with(lines, &[GREATEST; 62], true)
 }
