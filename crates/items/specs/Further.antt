@@ -32,7 +32,8 @@ further =
     -- "an added link of level 0F is accepted, 10 gives FF06; id 7F is accepted, 80 gives FF06"
     ∷ item "0101\n02000F80\n02011080\n027F0F80\n02800F80\n" "0000\n0001\nFF06\n0000\nFF06\nEE00000500000300000206\n"
     -- "With 64 fields 043F is accepted, 0440 gives FF07. Eight field bytes are taken, nine give FF02."
-    ∷ item "0140\n043F\n0440\n0200008081828384858687\n020100808182838485868788\n" "0000\n0000\nFF07\n0001\nFF02\nEE00000500000300000202\n"
+    ∷ item "0140\n043F\n0440\n" "0000\n0000\nFF07\nEE00000300000200000107\n"
+    ∷ item "0109\n0200008081828384858687\n020100808182838485868788\n" "0000\n0001\nFF02\nEE00000300000200000102\n"
     -- "bit 6 set in a field byte": in the second one too
     ∷ item "0102\n02000080C1\n" "0000\nFF02\nEE00000200000100000102\n"
     -- "followed upward through the setters, through at most as many fields as the panel has": field 3 has the strength of field 0's stay, four fields on,
