@@ -14,7 +14,7 @@ use Rattle.fieldset.specs.Fields.{member, size}
 use Rattle.fieldset.proofs.Numbers.{clash}
 use Rattle.fieldset.proofs.Lists.{all-map}
 use Rattle.ordering.specs.Order.{order}
-use Rattle.ordering.proofs.Plan.{order-cong, hasLoop-cong, order-low}
+use Rattle.ordering.proofs.Plan.{order-cong, order-low}
 use Rattle.panel.specs.declared.Link.{Link}
 use Rattle.panel.specs.declared.Panel.{Panel}
 use Rattle.panel.specs.declared.Refusal.{Refusal}
@@ -26,7 +26,7 @@ use Rattle.panel.specs.Items.{linkAt}
 use Rattle.panel.specs.Answers as answers
 use Rattle.panel.specs.Answers.{refusalBytes, isRefusal, replyBytes}
 use Rattle.panel.specs.Moved as panels
-use Rattle.panel.specs.Solution.{setterReads, planOf, isLooped}
+use Rattle.panel.specs.Solution.{setterReads, planOf}
 use Rattle.panel.specs.Commands as panel
 use Rattle.panel.specs.Commands.{touching}
 use Rattle.panel.specs.Outcomes.{unchanged, taken, Takes, counted, redrawnBy, Decides}
@@ -35,7 +35,7 @@ use Rattle.panel.proofs.Outcomes.{takes-size}
 use Rattle.panel.proofs.Moved.{counted-none}
 use Rattle.panel.proofs.Performed.{Keeps, legal-performed}
 use Rattle.tables.specs.Tables.{Tabled}
-use Rattle.tables.proofs.Tables.{panel-among, panel-reads}
+use Rattle.tables.proofs.Tables.{panel-among, panel-loopless, panel-reads}
 use Rattle.taking.proofs.Taking.{Taken}
 use Rattle.values.specs.Changes.{revalued}
 use Rattle.formulas.specs.declared.Formulas.{Formulas}
@@ -70,11 +70,10 @@ module _ {p : Panel} (h : Legal p) {levels others reads : List ℕ} (t : Tabled 
   -- what it needs
   ready : (formulas : Formulas) → ((f : ℕ) → f < p .size → Usable (formulaOf (formulas .of) (p .setter) f) (setterReads p f))
       → Ready (formulaOf (formulas .of) (p .setter)) reads (p .size)
-  unfolding isLooped
   ready formulas usable = record {
     few = h .few;
     among = panel-among p h levels others reads t;
-    loopless = hasLoop-cong (at reads) (setterReads p) (p .size) reads-same ∙ h .loopless;
+    loopless = panel-loopless p h levels others reads t;
     usable = λ f l. rw (panel-reads p h levels others reads t f l) (usable f l);
   }
 

@@ -32,7 +32,7 @@ use Rattle.sheet.specs.Legal.{LegalSheet}
 use Rattle.sheet.proofs.Answers.{checks-reply}
 use Rattle.sheet.proofs.Legal.{Left, Stored, entering-cases}
 use Rattle.optimality.proofs.Answers.{Outcome, no, yes, opening-outcome, adding-outcome, removing-outcome, touching-outcome, changing-outcome}
-use Rattle.exactness.specs.Redraws.{Redrawn, Revalued, Counts, RedrawExactly, RedrawsExactly}
+use Rattle.exactness.specs.Redraws.{Redrawn, Revalued, CountsOf, RedrawExactly, RedrawsExactly}
 use Rattle.exactness.proofs.Lists.{legal-after}
 
 -- ---- what is redrawn
@@ -58,7 +58,7 @@ module _ (p q : Panel) (few : q .size ≤ 64) where
   redrawn-all g (inl t) = walks .of-changed g (omega (arith, t .0)) (member-turned p q g .1 t)
   redrawn-all g (inr (f, t, w)) = walks .of-walk f g (member-turned p q f .1 t) w
 
-  moved-counts : (bytes : List ℕ) → bytes ≡ 0x00 ∷ moved p q ∷ [] → Counts (Redrawn p q) bytes
+  moved-counts : (bytes : List ℕ) → bytes ≡ 0x00 ∷ moved p q ∷ [] → CountsOf (Redrawn p q) bytes
   unfolding moved
   moved-counts bytes e = record { fields = panels.redrawn p q; small = redrawn-lt; has = redrawn-has; all = redrawn-all; reply = e }
 
@@ -79,7 +79,7 @@ module _ (s t : Sheet) (few : t .panel .size ≤ 64) where
   abbrev Shown : ℕ → Type 0
   Shown g = Redrawn (s .panel) (t .panel) g ⊎ Revalued s t g
 
-  renewed-counts : Counts Shown (renewed s t .reply)
+  renewed-counts : CountsOf Shown (renewed s t .reply)
   unfolding redrawn
   renewed-counts = record {
     fields = redrawn s t;
@@ -110,7 +110,7 @@ module _ (s t : Sheet) (few : t .panel .size ≤ 64) where
 module _ (s : Sheet) (h : LegalSheet s) where
   -- one of the panel's that replies the moved count
   solved-counts : (c : panel.Command) → let a = panel.performed (s .panel) c in
-      Replied (s .panel) (λ q. moved (s .panel) q ∷ []) a → isRefusal (a .reply) ≡ false → Counts (Redrawn (s .panel) (a .panel)) (a .reply)
+      Replied (s .panel) (λ q. moved (s .panel) q ∷ []) a → isRefusal (a .reply) ≡ false → CountsOf (Redrawn (s .panel) (a .panel)) (a .reply)
   solved-counts c o e = moved-counts (s .panel) _ (legal-performed (s .panel) c (h .panel) .few) _ (replied (s .panel) _ _ o e)
 
   exactly : (c : Command) → isRefusal (performed s c .reply) ≡ false → RedrawExactly s (performed s c .sheet) c (performed s c .reply)

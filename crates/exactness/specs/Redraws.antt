@@ -34,7 +34,7 @@ Revalued before after g = (g < after .panel .size) × (valueAt (before .values) 
 -- ---- the count
 
 -- the reply is 00 and the number of the fields of which P holds
-pub record Counts (P : ℕ → Type 0) (bytes : List ℕ) : Type 0 where
+pub record CountsOf (P : ℕ → Type 0) (bytes : List ℕ) : Type 0 where
   -- the set of these, of fields 0 to 63
   pub fields : ℕ
   pub small : fields < 2 ^ 64
@@ -44,12 +44,12 @@ pub record Counts (P : ℕ → Type 0) (bytes : List ℕ) : Type 0 where
 
 -- what a command that is not refused replies, by the sheets before and after it
 abbrev pub RedrawExactly : Sheet → Sheet → Command → List ℕ → Type 0
-RedrawExactly before after (solving (adding id level fields)) bytes = Counts (Redrawn (before .panel) (after .panel)) bytes
-RedrawExactly before after (solving (removing id)) bytes = Counts (Redrawn (before .panel) (after .panel)) bytes
-RedrawExactly before after (solving (touching f)) bytes = Counts (Redrawn (before .panel) (after .panel)) bytes
-RedrawExactly before after (solving (changing id level fields)) bytes = Counts (Redrawn (before .panel) (after .panel)) bytes
+RedrawExactly before after (solving (adding id level fields)) bytes = CountsOf (Redrawn (before .panel) (after .panel)) bytes
+RedrawExactly before after (solving (removing id)) bytes = CountsOf (Redrawn (before .panel) (after .panel)) bytes
+RedrawExactly before after (solving (touching f)) bytes = CountsOf (Redrawn (before .panel) (after .panel)) bytes
+RedrawExactly before after (solving (changing id level fields)) bytes = CountsOf (Redrawn (before .panel) (after .panel)) bytes
 -- "for kind 07 also every field whose value changed"
-RedrawExactly before after (entering f v) bytes = Counts (λ g. Redrawn (before .panel) (after .panel) g ⊎ Revalued before after g) bytes
+RedrawExactly before after (entering f v) bytes = CountsOf (λ g. Redrawn (before .panel) (after .panel) g ⊎ Revalued before after g) bytes
 -- "Opening replies 0" (document 01), and "0 for kind 08" (request 2)
 RedrawExactly before after (solving (opening n)) bytes = bytes ≡ 0x00 ∷ 0x00 ∷ []
 RedrawExactly before after (relating id formula) bytes = bytes ≡ 0x00 ∷ 0x00 ∷ []

@@ -16,7 +16,7 @@ use Rattle.fieldset.specs.Tables.{at}
 use Rattle.fieldset.specs.Fields.{member, with, without, only, minus, lowestOf, First}
 use Rattle.fieldset.proofs.Fields.{ext-member, member-filter, member-with-same, member-with-other, member-without-same, member-without-other, with-lt, without-lt}
 use Rattle.fieldset.proofs.Emptying.{Emptying, empty-start, empty-step, empty-end}
-use Rattle.ordering.specs.Steps.{Changed}
+use Rattle.ordering.specs.Steps.{Mapped}
 use Rattle.downstream.specs.Downstream.{readers, directs}
 use Rattle.downstream.proofs.Spreading.{readers-lt}
 use Rattle.downstream.proofs.Tables.{directs-at, directs-long, direct-member}
@@ -42,8 +42,8 @@ readers-directs reads n table few long fits each =
 
 -- c is struck out where it reads no more, and entered where it reads anew
 pub retold : (shown : List ℕ) (new : ℕ) {n c old gone come : ℕ} {table between after : List ℕ} → n ≤ 64 → c < n → length shown ≡ 64
-    → table ≡ directs (at shown) n → old ≡ at shown c → gone ≡ minus old new → Changed (λ m. without m c) gone table between
-    → come ≡ minus new old → Changed (λ m. with m c) come between after → length after ≡ 64 → after ≡ directs (at (put shown c new)) n
+    → table ≡ directs (at shown) n → old ≡ at shown c → gone ≡ minus old new → Mapped (λ m. without m c) gone table between
+    → come ≡ minus new old → Mapped (λ m. with m c) come between after → length after ≡ 64 → after ≡ directs (at (put shown c new)) n
 retold shown new {n} {c} {old} {gone} {come} {table} {between} {after} few low long t o eg x ec y full =
     readers-directs (at (put shown c new)) n after few full (λ f l. rw (is f l) (fits f l (member old f) (member new f)))
     (λ f j l k. ap (λ m. member m j) (is f l) ∙ go f j l k (ℕ-discrete j c))

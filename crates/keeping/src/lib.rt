@@ -17,7 +17,7 @@ ghost use Rattle.fieldset.specs.Tables.{at};
 ghost use Rattle.fieldset.specs.Fields.{without, below, Within};
 ghost use Rattle.ordering.specs.Order.{hasLoop};
 ghost use Rattle.ordering.specs.Walks.{Among};
-ghost use Rattle.ordering.specs.Steps.{Changed};
+ghost use Rattle.ordering.specs.Steps.{Mapped};
 ghost use Rattle.downstream.specs.Downstream.{downstreams, directs};
 ghost use Rattle.keeping.specs.Keeping.{upstream, loopsThrough, Kept, Differ, differing, Right, Repaired};
 
@@ -71,7 +71,7 @@ fn differing(shown: &[u64; 64], reads: &[u64; 64], stale: u64) -> u64
 // Strikes the field c out of the set of readers of each of some fields.
 fn strike_reader(c: usize, fields: u64, readers: &mut [u64; 64])
     requires { ⌜ (c < 64) × (length (now readers) ≡ 64) ⌝ }
-    ensures { λ r. ⌜ (length (now (readers .exit)) ≡ 64) × Changed (λ m. without m c) fields (now (readers .entry)) (now (readers .exit)) ⌝ }
+    ensures { λ r. ⌜ (length (now (readers .exit)) ≡ 64) × Mapped (λ m. without m c) fields (now (readers .entry)) (now (readers .exit)) ⌝ }
 {
     let mut rest = fields;
     while rest != 0 {

@@ -1,4 +1,4 @@
--- Laws of the readers of each field: of the loop that changes the entries of some fields (`Changing`), which enters one field as a reader, and of
+-- Laws of the readers of each field: of the loop that changes the entries of some fields (`Mapping`), which enters one field as a reader, and of
 -- that over all fields (`ReadersUpTo`). An entry of the table changes only for the fields that are read, and gains the one bit (`readers-step`).
 use Prim.Native.Nat.{ℕ, suc, _+_, _≤_, _<_, zero-le}
 use mathlib.Core.Path.{_≡_, refl, ap, _∙_}
@@ -17,23 +17,23 @@ use Rattle.fieldset.specs.Fields.{member, with, without, lowestOf, First}
 use Rattle.fieldset.proofs.Numbers.{ltb-suc}
 use Rattle.fieldset.proofs.Fields.{member-empty, member-with-same, member-with-other}
 use Rattle.fieldset.proofs.Emptying.{Emptying, empty-start, empty-step, empty-end, taken-was}
-use Rattle.ordering.specs.Steps.{Changed, Readers}
+use Rattle.ordering.specs.Steps.{Mapped, Readers}
 
 -- `put` is done to the entries of the fields of a set, but for the rest
-pub record Changing (put : ℕ → ℕ) (into : ℕ) (before after : List ℕ) (rest : ℕ) : Type 0 where
+pub record Mapping (put : ℕ → ℕ) (into : ℕ) (before after : List ℕ) (rest : ℕ) : Type 0 where
   pub long : length after ≡ 64
   pub loop : Emptying into (λ b g. at after g ≡ cond b (put (at before g)) (at before g)) rest
 
 module _ {put : ℕ → ℕ} {into : ℕ} {before : List ℕ} where
-  pub changing-start : length before ≡ 64 → Changing put into before before into
-  changing-start long = record { long = long; loop = empty-start (λ g l. refl) }
+  pub mapping-start : length before ≡ 64 → Mapping put into before before into
+  mapping-start long = record { long = long; loop = empty-start (λ g l. refl) }
 
-  pub changing-end : {after : List ℕ} {rest : ℕ} → Changing put into before after rest → rest ≡ 0 → Changed put into before after
-  changing-end p z = record { each = empty-end (p .loop) z }
+  pub mapping-end : {after : List ℕ} {rest : ℕ} → Mapping put into before after rest → rest ≡ 0 → Mapped put into before after
+  mapping-end p z = record { each = empty-end (p .loop) z }
 
-  pub changing-step : {after after′ : List ℕ} {rest rest′ x : ℕ} → Changing put into before after rest → First rest x
-      → after′ ≡ set after x (put (at after x)) → rest′ ≡ without rest (lowestOf rest) → Changing put into before after′ rest′
-  changing-step {after} {x = x} p U e q = rw e (record {
+  pub mapping-step : {after after′ : List ℕ} {rest rest′ x : ℕ} → Mapping put into before after rest → First rest x
+      → after′ ≡ set after x (put (at after x)) → rest′ ≡ without rest (lowestOf rest) → Mapping put into before after′ rest′
+  mapping-step {after} {x = x} p U e q = rw e (record {
     long = length-set after x (put (at after x)) ∙ p .long;
     loop =
         empty-step (p .loop) U q (λ b g l d h. getD-set-other after x g (put (at after x)) 0 d ∙ h)
@@ -56,7 +56,7 @@ readers-start {reads} = record {
 }
 
 pub readers-step : {reads : ℕ → ℕ} {n f : ℕ} {before after : List ℕ} → n ≤ 64 → f < n → ReadersUpTo reads n f before → length after ≡ 64
-    → Changed (λ m. with m f) (reads f) before after
+    → Mapped (λ m. with m f) (reads f) before after
     → ReadersUpTo reads n (f + 1) after
 readers-step {reads} {n} {f} {before} {after} few l t long e = rw (add-one f) (record {
   few = l;

@@ -8,7 +8,7 @@ use Rattle.fieldset.specs.Tables.{at}
 use Rattle.fieldset.specs.Fields.{member, meets, filter}
 
 -- a table after `put` was done to the entries of the fields of a set
-pub record Changed (put : ℕ → ℕ) (set : ℕ) (before after : List ℕ) : Type 0 where
+pub record Mapped (put : ℕ → ℕ) (set : ℕ) (before after : List ℕ) : Type 0 where
   pub each : (g : ℕ) → g < 64 → at after g ≡ cond (member set g) (put (at before g)) (at before g)
 
 -- the readers of each field among the first n fields

@@ -14,12 +14,12 @@ ghost use Rattle.fieldset.specs.Tables.{at};
 ghost use Rattle.fieldset.specs.Fields.{with};
 ghost use Rattle.ordering.specs.Order.{order};
 ghost use Rattle.ordering.specs.Walks.{Among};
-ghost use Rattle.ordering.specs.Steps.{Changed, Readers, readyOf};
+ghost use Rattle.ordering.specs.Steps.{Mapped, Readers, readyOf};
 
 // Enters the field f into the set of readers of each field of `reads`.
 pub fn enter_readers(f: usize, reads: u64, readers: &mut [u64; 64])
     requires { ⌜ (f < 64) × (length (now readers) ≡ 64) ⌝ }
-    ensures { λ r. ⌜ (length (now (readers .exit)) ≡ 64) × Changed (λ m. with m f) reads (now (readers .entry)) (now (readers .exit)) ⌝ }
+    ensures { λ r. ⌜ (length (now (readers .exit)) ≡ 64) × Mapped (λ m. with m f) reads (now (readers .entry)) (now (readers .exit)) ⌝ }
 {
     let mut rest = reads;
     while rest != 0 {

@@ -1,16 +1,16 @@
--- `keeping::strike_reader` meets its contract. The loop's invariant (`Changing`, of `ordering`): the field is struck out for all of the set but the
+-- `keeping::strike_reader` meets its contract. The loop's invariant (`Mapping`, of `ordering`): the field is struck out for all of the set but the
 -- rest; the measure is the rest.
 use mathlib.Core.Path.{ap}
 use native.Mathlib.Omega.{arith}
 use lib.ListN.{set}
 use Rattle.fieldset.specs.Fields.{without}
 use Rattle.fieldset.proofs.Emptying.{first-falls}
-use Rattle.ordering.proofs.Readers.{Changing, changing-start, changing-step, changing-end}
+use Rattle.ordering.proofs.Readers.{Mapping, mapping-start, mapping-step, mapping-end}
 use Rattle.keeping.proofs.strike_reader.Statement.{statement}
 use Rattle.keeping.proofs.strike_reader.Tie as tie
 
 abbrev Inv-loop : tie.InvT-loop
-Inv-loop c fields readers₀ rest₀ readers rest = Changing (λ m. without m c) fields readers₀ readers rest
+Inv-loop c fields readers₀ rest₀ readers rest = Mapping (λ m. without m c) fields readers₀ readers rest
 
 abbrev μ-loop : tie.MeasureT-loop
 μ-loop c fields readers₀ rest₀ readers rest = rest
@@ -20,7 +20,7 @@ abbrev striking : tie.After-without-lowest Inv-loop μ-loop → tie.After-first 
 striking c = c .before .before .before
 
 loop-holds : tie.Need-loop-holds Inv-loop μ-loop
-loop-holds c = changing-start (c .pre .1)
+loop-holds c = mapping-start (c .pre .1)
 
 mul-without : tie.Need-mul-without Inv-loop μ-loop
 mul-without c = omega (arith, c .first .ensures .field)
@@ -44,11 +44,11 @@ loop-again : tie.Need-loop-again Inv-loop μ-loop
 loop-again c =
     let next = striking c in
     let loop = next .before .before in
-    changing-step (loop .loop .inv) (next .first .ensures) (ap (set (loop .loop .readers) (next .first .result)) (c .before .without .ensures))
+    mapping-step (loop .loop .inv) (next .first .ensures) (ap (set (loop .loop .readers) (next .first .result)) (c .before .without .ensures))
     (c .without-lowest .ensures)
 
 returns : tie.Need-returns Inv-loop μ-loop
-returns c = (c .before .loop .inv .long, changing-end (c .before .loop .inv) (c .loop-test .left))
+returns c = (c .before .loop .inv .long, mapping-end (c .before .loop .inv) (c .loop-test .left))
 
 pub strike-reader-spec : {M : Type 1} → statement M
 strike-reader-spec =

@@ -1,16 +1,16 @@
--- `ordering::enter_readers` meets its contract. The loop's invariant (`Changing`): the field is entered for all of the set but the rest; the measure
--- is the rest. `changing-step` takes the lowest field of the rest.
+-- `ordering::enter_readers` meets its contract. The loop's invariant (`Mapping`): the field is entered for all of the set but the rest; the measure
+-- is the rest. `mapping-step` takes the lowest field of the rest.
 use mathlib.Core.Path.{ap}
 use native.Mathlib.Omega.{arith}
 use lib.ListN.{set}
 use Rattle.fieldset.specs.Fields.{with}
 use Rattle.fieldset.proofs.Emptying.{first-falls}
-use Rattle.ordering.proofs.Readers.{Changing, changing-start, changing-step, changing-end}
+use Rattle.ordering.proofs.Readers.{Mapping, mapping-start, mapping-step, mapping-end}
 use Rattle.ordering.proofs.enter_readers.Statement.{statement}
 use Rattle.ordering.proofs.enter_readers.Tie as tie
 
 abbrev Inv-loop : tie.InvT-loop
-Inv-loop f reads readers₀ rest₀ readers rest = Changing (λ m. with m f) reads readers₀ readers rest
+Inv-loop f reads readers₀ rest₀ readers rest = Mapping (λ m. with m f) reads readers₀ readers rest
 
 abbrev μ-loop : tie.MeasureT-loop
 μ-loop f reads readers₀ rest₀ readers rest = rest
@@ -20,7 +20,7 @@ abbrev entering : tie.After-without-lowest Inv-loop μ-loop → tie.After-first 
 entering c = c .before .before .before
 
 loop-holds : tie.Need-loop-holds Inv-loop μ-loop
-loop-holds c = changing-start (c .pre .1)
+loop-holds c = mapping-start (c .pre .1)
 
 mul-with : tie.Need-mul-with Inv-loop μ-loop
 mul-with c = omega (arith, c .first .ensures .field)
@@ -44,11 +44,11 @@ loop-again : tie.Need-loop-again Inv-loop μ-loop
 loop-again c =
     let next = entering c in
     let loop = next .before .before in
-    changing-step (loop .loop .inv) (next .first .ensures) (ap (set (loop .loop .readers) (next .first .result)) (c .before .with .ensures))
+    mapping-step (loop .loop .inv) (next .first .ensures) (ap (set (loop .loop .readers) (next .first .result)) (c .before .with .ensures))
     (c .without-lowest .ensures)
 
 returns : tie.Need-returns Inv-loop μ-loop
-returns c = (c .before .loop .inv .long, changing-end (c .before .loop .inv) (c .loop-test .left))
+returns c = (c .before .loop .inv .long, mapping-end (c .before .loop .inv) (c .loop-test .left))
 
 pub enter-readers-spec : {M : Type 1} → statement M
 enter-readers-spec =
