@@ -10,7 +10,7 @@ use Rattle.panel.specs.declared.Panel.{Panel}
 use Rattle.panel.specs.Answers.{isRefusal, replyBytes}
 use Rattle.panel.specs.Commands.{checkReply, changeChecks, changing, performed}
 use Rattle.panel.specs.Moved.{turned}
-use Rattle.panel.specs.Outcomes.{counted, redrawnBy}
+use Rattle.panel.specs.Outcomes.{Uncounted, counted, redrawnBy}
 use Rattle.tables.specs.Tables.{Tabled}
 use Rattle.removing.specs.Scans.{scanCount}
 use Rattle.changing.specs.declared.Changed.{Changed}
@@ -29,5 +29,6 @@ pub record Changes (p : Panel) (id level : ℕ) (bytes levels others reads : Lis
   pub panel : r .panel ≡ performed p (changing id level bytes) .panel
   pub changed : r .changed ≡ turned p (r .panel)
   pub reply : replyBytes (counted (r .reply) (redrawnBy (r .changed) 0 (r .panel))) ≡ performed p (changing id level bytes) .reply
+  pub uncounted : Uncounted (r .reply)
   pub tabled : Tabled (r .panel) levels others reads
   pub scan : worked ≡ changeCount before p id level bytes

@@ -11,12 +11,12 @@ use Rattle.fieldset.specs.Tables.{at}
 use Rattle.fieldset.specs.Fields.{member, without, union, lowestOf, First, Within}
 use Rattle.fieldset.proofs.Tests.{and-left, and-right, and-both}
 use Rattle.fieldset.proofs.Numbers.{clash, any-here, any-found}
-use Rattle.fieldset.proofs.Fields.{member-setOf-lt, setOf-lt, union-lt, member-lt, ext-member}
+use Rattle.fieldset.proofs.Fields.{member-setOf-lt, setOf-lt, union-lt, member-lt, ext-member, union-cases, union-left, union-right}
 use Rattle.fieldset.proofs.Emptying.{Emptying, empty-start, empty-step, empty-end, taken-in}
 use Rattle.ordering.proofs.Sets.{or-cases, test-ext}
 use Rattle.downstream.specs.Downstream.{spread, downstream, downstreams, gathered}
 use Rattle.downstream.specs.Meaning.{Closed}
-use Rattle.downstream.proofs.Spreading.{Passes, union-cases, union-left, union-right, spread-lt, spread-has, spread-all, spread-closed, downstream-direct, downstream-closed, downstream-all}
+use Rattle.downstream.proofs.Spreading.{Passes, spread-lt, spread-has, spread-all, spread-closed, downstream-direct, downstream-closed, downstream-all}
 use Rattle.downstream.proofs.Tables.{downstreams-at}
 
 -- ---- its members

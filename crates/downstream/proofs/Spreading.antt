@@ -14,22 +14,10 @@ use Rattle.fieldset.specs.Numbers.{count}
 use Rattle.fieldset.specs.Fields.{member, union, only, below, meets, within, Within}
 use Rattle.fieldset.proofs.Tests.{and-left, and-right}
 use Rattle.fieldset.proofs.Numbers.{clash, but, but-other, count-but, count-le, count-mono, count-pos}
-use Rattle.fieldset.proofs.Fields.{ext-member, member-empty, member-setOf, member-setOf-lt, setOf-lt, member-union, union-lt, member-only, member-below, member-lt, within-member}
+use Rattle.fieldset.proofs.Fields.{ext-member, member-empty, member-setOf, member-setOf-lt, setOf-lt, union-lt, member-only, within-member, union-cases, union-left, union-right}
 use Rattle.ordering.proofs.Sets.{or-cases, test-ext, meets-found, meets-some, within-not}
 use Rattle.downstream.specs.Downstream.{readers, spreading, spread, downstream}
 use Rattle.downstream.specs.Meaning.{Closed, Least}
-
--- ---- the fields of two sets
-
-module _ (a b g : ℕ) where
-  pub union-cases : member (union a b) g ≡ true → (member a g ≡ true) ⊎ (member b g ≡ true)
-  union-cases e = or-cases (member a g) (member b g) (sym (member-union a b g (member-lt (union a b) (union-lt a b) g e)) ∙ e)
-
-  pub union-left : g < 64 → member a g ≡ true → member (union a b) g ≡ true
-  union-left l e = member-union a b g l ∙ rw e
-
-  pub union-right : g < 64 → member b g ≡ true → member (union a b) g ≡ true
-  union-right l e = member-union a b g l ∙ rw e (or-true (member a g))
 
 module _ (reads : ℕ → ℕ) (n : ℕ) where
   -- ---- the fields that read a field of a set
@@ -189,11 +177,6 @@ module _ (reads : ℕ → ℕ) (n : ℕ) where
   spread-in : (set other : ℕ) → Within set other → Closed reads n other → Within (spread reads n set) other
   spread-in set other i c g l e =
       spread-all (λ g. g < 64 → member other g ≡ true) set (λ g e l. i g l e) (λ f g l k r e q. c .joins f g l k r (e l)) g e l
-
-  -- of n fields it has no other
-  pub spread-within : (set : ℕ) → Within set (below n) → Within (spread reads n set) (below n)
-  spread-within set w g l e =
-      spread-all (λ g. g < 64 → member (below n) g ≡ true) set (λ g e l. w g l e) (λ f g l k r e q. member-below n g q ∙ lt-ltb g n k) g e l
 
   -- a closed set is all that is downstream of it
   pub spread-closed-set : (set : ℕ) → set < 2 ^ 64 → Closed reads n set → spread reads n set ≡ set

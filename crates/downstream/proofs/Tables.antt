@@ -61,18 +61,6 @@ module _ (r s : ℕ → ℕ) (n : ℕ) (same : Same r s n) where
   unfolding spread
   spread-ext set = spreading-ext n set
 
-  pub downstream-ext : (f : ℕ) → downstream r n f ≡ downstream s n f
-  unfolding downstream
-  downstream-ext f = rw (readers-ext (only f)) (spread-ext (readers s n (only f)))
-
-  pub downstreams-ext : downstreams r n ≡ downstreams s n
-  unfolding downstreams
-  downstreams-ext = tabulate-cong (downstream r n) (downstream s n) 64 (λ f l. downstream-ext f)
-
-  pub directs-ext : directs r n ≡ directs s n
-  unfolding directs
-  directs-ext = tabulate-cong (λ f. readers r n (only f)) (λ f. readers s n (only f)) 64 (λ f l. readers-ext (only f))
-
 -- ---- nothing is read
 
 -- a table of 64 empty sets

@@ -1,4 +1,4 @@
--- What the definitions of downstream sets mean: statements that `proofs/` proves for all reads, loops or not.
+-- What the definitions of downstream sets mean: statements that `proofs/` proves for all reads of at most 64 fields, loops or not.
 use Prim.Native.Nat.{ℕ, _<_}
 use mathlib.Core.Path.{_≡_}
 use mathlib.Core.Bool.{true}

@@ -7,7 +7,7 @@ ghost use Rattle.fieldset.specs.Tables.{at};
 ghost use Rattle.downstream.specs.Downstream.{gathered};
 
 // A set and the sets that a table has for its fields. From the table of downstream sets, this is the set and all that is downstream of it.
-pub fn spread(set: u64, down: &[u64; 64]) -> u64
+pub fn gather(set: u64, down: &[u64; 64]) -> u64
     ensures { λ r. ⌜ r ≡ gathered (at (now (down .entry))) set ⌝ }
 {
     let mut out = set;

@@ -38,6 +38,7 @@ use Rattle.tables.specs.Tables.{Tabled}
 use Rattle.tables.proofs.Tables.{panel-among, panel-loopless, panel-reads}
 use Rattle.taking.proofs.Taking.{Taken}
 use Rattle.values.specs.Changes.{revalued}
+use Rattle.values.proofs.Changes.{revalued-same}
 use Rattle.formulas.specs.declared.Formulas.{Formulas}
 use Rattle.formulas.specs.Formulas.{formulaOf, Usable}
 use Rattle.evaluation.specs.Runs.{Run, run, Ready, Stored}
@@ -116,6 +117,8 @@ module _ (s : Sheet) (h : LegalSheet s) (f : ℕ) (v : ℤ) where
     takes = λ path d.
         takes-size (s .panel) 0 named (Refused x) same path (d .takes .path-of .full) (s .panel .size) _ (ap (λ (a : Answer). a .sheet .panel) (sym e));
     reply = ap (λ (a : Answer). a .reply) (sym e);
+    uncounted = tt;
+    revalued-are = sym (revalued-same (s .panel .size) (s .values));
     values = ap (λ (a : Answer). a .sheet .values) (sym e);
   }
 
@@ -133,6 +136,8 @@ module _ (s : Sheet) (h : LegalSheet s) (f : ℕ) (v : ℤ) where
           takes = λ path d.
               subst (λ (q : Panel). Takes (s .panel) 0 path step q) (same refusal (touched s h f) ∙ ap (λ (a : Answer). a .sheet .panel) (sym is)) (d .takes);
           reply = rw e (told ∙ ap (λ (a : Answer). a .reply) (sym is));
+          uncounted = touches .uncounted;
+          revalued-are = touches .unvalued ∙ sym (revalued-same (s .panel .size) (s .values));
           values = ap (λ (a : Answer). a .sheet .values) (sym is);
         }
       where
@@ -211,5 +216,7 @@ module _ (s : Sheet) (h : LegalSheet s) (f : ℕ) (v : ℤ) where
                     (ap (λ (a : Answer). redrawnBy (step .changed) m (a .sheet .panel)) is
                     ∙ ap₂ (λ (c : ℕ) (m : ℕ). redrawnBy c m (gave .panel)) (touches .takes .changed) set)
                     ∙ ap (λ (a : Answer). a .reply) (sym is);
+                uncounted = refl;
+                revalued-are = changes;
                 values = new ∙ ap (λ (a : Answer). a .sheet .values) (sym is);
               }

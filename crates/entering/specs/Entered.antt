@@ -8,8 +8,9 @@ use Rattle.panel.specs.declared.Reply.the-variants.{Accepted}
 use Rattle.panel.specs.declared.Step.{Step}
 use Rattle.panel.specs.Answers.{replyBytes}
 use Rattle.panel.specs.Commands.{touching}
-use Rattle.panel.specs.Outcomes.{Takes, stepReply, Decides}
+use Rattle.panel.specs.Outcomes.{Takes, Uncounted, stepReply, Decides}
 use Rattle.tables.specs.Tables.{Tabled}
+use Rattle.values.specs.Changes.{revalued}
 use Rattle.sheet.specs.declared.Sheet.{Sheet}
 use Rattle.sheet.specs.Commands.{entering, performed}
 
@@ -40,4 +41,6 @@ pub record Entered (s : Sheet) (f : ℕ) (v : ℤ) (touch : Step) (after : List 
   -- both steps name the link of number 0, and have one path
   pub takes : (path : List ℕ) → Decides (s .panel) 0 (touching f) path touch → Takes (s .panel) 0 path step (performed s (entering f v) .sheet .panel)
   pub reply : replyBytes (stepReply step (performed s (entering f v) .sheet .panel)) ≡ performed s (entering f v) .reply
+  pub uncounted : Uncounted (step .reply)
+  pub revalued-are : step .revalued ≡ revalued (s .panel .size) (s .values) after
   pub values : after ≡ performed s (entering f v) .sheet .values

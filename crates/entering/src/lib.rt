@@ -80,8 +80,8 @@ fn valued(step: Step, set: u64) -> Step
 
 // Decides on entering a value in a field, from the step of its touch, the setters after it and the fields that they read: where the touch is accepted,
 // the value is stored and the whole plan is run. Where nothing refuses, the step is the touch's, with the fields whose value changed, and the values are
-// those of the run; else both leave all as it was. The contract rules out, for instance, a field that a link still sets told as outside the limits and a touch that a refusal leaves
-// (must-fail: setter_told_as_limits, refusal_keeps_the_touch).
+// those of the run; else both leave all as it was. The contract rules out, for instance, a field that a link still sets told as outside the limits, a touch
+// that a refusal leaves and values that are not compared (must-fail: setter_told_as_limits, refusal_keeps_the_touch, values_not_compared).
 pub fn enter(
     p: Panel,
     named: Link,

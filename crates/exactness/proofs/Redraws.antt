@@ -9,10 +9,10 @@ use mathlib.Core.Logic.{_⊎_, inl, inr}
 use native.Mathlib.Omega.{arith}
 use Rattle.fieldset.specs.Fields.{member}
 use Rattle.fieldset.proofs.Numbers.{clash}
-use Rattle.fieldset.proofs.Fields.{union-lt, member-lt}
+use Rattle.fieldset.proofs.Fields.{union-lt, member-lt, union-cases, union-left, union-right}
 use Rattle.ordering.specs.Walks.{Walk}
 use Rattle.downstream.specs.Meaning.{SpreadIsWalk}
-use Rattle.downstream.proofs.Spreading.{union-cases, union-left, union-right, spread-lt}
+use Rattle.downstream.proofs.Spreading.{spread-lt}
 use Rattle.downstream.proofs.Walks.{spread-walk}
 use Rattle.panel.specs.declared.Panel.{Panel}
 use Rattle.panel.specs.Answers as answers

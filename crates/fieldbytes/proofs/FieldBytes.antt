@@ -16,7 +16,7 @@ use lib.Seq.{drop-cons}
 use Rattle.fieldset.specs.Tables.{at}
 use Rattle.fieldset.specs.Fields.{member, with, union, below, size, within}
 use Rattle.fieldset.proofs.Numbers.{clash, any-here, any-cong}
-use Rattle.fieldset.proofs.Fields.{ext-member, member-empty, member-with, member-with-same, member-with-other, member-union, member-below, with-lt, union-lt, size-empty, size-with, within-true}
+use Rattle.fieldset.proofs.Fields.{ext-member, member-empty, member-with, member-with-same, member-with-other, member-union, union-none, member-below, with-lt, union-lt, size-empty, size-with, within-true}
 use Rattle.fieldset.proofs.Tests.{and-left, and-right, not-or}
 use Rattle.panel.specs.Commands.{fieldOf, isOutput, hasBit6, anyOf, fieldsIn, coveredIn, outputsIn, isRising, areFieldBytes}
 use Rattle.panel.proofs.Checks.{field-small, fields-lt}
@@ -138,9 +138,6 @@ union-with m s f =
     ext-member 64 (union (with m f) s) (union m (with s f)) (union-lt (with m f) s) (union-lt m (with s f))
     (λ j l. rw (member-union (with m f) s j l, member-with m f j l, member-union m (with s f) j l, member-with s f j l)
     (or-assoc (member m j) (eqb j f) (member s j) ∙ ap (λ (b : Bool). member m j || b) (or-comm (eqb j f) (member s j))))
-
-union-none : (m : ℕ) → m < 2 ^ 64 → union m 0 ≡ m
-union-none m h = ext-member 64 (union m 0) m (union-lt m 0) h (λ j l. rw (member-union m 0 j l, member-empty j) (or-false (member m j)))
 
 none-union : (m : ℕ) → m < 2 ^ 64 → union 0 m ≡ m
 none-union m h = ext-member 64 (union 0 m) m (union-lt 0 m) h (λ j l. rw (member-union 0 m j l, member-empty j))

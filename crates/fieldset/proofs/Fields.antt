@@ -321,3 +321,22 @@ pub without-only : (f : ℕ) → without (only f) f ≡ 0
 without-only f =
     empty-of-none 64 (without (only f) f) (without-lt (only f) f)
     (λ j l. member-without (only f) f j l ∙ rw (member-only f j l) (and-not-self (eqb j f)))
+
+-- ---- two sets
+
+pub union-none : (a : ℕ) → a < 2 ^ 64 → union a 0 ≡ a
+union-none a small = ext-member 64 (union a 0) a (union-lt a 0) small (λ i l. rw (member-union a 0 i l, member-empty i) (or-false (member a i)))
+
+module _ (a b g : ℕ) where
+  pub union-cases : member (union a b) g ≡ true → (member a g ≡ true) ⊎ (member b g ≡ true)
+  union-cases e = go (member a g) refl
+    where
+      go : (x : Bool) → member a g ≡ x → (member a g ≡ true) ⊎ (member b g ≡ true)
+      go true h = inl h
+      go false h = inr (ap (λ (x : Bool). x || member b g) (sym h) ∙ sym (member-union a b g (member-lt (union a b) (union-lt a b) g e)) ∙ e)
+
+  pub union-left : g < 64 → member a g ≡ true → member (union a b) g ≡ true
+  union-left l e = member-union a b g l ∙ rw e
+
+  pub union-right : g < 64 → member b g ≡ true → member (union a b) g ≡ true
+  union-right l e = member-union a b g l ∙ rw e (or-true (member a g))

@@ -40,7 +40,8 @@ pub items-hold : Hold items
 unfolding characters items outputOf output written tallyAfter replies refusalOf linesOf lineAnswer commandOf frameOf checkedFrame isFrame fitsKind fitsFormula
     tallyBytes threeBytes tallied more lineOf hexOf bytesOf isHex offsetOf areDigits charOf digitOf isDigit checked areFieldBytes isRising fieldsIn anyOf
     planStep touchStep changeStep removeStep enterStep reverseStep rowsOf isLooped planOf leastBlocked least reversed pathFor isBlocked strengthOf moved
-    redrawn turned spread spreading readers union meets toFront dropped opened itemsOf isInForce setterOf tabulate hasLoop order following next path strongest lowestAt strength greatest within only
+    redrawn turned spread spreading readers union meets
+    toFront dropped opened itemsOf isInForce setterOf tabulate hasLoop order following next path strongest lowestAt strength greatest within only
     without with setOf member lowest any count size
 items-hold = refl
 
@@ -48,7 +49,8 @@ pub further-hold : Hold further
 unfolding characters further outputOf output written tallyAfter replies refusalOf linesOf lineAnswer commandOf frameOf checkedFrame isFrame fitsKind fitsFormula
     tallyBytes threeBytes tallied more lineOf hexOf bytesOf isHex offsetOf areDigits charOf digitOf isDigit checked areFieldBytes isRising fieldsIn anyOf
     planStep touchStep changeStep removeStep enterStep reverseStep rowsOf isLooped planOf leastBlocked least reversed pathFor isBlocked strengthOf moved
-    redrawn turned spread spreading readers union meets toFront dropped opened itemsOf isInForce setterOf tabulate hasLoop order following next path strongest lowestAt strength greatest within only
+    redrawn turned spread spreading readers union meets
+    toFront dropped opened itemsOf isInForce setterOf tabulate hasLoop order following next path strongest lowestAt strength greatest within only
     without with setOf member lowest any count
     entered sheetRedrawn revalued checkReply accepted valueOf run computed scaled rounded total sumℤ lowestOf size
 further-hold = refl
@@ -57,7 +59,8 @@ pub values-hold : HoldValues worked
 unfolding characters worked stateAfter linesOf lineAnswer commandOf frameOf checkedFrame isFrame fitsKind fitsFormula
     bytesOf isHex offsetOf areDigits digitOf isDigit checked areFieldBytes isRising fieldsIn anyOf
     planStep touchStep changeStep removeStep enterStep reverseStep rowsOf isLooped planOf leastBlocked least reversed pathFor isBlocked strengthOf moved
-    redrawn turned spread spreading readers union meets toFront dropped opened itemsOf isInForce setterOf tabulate hasLoop order following next path strongest lowestAt strength greatest within only
+    redrawn turned spread spreading readers union meets
+    toFront dropped opened itemsOf isInForce setterOf tabulate hasLoop order following next path strongest lowestAt strength greatest within only
     without with setOf member lowest any count
     entered sheetRedrawn revalued checkReply accepted valueOf run computed scaled rounded total sumℤ lowestOf size
 values-hold = refl

@@ -112,8 +112,10 @@ further =
     ∷ item "0108\n02000080\n0600008081828384858687\n" "0000\n0001\n0002\nEE00000300000300000000\n"
     -- document 02, request 6: "two fields, required link reading 0 and setting 1, then a level 3 link setting 0 alone: the second reply .. is now 0002"
     ∷ item "0102\n0200000081\n02010380\n" "0000\n0001\n0002\nEE00000300000300000000\n"
-    -- "directly or through others": 1 reads 0, 2 reads 1, 3 reads 2; the removal finds nothing blocked, and field 0 gets another setter again
-    ∷ item "0104\n0200000081\n0201000182\n0202000283\n02030380\n0303\n" "0000\n0001\n0001\n0001\n0004\n0004\nEE00000600000600000000\n"
+    -- "directly or through others": each of the fields 1 to 5 reads the one before it; the removal finds nothing blocked, and field 0 gets another setter
+    -- again
+    ∷ item "0106\n0200000081\n0201000182\n0202000283\n0203000384\n0204000485\n02050380\n0305\n"
+    "0000\n0001\n0001\n0001\n0001\n0001\n0006\n0006\nEE00000800000800000000\n"
     -- "in the state after the command": the change gives fields 0 and 1 another setter; link 1, which sets 2, read 0 before and reads 3 after
     ∷ item "0104\n02020480\n020000808182\n0201030082\n02030481\n0601038203\n05\n"
     "0000\n0001\n0001\n0002\n0000\n0002\n0004010304038013020103000004\nEE00000700000700000000\n"

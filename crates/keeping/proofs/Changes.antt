@@ -15,13 +15,13 @@ use Rattle.fieldset.specs.Tables.{at}
 use Rattle.fieldset.specs.Fields.{member, union, below, Within}
 use Rattle.fieldset.proofs.Tests.{and-left, and-right, and-both}
 use Rattle.fieldset.proofs.Numbers.{clash, any-here, any-found}
-use Rattle.fieldset.proofs.Fields.{member-empty, member-filter, member-lt, ext-member}
+use Rattle.fieldset.proofs.Fields.{member-empty, member-filter, member-lt, ext-member, union-left, union-right}
 use Rattle.ordering.specs.Order.{hasLoop}
 use Rattle.ordering.specs.Walks.{Read, Walk, one, more, Inside, Among}
 use Rattle.ordering.proofs.Sets.{test-ext}
 use Rattle.ordering.proofs.Loops.{loop-walk, walk-loop}
 use Rattle.downstream.specs.Downstream.{downstream}
-use Rattle.downstream.proofs.Spreading.{union-left, union-right, downstream-lt}
+use Rattle.downstream.proofs.Spreading.{downstream-lt}
 use Rattle.downstream.proofs.Walks.{walk-start, walk-end, downstream-walk, downstream-first}
 use Rattle.keeping.specs.Keeping.{upstream, loopsThrough, Differ, differing}
 use Rattle.keeping.proofs.Climbing.{Above, low-in, upstream-cases, upstream-set, upstream-down}

@@ -13,12 +13,12 @@ use Rattle.fieldset.specs.Numbers.{count}
 use Rattle.fieldset.specs.Fields.{member, with, union, below, meets, minus, First, Within}
 use Rattle.fieldset.proofs.Tests.{and-left, and-right}
 use Rattle.fieldset.proofs.Numbers.{clash}
-use Rattle.fieldset.proofs.Fields.{ext-member, member-empty, member-setOf-lt, setOf-lt, member-below, member-with-other, with-lt, with-of, member-filter}
+use Rattle.fieldset.proofs.Fields.{ext-member, member-empty, member-setOf-lt, setOf-lt, member-below, member-with-other, with-lt, with-of, member-filter, union-cases, union-left, union-right}
 use Rattle.ordering.specs.Walks.{Inside}
 use Rattle.ordering.proofs.Sets.{or-cases, test-ext, meets-found, meets-some}
 use Rattle.ordering.proofs.Plan.{unlisted?, unlisted-step}
 use Rattle.downstream.specs.Downstream.{downstream}
-use Rattle.downstream.proofs.Spreading.{union-cases, union-left, union-right, downstream-direct, downstream-all}
+use Rattle.downstream.proofs.Spreading.{downstream-direct, downstream-all}
 use Rattle.downstream.proofs.Walks.{downstream-later}
 use Rattle.keeping.specs.Keeping.{upstream}
 

@@ -2,7 +2,7 @@
 pub mod Climbing
 pub mod Changes
 pub mod Searching
-pub mod Retelling
+pub mod Renewing
 pub mod Repairing
 pub mod Keeping
 pub mod Examples

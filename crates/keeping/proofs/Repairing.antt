@@ -31,7 +31,7 @@ use Rattle.downstream.proofs.Tables.{downstreams-at, downstreams-long}
 use Rattle.downstream.proofs.Gathering.{Below, gathered-lt, gathered-cases, gathered-set, gathered-down}
 use Rattle.keeping.specs.Keeping.{upstream, Right, Repaired}
 use Rattle.keeping.proofs.Changes.{SameBut, unchanged}
-use Rattle.keeping.proofs.Retelling.{readers-member}
+use Rattle.keeping.proofs.Renewing.{readers-member}
 
 -- ---- one entry
 
@@ -90,7 +90,7 @@ passing-start {set = set} h r = record {
 
 pub passing-end : {reads : ℕ → ℕ} {n set left rest : ℕ} {down : List ℕ} → Passing reads n set left rest down → rest ≡ 0
     → Repaired reads n set left down
-passing-end p z = record { is-right = p .is-right; less = p .less; stuck = λ q f l e. empty-end (p .loop) z f l e q }
+passing-end p z = record { is-right = p .is-right; inside = p .within; less = p .less; stuck = λ q f l e. empty-end (p .loop) z f l e q }
 
 module _ {reads : ℕ → ℕ} {n set left rest rest′ f : ℕ} {readers down : List ℕ} (few : n ≤ 64) (t : readers ≡ directs reads n)
     (p : Passing reads n set left rest down) (U : First rest f) (q : rest′ ≡ without rest (lowestOf rest)) where

@@ -7,7 +7,7 @@ use lib.Dec.{eqb}
 use lib.ListN.{length}
 use Rattle.fieldset.specs.Numbers.{any}
 use Rattle.fieldset.specs.Tables.{at}
-use Rattle.fieldset.specs.Fields.{member, setOf, meets, filter}
+use Rattle.fieldset.specs.Fields.{member, setOf, meets, filter, Within}
 use Rattle.ordering.specs.Walks.{Among}
 use Rattle.downstream.specs.Downstream.{downstream, downstreams, directs}
 
@@ -45,5 +45,6 @@ pub record Right (reads : ℕ → ℕ) (n stale : ℕ) (down : List ℕ) : Type 
 -- what a pass leaves of a set: none of it is new, and all of it stays only where each of its fields is read by one of it
 pub record Repaired (reads : ℕ → ℕ) (n set left : ℕ) (down : List ℕ) : Type 0 where
   pub is-right : Right reads n left down
+  pub inside : Within left set
   pub less : left ≤ set
   pub stuck : left ≡ set → (f : ℕ) → f < 64 → member set f ≡ true → (g : ℕ) × (g < n) × (member (reads g) f ≡ true) × (member set g ≡ true)

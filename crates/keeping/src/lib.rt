@@ -1,5 +1,5 @@
 // Downstream sets and direct readers kept from one state to the next, and the loop test that goes through changed fields only.
-use downstream::spread;
+use downstream::gather;
 use fieldset::first;
 use fieldset::meets;
 use fieldset::member;
@@ -82,7 +82,7 @@ fn strike_reader(c: usize, fields: u64, readers: &mut [u64; 64])
 }
 
 // Shows new reads of one field, and brings the direct readers up to them.
-fn retell(c: usize, new: u64, n: usize, shown: &mut [u64; 64], readers: &mut [u64; 64])
+fn renew(c: usize, new: u64, n: usize, shown: &mut [u64; 64], readers: &mut [u64; 64])
     requires { ⌜ (n ≤ 64) × (c < n) × (length (now shown) ≡ 64) × (now readers ≡ directs (at (now shown)) n) ⌝ }
     ensures { λ r. ⌜ (now (shown .exit) ≡ set (now (shown .entry)) c new) × (now (readers .exit) ≡ directs (at (now (shown .exit))) n) ⌝ }
 {
@@ -101,7 +101,7 @@ fn reread(reads: &[u64; 64], n: usize, changed: u64, shown: &mut [u64; 64], read
     let mut rest = changed;
     while rest != 0 {
         let c = first(rest);
-        retell(c, reads[c], n, shown, readers);
+        renew(c, reads[c], n, shown, readers);
         rest = without_lowest(rest);
     }
 }
@@ -117,7 +117,7 @@ fn pass(reads: &[u64; 64], n: usize, readers: &[u64; 64], set: u64, down: &mut [
         let f = first(rest);
         let direct = readers[f];
         if !meets(direct, left) {
-            down[f] = spread(direct, down);
+            down[f] = gather(direct, down);
             left = without(left, f);
         }
         rest = without_lowest(rest);

@@ -31,4 +31,4 @@ module _ (p : Panel) (n : ℕ) (reply : Reply) (named : Link) (k : ℕ) (same : 
   open-accepted m size h e en is =
       let (z, none, answer) = reply-accepted p (checkOpen (p .size) n) (openChecks p n) (openStep n) (agree-same (openChecks p n)) reply checks m e in
       let (closed, _, _) = openable p n none in
-      rw (is, e, en, z) (decides-size p k named (Accepted 0) same (opening n) path long n (openStep n) answer (opened-size p h closed n) refl)
+      rw (is, e, en, z) (decides-size p k named (Accepted 0) same (opening n) path long n (openStep n) answer (opened-size p h closed n) refl refl)

@@ -18,7 +18,7 @@ use Rattle.fieldset.specs.Lists.{In, All, Distinct}
 use Rattle.fieldset.specs.Fields.{member, setOf, union, size}
 use Rattle.fieldset.proofs.Tests.{and-left, and-right}
 use Rattle.fieldset.proofs.Numbers.{clash}
-use Rattle.fieldset.proofs.Fields.{setOf-lt, ext-member, member-high, member-setOf, member-setOf-lt, member-empty, empty-of-none, union-lt, member-union, size-empty}
+use Rattle.fieldset.proofs.Fields.{setOf-lt, ext-member, member-high, member-setOf, member-setOf-lt, member-empty, empty-of-none, union-none, size-empty}
 use Rattle.fieldset.proofs.Lists.{all-in}
 use Rattle.downstream.proofs.Spreading.{spread-lt, spread-nothing}
 use Rattle.panel.specs.declared.Panel.{Panel}
@@ -154,12 +154,6 @@ member-turned p q f = (
 pub turned-lt : (p q : Panel) → q .size ≤ 64 → turned p q < 2 ^ 64
 unfolding turned
 turned-lt p q few = lt-of-lt-of-le (setOf-lt _ (q .size)) (pow-mono few)
-
--- a set with nothing beside it
-union-none : (a : ℕ) → a < 2 ^ 64 → union a 0 ≡ a
-union-none a small =
-    ext-member 64 (union a 0) a (union-lt a 0) small
-    (λ i l. member-union a 0 i l ∙ ap (λ (b : Bool). member a i || b) (member-empty i) ∙ or-false (member a i))
 
 -- where no value changes
 pub redrawn-by : (p q : Panel) (m : ℕ) → q .size ≤ 64 → m ≡ turned p q → redrawnBy m 0 q ≡ redrawn p q

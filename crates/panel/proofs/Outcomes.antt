@@ -1,7 +1,7 @@
 -- Steps: what a step leaves as it was, and the step that leaves the panel as it is. The step that frees nothing and reverses nothing gives the
 -- altered panel (`taken-still`); the link of the number put back, that is the panel before but for its size (`altered-size`).
 use Prim.Native.Nat.{ℕ}
-use mathlib.Core.Path.{_≡_, refl, sym, ap, _∙_}
+use mathlib.Core.Path.{_≡_, refl, sym, ap, _∙_, subst}
 use mathlib.Core.List.{List}
 use mathlib.Core.Logic.{inl}
 use native.Mathlib.Omega.{arith}
@@ -20,7 +20,7 @@ use Rattle.panel.specs.Answers.{Answer, refused, replyBytes}
 use Rattle.panel.specs.Panels.{freed}
 use Rattle.panel.specs.Solution.{reversed}
 use Rattle.panel.specs.Commands.{Command, performed}
-use Rattle.panel.specs.Outcomes.{unchanged, altered, taken, Takes, Decides}
+use Rattle.panel.specs.Outcomes.{unchanged, altered, taken, Takes, Uncounted, Decides}
 use Rattle.panel.proofs.Reversed.{reversed-place}
 use Rattle.panel.proofs.Legal.{holding-not-waiting}
 use Rattle.panel.proofs.Moved.{turned-none, counted-still}
@@ -66,23 +66,25 @@ module _ (p : Panel) (k : ℕ) (named : Link) (reply : Reply) (same : named ≡ 
       }
 
   pub decides-size : (c : Command) (path : List ℕ) → length path ≡ 64 → (n : ℕ) (a : Answer) → performed p c ≡ a
-      → record { size = n; links = p .links; place = p .place; setter = p .setter } ≡ a .panel → replyBytes reply ≡ a .reply
+      → record { size = n; links = p .links; place = p .place; setter = p .setter } ≡ a .panel → replyBytes reply ≡ a .reply → Uncounted reply
       → Decides p k c path (unchanged n (p .place) named reply)
-  decides-size c path long n a e panel answer = record {
+  decides-size c path long n a e panel answer zero = record {
     takes = takes-size path long n (performed p c .panel) (panel ∙ ap (λ (x : Answer). x .panel) (sym e));
     reply =
         ap replyBytes (counted-still reply (performed p c .panel))
         ∙ answer ∙ ap (λ (x : Answer). x .reply) (sym e);
+    uncounted = zero;
+    unvalued = refl;
   }
 
   -- the panel as it is
   pub decides-unchanged : (c : Command) (path : List ℕ) → length path ≡ 64 → (a : Answer) → performed p c ≡ a → p ≡ a .panel → replyBytes reply ≡ a .reply
-      → Decides p k c path (unchanged (p .size) (p .place) named reply)
-  decides-unchanged c path long a e panel answer = decides-size c path long (p .size) a e panel answer
+      → Uncounted reply → Decides p k c path (unchanged (p .size) (p .place) named reply)
+  decides-unchanged c path long a e panel answer zero = decides-size c path long (p .size) a e panel answer zero
 
 -- a refusal
 pub decides-refused : (p : Panel) (k : ℕ) (named : Link) (reply : Reply) (c : Command) (path : List ℕ) → length path ≡ 64 → (x : Refusal) (s : Step)
     → named ≡ linkAt (p .links) k → reply ≡ Refused x
     → refused p x ≡ performed p c → s ≡ unchanged (p .size) (p .place) named reply → Decides p k c path s
 decides-refused p k named reply c path long x s same is e eq =
-    rw eq (decides-unchanged p k named reply same c path long (refused p x) (sym e) refl (ap replyBytes is))
+    rw eq (decides-unchanged p k named reply same c path long (refused p x) (sym e) refl (ap replyBytes is) (subst Uncounted (sym is) tt))

@@ -55,7 +55,12 @@ pub record Takes (p : Panel) (k : ℕ) (path : List ℕ) (s : Step) (after : Pan
   -- a link that sets a field stays, or gives that field free
   pub keeps : (f : ℕ) → f < 64 → at (p .setter) f ≡ k → (s .link ≡ linkAt (p .links) k) ⊎ (s .freed ≡ Holding f)
 
--- a reply with the count of a set of fields, where it has any
+-- a reply without a moved count: a refusal, or 00 00
+abbrev pub Uncounted : Reply → Type 0
+Uncounted (Accepted m) = m ≡ 0
+Uncounted (Refused r) = Unit {0}
+
+-- a reply with the count of a set of fields, where it has any: else it stays, as a plan's does, which has a count of its own
 abbrev pub counted : Reply → ℕ → Reply
 counted (Accepted m) set = Accepted (cond (eqb set 0) m (size set))
 counted (Refused r) set = Refused r
@@ -68,10 +73,12 @@ redrawnBy changed revalued q = union (spread (setterReads q) (q .size) changed) 
 abbrev pub stepReply : Step → Panel → Reply
 stepReply s q = counted (s .reply) (redrawnBy (s .changed) (s .revalued) q)
 
--- the step of a command, which names the link of number k: the panel after it and its reply are the command's
+-- the step of a command, which names the link of number k: the panel after it and its reply are the command's; no value changes
 pub record Decides (p : Panel) (k : ℕ) (c : Command) (path : List ℕ) (s : Step) : Type 0 where
   pub takes : Takes p k path s (performed p c .panel)
   pub reply : replyBytes (stepReply s (performed p c .panel)) ≡ performed p c .reply
+  pub uncounted : Uncounted (s .reply)
+  pub unvalued : s .revalued ≡ 0
 
 -- a plan: the first two bytes of the answer's reply are the reply's, and the rest of it, the rows, stands at the start of the buffer, whose
 -- bytes behind are as they were

@@ -79,7 +79,7 @@ pub enum Reply {
     Refused(Refusal),
 }
 
-// What a command comes to. The panel is changed by whoever takes the step, who then has the count of a reply: that of a step is 0.
+// What a command comes to. The panel is changed by whoever takes the step, who then has the count of its reply: here it is 0, but for a plan's.
 pub struct Step {
     pub reply: Reply,
     // what the panel then has: its fields, the stays' places, the link of the number that the command names

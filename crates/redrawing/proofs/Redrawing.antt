@@ -1,21 +1,19 @@
--- The kept tables from one panel to the next. Before a redraw they are those of the panel before the line, and the reads may differ from theirs in the
--- fields that got another setter (`stale-step`), since a setter that stays reads what it read (`reads-kept`); after a change of a link in any field
--- (`stale-change`). What is redrawn by the tables is then what is redrawn on the panel (`redrawn-is`).
+-- The kept tables from one panel to the next. Before they are refreshed they are those of the panel before the line, and the reads may differ from theirs
+-- in the fields that got another setter (`stale-step`), since a setter that stays reads what it read (`reads-kept`); after a change of a link in any
+-- field (`stale-change`). What is redrawn by the tables is then what is redrawn on the panel (`redrawn-is`).
 use Prim.Native.Nat.{ℕ, _^_, _≤_, _<_}
 use mathlib.Core.Path.{_≡_, refl, sym, ap, _∙_, subst}
-use mathlib.Core.Bool.{false, not}
+use mathlib.Core.Bool.{false}
 use mathlib.Core.List.{List}
 use mathlib.Core.Logic.{_⊎_, inl, inr}
-use native.Mathlib.Decide.{decLt}
+use native.Mathlib.Decide.{ℕ-discrete, decLt}
 use native.Mathlib.Omega.{arith}
-use borrow.Author.Tests.{eqb-true, lt-ltb, not-false}
-use lib.Dec.{eqb}
+use borrow.Author.Tests.{lt-ltb}
 use lib.ListN.{length, replicate, getD-replicate}
 use Rattle.fieldset.specs.Tables.{at}
 use Rattle.fieldset.specs.Fields.{member, union, below, Within}
-use Rattle.fieldset.proofs.Tests.{and-left}
 use Rattle.fieldset.proofs.Numbers.{clash}
-use Rattle.fieldset.proofs.Fields.{member-empty, member-below, member-setOf, member-setOf-lt}
+use Rattle.fieldset.proofs.Fields.{member-empty, member-below}
 use Rattle.ordering.specs.Order.{hasLoop}
 use Rattle.ordering.specs.Walks.{Among}
 use Rattle.downstream.specs.Downstream.{gathered}
@@ -26,9 +24,9 @@ use Rattle.panel.specs.declared.Panel.{Panel}
 use Rattle.panel.specs.declared.Step.{Step}
 use Rattle.panel.specs.Items.{setterOf}
 use Rattle.panel.specs.Solution.{setterReads}
-use Rattle.panel.specs.Moved.{turned}
 use Rattle.panel.specs.Outcomes.{redrawnBy, Takes}
 use Rattle.panel.specs.Legal.{Legal}
+use Rattle.panel.proofs.Moved.{member-turned}
 use Rattle.tables.specs.Tables.{Tabled}
 use Rattle.tables.proofs.Tables.{panel-among, panel-loopless, panel-reads}
 use Rattle.taking.proofs.Taking.{reads-kept}
@@ -37,20 +35,20 @@ use Rattle.taking.proofs.Taking.{reads-kept}
 
 kept-setter : {p after : Panel} {k : ℕ} {path : List ℕ} {s : Step} → Takes p k path s after → (f : ℕ) → f < after .size → member (s .changed) f ≡ false
     → at (p .setter) f ≡ at (after .setter) f
-unfolding turned
-kept-setter {p} {after} d f l e =
-    eqb-true _ _ (not-false _ (sym (member-setOf-lt (λ f. not (eqb (at (p .setter) f) (at (after .setter) f))) (after .size) f l)
-    ∙ ap (λ (m : ℕ). member m f) (sym (d .changed)) ∙ e))
+kept-setter {p} {after} {s = s} d f l e = go (ℕ-discrete (at (p .setter) f) (at (after .setter) f))
+  where
+    go : Dec (at (p .setter) f ≡ at (after .setter) f) → at (p .setter) f ≡ at (after .setter) f
+    go (yes same) = same
+    go (no other) = absurd (clash (ap (λ (m : ℕ). member m f) (d .changed) ∙ member-turned p after f .1 (l, other)) e)
 
 changed-low : {p after : Panel} {k : ℕ} {path : List ℕ} {s : Step} → Takes p k path s after → Within (s .changed) (below (after .size))
-unfolding turned
 changed-low {p} {after} d f l e =
     member-below (after .size) f l
-    ∙ and-left _ _ (sym (member-setOf (λ f. not (eqb (at (p .setter) f) (at (after .setter) f))) (after .size) f) ∙ ap (λ (m : ℕ). member m f) (sym (d .changed)) ∙ e)
+    ∙ lt-ltb f (after .size) (member-turned p after f .0 (ap (λ (m : ℕ). member m f) (sym (d .changed)) ∙ e) .0)
 
 -- ---- the kept tables
 
--- what a redraw asks of the reads of a panel
+-- what `keeping::refresh` asks of the reads of a panel
 pub record Stale (n stale : ℕ) (reads shown readers down : List ℕ) : Type 0 where
   pub kept : Kept n shown readers down
   pub full : length reads ≡ 64

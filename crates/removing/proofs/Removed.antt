@@ -311,7 +311,7 @@ module _ (p : Panel) (h : Legal p) (id v : ℕ) (small : id < 128) (holds : link
       → Decides p (id % 128) (removing id) path s
   remove-looped old same e is =
       let (loops, long) = subst (Settles p id v path number) e own in
-      rw is (decides-unchanged p (id % 128) old (Refused Loop) same (removing id) path long (refused p Loop) loops refl refl)
+      rw is (decides-unchanged p (id % 128) old (Refused Loop) same (removing id) path long (refused p Loop) loops refl refl tt)
 
   pub remove-reversed : (l : Link) (u : ℕ) → l ≡ noLink → v ≡ u → t ≢ Looped → s ≡ stepOf t (p .size) (p .place) l (Holding u) number
       → Decides p (id % 128) (removing id) path s

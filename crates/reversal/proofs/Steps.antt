@@ -150,6 +150,8 @@ module _ (p : Panel) (k n : ℕ) (place : List ℕ) (l : Link) (held : Standing)
             ∙ counted-none (redrawnBy fields-changed 0 r)
             ∙ ap (λ (m : ℕ). 0x00 ∷ size m ∷ []) (redrawn-by p r fields-changed (legal-after .few) turns)
             ∙ ap (λ (a : Answer). a .reply) (sym accept);
+        uncounted = refl;
+        unvalued = refl;
       }
         where
           fields-changed : ℕ

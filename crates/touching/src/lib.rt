@@ -63,7 +63,7 @@ fn check_touch(n: usize, f: u8) -> Reply
 }
 
 // Decides on touching a field: its stay becomes the strongest of the stays.
-// The contract rules out, for instance, an order that stays as it was and an invented moved count (must-fail: order_kept,
+// The contract rules out, for instance, an order that stays as it was and a field counted that keeps its setter (must-fail: order_kept,
 // moved_count_invented).
 pub fn touch(
     p: Panel,

@@ -12,7 +12,7 @@ use lib.IntN.{ℤ, pos, negsuc}
 use Rattle.fieldset.specs.Fields.{member}
 use Rattle.fieldset.proofs.Tests.{and-left, and-right}
 use Rattle.fieldset.proofs.Numbers.{clash}
-use Rattle.fieldset.proofs.Fields.{member-setOf, member-setOf-lt}
+use Rattle.fieldset.proofs.Fields.{setOf-lt, member-setOf, member-setOf-lt, empty-of-none}
 use Rattle.values.specs.Limits.{valueAt}
 use Rattle.values.specs.Changes.{differ, revalued}
 
@@ -58,3 +58,9 @@ module _ (n : ℕ) (before after : List ℤ) where
     where
       other : ℕ → Bool
       other f = differ (valueAt before f) (valueAt after f)
+
+-- nothing differs from itself
+pub revalued-same : (n : ℕ) (values : List ℤ) → revalued n values values ≡ 0
+unfolding revalued
+revalued-same n values =
+    empty-of-none n _ (setOf-lt _ n) (λ f l. member-setOf-lt (λ f. differ (valueAt values f) (valueAt values f)) n f l ∙ differ-self (valueAt values f))

@@ -20,6 +20,7 @@ use Rattle.panel.specs.Answers.{Answer}
 use Rattle.panel.specs.Panels.{waitingLink, withLink, withSetter}
 use Rattle.panel.specs.Steps.{accepted}
 use Rattle.panel.specs.Commands.{Passes, addChecks, changeChecks, removeChecks, adding, removing, changing, performed}
+use Rattle.panel.specs.Outcomes.{Uncounted}
 use Rattle.panel.specs.Legal.{Legal}
 use Rattle.panel.proofs.Legal.{holding-not-waiting}
 use Rattle.panel.proofs.Checks.{named-link, changeable, change-removes}
@@ -118,6 +119,7 @@ returns c =
       panel = same;
       changed = still;
       reply = told;
+      uncounted = subst Uncounted (sym e) tt;
       tabled = s .pre .1;
       scan = count-refused (b .p) (b .id) (b .level) (b .bytes .now) _ _ _ f (b .old) (s .pre .2) _ (k .check-link .ensures) _ e _;
     })
@@ -148,7 +150,7 @@ returns-2 c =
     let e = k .settle .ensures in
     let loops = drop-loops (b .p) (s .pre .0) (b .id) (number-small t) (removes t) _ (holds w) _ _ (k .settle .result .verdict) (e .0) (c .before .enum-told3 .given .1) in
     let (same, still, told) = refused-parts (b .p) _ (Refused Loop) Loop refl (removal-refused (b .p) (s .pre .0) (b .id) (b .level) (b .bytes .now) (passed t) Loop loops) in
-    rw (c .kept2 .ensures) (record { panel = same; changed = still; reply = told; tabled = s .pre .1; scan = e .1 .1 ∙ scanned k ∙ counts t })
+    rw (c .kept2 .ensures) (record { panel = same; changed = still; reply = told; uncounted = tt; tabled = s .pre .1; scan = e .1 .1 ∙ scanned k ∙ counts t })
 
 element-write-q : tie.Need-element-write-q
 element-write-q c =
@@ -282,7 +284,7 @@ returns-3 c =
     let (same, still, told) =
     refused-parts (b .p) _ (k .check-verdict .result) _ e
     (addition-refused (b .p) (s .pre .0) (b .id) (b .level) (b .bytes .now) (passed t) (d .accepts) _ (d .leaves) (told-it .enum-told6 .given .0 .0) refuses) in
-    rw (c .kept3 .ensures) (record { panel = same; changed = still; reply = told; tabled = s .pre .1; scan = worked-is m ∙ counts t })
+    rw (c .kept3 .ensures) (record { panel = same; changed = still; reply = told; uncounted = subst Uncounted (sym e) tt; tabled = s .pre .1; scan = worked-is m ∙ counts t })
 
 -- the panel with the link
 abbrev resolved-at : tie.After-waiting-link → tie.After-resolve
@@ -384,6 +386,7 @@ returns-4 c =
       panel = ap (λ (a : Answer). a .panel) w;
       changed = changed-is (b .p) (s .pre .0) (b .id) (b .level) (b .bytes .now) (passed t) _ left _ is;
       reply = count-is (b .p) (s .pre .0) (b .id) (b .level) (b .bytes .now) (passed t) _ left _ is ∙ ap (λ (a : Answer). a .reply) w;
+      uncounted = refl;
       tabled = added e .tabled;
       scan = worked-is m ∙ counts t;
     }

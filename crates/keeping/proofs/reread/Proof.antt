@@ -3,7 +3,7 @@
 use native.Mathlib.Omega.{arith}
 use Rattle.fieldset.proofs.Emptying.{first-falls, taken-in}
 use Rattle.keeping.proofs.Climbing.{low-in}
-use Rattle.keeping.proofs.Retelling.{Rereading, rereading-start, rereading-step, rereading-shown, rereading-told}
+use Rattle.keeping.proofs.Renewing.{Rereading, rereading-start, rereading-step, rereading-shown, rereading-told}
 use Rattle.keeping.proofs.reread.Statement.{statement}
 use Rattle.keeping.proofs.reread.Tie as tie
 
@@ -20,8 +20,8 @@ telling c = c .before .before .before .before .before
 loop-holds : tie.Need-loop-holds Inv-loop μ-loop
 loop-holds c = rereading-start (c .pre .0 .1) (c .pre .0 .3)
 
-retell-requires : tie.Need-retell-requires Inv-loop μ-loop
-retell-requires c κs =
+renew-requires : tie.Need-renew-requires Inv-loop μ-loop
+renew-requires c κs =
     let next = c .before .before .before in
     let loop = next .before .before in
     let p = loop .before .pre in
@@ -35,7 +35,7 @@ loop-less c = first-falls (telling c .first .ensures) (c .without-lowest .ensure
 loop-again : tie.Need-loop-again Inv-loop μ-loop
 loop-again c =
     let next = telling c in
-    let told = c .before .retell .ensures in
+    let told = c .before .renew .ensures in
     rereading-step (next .before .before .loop .inv) (next .first .ensures) (told .0) (told .1) (c .without-lowest .ensures)
 
 returns : tie.Need-returns Inv-loop μ-loop
@@ -55,7 +55,7 @@ reread-spec =
     (λ c κs. omega arith)
     (λ c. omega (arith, c .first .ensures .field))
     (λ c. c .first .ensures .field)
-    retell-requires
+    renew-requires
     (λ c κs. omega arith)
     loop-less
     loop-again

@@ -15,7 +15,7 @@ use Rattle.redrawing.proofs.count_reply.Tie as tie
 
 -- the set that is counted
 counts : (c : tie.After-union) → let a = c .before .before .args in c .union .result ≡ union (gathered (at (a .down .now)) (a .changed)) (a .revalued)
-counts c = c .union .ensures ∙ ap (λ (m : ℕ). union m (c .before .before .args .revalued)) (c .before .spread .ensures)
+counts c = c .union .ensures ∙ ap (λ (m : ℕ). union m (c .before .before .args .revalued)) (c .before .gather .ensures)
 
 returns : tie.Need-returns
 returns c = let u = c .before in sym (counted-empty _ _ (sym (counts u) ∙ c .if1 .taken))

@@ -1,4 +1,4 @@
--- Laws of the table of direct readers while the reads of some fields change: of one field that is struck out and entered (`retold`), and of the loop
+-- Laws of the table of direct readers while the reads of some fields change: of one field that is struck out and entered (`renewed`), and of the loop
 -- over all that change (`Rereading`), in which the readers are at each time those of the reads that are shown.
 use Prim.Native.Nat.{ℕ, _^_, _≤_, _<_}
 use mathlib.Core.Path.{_≡_, refl, sym, ap, _∙_}
@@ -41,10 +41,10 @@ readers-directs reads n table few long fits each =
 -- ---- one field
 
 -- c is struck out where it reads no more, and entered where it reads anew
-pub retold : (shown : List ℕ) (new : ℕ) {n c old gone come : ℕ} {table between after : List ℕ} → n ≤ 64 → c < n → length shown ≡ 64
+pub renewed : (shown : List ℕ) (new : ℕ) {n c old gone come : ℕ} {table between after : List ℕ} → n ≤ 64 → c < n → length shown ≡ 64
     → table ≡ directs (at shown) n → old ≡ at shown c → gone ≡ minus old new → Mapped (λ m. without m c) gone table between
     → come ≡ minus new old → Mapped (λ m. with m c) come between after → length after ≡ 64 → after ≡ directs (at (put shown c new)) n
-retold shown new {n} {c} {old} {gone} {come} {table} {between} {after} few low long t o eg x ec y full =
+renewed shown new {n} {c} {old} {gone} {come} {table} {between} {after} few low long t o eg x ec y full =
     readers-directs (at (put shown c new)) n after few full (λ f l. rw (is f l) (fits f l (member old f) (member new f)))
     (λ f j l k. ap (λ m. member m j) (is f l) ∙ go f j l k (ℕ-discrete j c))
   where

@@ -1,12 +1,12 @@
--- `downstream::spread` meets its contract. The loop's invariant (`Gathering`): the set with the entries of its fields, but for the rest; the measure
+-- `downstream::gather` meets its contract. The loop's invariant (`Gathering`): the set with the entries of its fields, but for the rest; the measure
 -- is the rest.
 use native.Mathlib.Omega.{arith}
 use borrow.Author.Needs.{needs}
 use Rattle.fieldset.specs.Tables.{at}
 use Rattle.fieldset.proofs.Emptying.{first-falls}
 use Rattle.downstream.proofs.Gathering.{Gathering, gathering-start, gathering-step, gathering-end}
-use Rattle.downstream.proofs.spread.Statement.{statement}
-use Rattle.downstream.proofs.spread.Tie as tie
+use Rattle.downstream.proofs.gather.Statement.{statement}
+use Rattle.downstream.proofs.gather.Tie as tie
 
 abbrev Inv-loop : tie.InvT-loop
 Inv-loop set down out₀ rest₀ out rest = Gathering (at down) set out rest
@@ -38,8 +38,8 @@ loop-again c =
 returns : tie.Need-returns Inv-loop μ-loop
 returns c = gathering-end (c .before .loop .inv) (c .loop-test .left)
 
-pub spread-spec : {M : Type 1} → statement M
-spread-spec =
+pub gather-spec : {M : Type 1} → statement M
+gather-spec =
     tie.close
     (tie.spec
     Inv-loop

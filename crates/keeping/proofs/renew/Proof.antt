@@ -1,12 +1,12 @@
--- `keeping::retell` meets its contract: the field is struck out and entered (`retold`).
+-- `keeping::renew` meets its contract: the field is struck out and entered (`renewed`).
 use mathlib.Core.Path.{refl, ap, _∙_}
 use native.Mathlib.Omega.{arith}
 use borrow.Author.Needs.{needs}
 use lib.ListN.{length}
 use Rattle.downstream.proofs.Tables.{directs-long}
-use Rattle.keeping.proofs.Retelling.{retold}
-use Rattle.keeping.proofs.retell.Statement.{statement}
-use Rattle.keeping.proofs.retell.Tie as tie
+use Rattle.keeping.proofs.Renewing.{renewed}
+use Rattle.keeping.proofs.renew.Statement.{statement}
+use Rattle.keeping.proofs.renew.Tie as tie
 
 strike-reader-requires : tie.Need-strike-reader-requires
 strike-reader-requires c κs =
@@ -21,12 +21,12 @@ returns c =
     let p = start .pre in
     let entered = c .enter-readers .ensures in (
       refl,
-      retold (start .args .shown .now) (start .args .new) (p .0) (p .1) (p .2) (p .3) refl (gone .minus .ensures) (struck .strike-reader .ensures .1)
+      renewed (start .args .shown .now) (start .args .new) (p .0) (p .1) (p .2) (p .3) refl (gone .minus .ensures) (struck .strike-reader .ensures .1)
           (c .before .before .minus2 .ensures) (entered .1) (entered .0),
     )
 
-pub retell-spec : {M : Type 1} → statement M
-retell-spec =
+pub renew-spec : {M : Type 1} → statement M
+renew-spec =
     tie.close
     (tie.spec
     (λ c. search needs)
