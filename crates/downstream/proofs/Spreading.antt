@@ -3,19 +3,19 @@
 -- (`spread-all`).
 use Prim.Native.Nat.{ℕ, zero, suc, _+_, _^_, _≤_, _<_}
 use mathlib.Core.Path.{_≡_, refl, sym, _∙_}
-use mathlib.Core.Bool.{Bool, true, false, not, _&&_, or-true}
+use mathlib.Core.Bool.{Bool, true, false, not, _&&_}
 use mathlib.Core.Logic.{_⊎_, inl, inr}
 use native.Mathlib.Nat.{lt-of-lt-of-le}
 use native.Mathlib.Omega.{arith}
-use borrow.Author.Tests.{lt-ltb, ltb-true, eq-eqb, eqb-true, not-true}
+use borrow.Author.Tests.{ltb-true, eq-eqb, eqb-true, not-true}
 use lib.Dec.{ltb}
 use lib.Pow.{pow-pos, pow-mono}
 use Rattle.fieldset.specs.Numbers.{count}
-use Rattle.fieldset.specs.Fields.{member, union, only, below, meets, within, Within}
+use Rattle.fieldset.specs.Fields.{member, union, only, meets, within, Within}
 use Rattle.fieldset.proofs.Tests.{and-left, and-right}
 use Rattle.fieldset.proofs.Numbers.{clash, but, but-other, count-but, count-le, count-mono, count-pos}
 use Rattle.fieldset.proofs.Fields.{ext-member, member-empty, member-setOf, member-setOf-lt, setOf-lt, union-lt, member-only, within-member, union-cases, union-left, union-right}
-use Rattle.ordering.proofs.Sets.{or-cases, test-ext, meets-found, meets-some, within-not}
+use Rattle.ordering.proofs.Sets.{test-ext, meets-found, meets-some, within-not}
 use Rattle.downstream.specs.Downstream.{readers, spreading, spread, downstream}
 use Rattle.downstream.specs.Meaning.{Closed, Least}
 

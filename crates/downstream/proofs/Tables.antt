@@ -11,7 +11,7 @@ use Rattle.fieldset.specs.Tables.{at, tabulate}
 use Rattle.fieldset.specs.Fields.{member, only, meets}
 use Rattle.fieldset.proofs.Tests.{and-left, and-right, and-both}
 use Rattle.fieldset.proofs.Numbers.{clash, any-cong}
-use Rattle.fieldset.proofs.Tables.{length-tabulate, getD-tabulate, tabulate-cong}
+use Rattle.fieldset.proofs.Tables.{length-tabulate, getD-tabulate}
 use Rattle.fieldset.proofs.Fields.{member-empty, empty-of-none, setOf-cong}
 use Rattle.ordering.proofs.Sets.{test-ext}
 use Rattle.ordering.proofs.Plan.{Same}

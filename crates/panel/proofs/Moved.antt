@@ -3,7 +3,7 @@
 -- has redrawn (`redrawn-by`); the moved count is their number.
 use Prim.Native.Nat.{ℕ, _^_, _≤_, _<_}
 use mathlib.Core.Path.{_≡_, refl, sym, ap, _∙_}
-use mathlib.Core.Bool.{Bool, true, false, not, _||_, cond, or-false}
+use mathlib.Core.Bool.{Bool, true, false, not, cond}
 use mathlib.Core.List.{List, [], _∷_}
 use mathlib.Core.Logic.{_≢_, _↔_, inl, inr}
 use native.Mathlib.Decide.{ℕ-discrete, decLt}
@@ -15,10 +15,10 @@ use lib.Pow.{pow-mono}
 use lib.Seq.{getD-set-other}
 use Rattle.fieldset.specs.Tables.{at}
 use Rattle.fieldset.specs.Lists.{In, All, Distinct}
-use Rattle.fieldset.specs.Fields.{member, setOf, union, size}
+use Rattle.fieldset.specs.Fields.{member, setOf, size}
 use Rattle.fieldset.proofs.Tests.{and-left, and-right}
 use Rattle.fieldset.proofs.Numbers.{clash}
-use Rattle.fieldset.proofs.Fields.{setOf-lt, ext-member, member-high, member-setOf, member-setOf-lt, member-empty, empty-of-none, union-none, size-empty}
+use Rattle.fieldset.proofs.Fields.{setOf-lt, ext-member, member-high, member-setOf, member-setOf-lt, empty-of-none, union-none, size-empty}
 use Rattle.fieldset.proofs.Lists.{all-in}
 use Rattle.downstream.proofs.Spreading.{spread-lt, spread-nothing}
 use Rattle.panel.specs.declared.Panel.{Panel}
