@@ -1,6 +1,7 @@
 -- Every item marked P holds of document 01's definitions, and so does every further worked text: they give its text its output. The worked values
 -- hold of document 02's. By computation; assumes nothing.
 use mathlib.Core.Path.{_≡_, refl}
+use mathlib.Core.Bool.{false}
 use lib.ListN.{length}
 use Rattle.fieldset.specs.Numbers.{count, any, lowest}
 use Rattle.fieldset.specs.Tables.{tabulate}
@@ -12,8 +13,9 @@ use Rattle.panel.specs.Items.{setterOf, isInForce, itemsOf}
 use Rattle.panel.specs.Panels.{opened, dropped, toFront}
 use Rattle.panel.specs.Solution.{strengthOf, isBlocked, pathFor, reversed, least, leastBlocked, planOf, isLooped, rowsOf}
 use Rattle.panel.specs.Moved.{turned, redrawn, moved}
+use Rattle.panel.specs.Answers.{isRefusal}
 use Rattle.panel.specs.Steps.{reverseStep, enterStep, removeStep, touchStep, planStep, changeStep}
-use Rattle.panel.specs.Commands.{anyOf, fieldsIn, isRising, areFieldBytes, checked, checkReply}
+use Rattle.panel.specs.Commands.{anyOf, fieldsIn, isRising, areFieldBytes, checked, checkReply, touching, performed}
 use Rattle.values.specs.Ratios.{rounded, scaled}
 use Rattle.values.specs.Sums.{sumℤ, total}
 use Rattle.values.specs.Words.{valueOf}
@@ -64,3 +66,8 @@ unfolding characters worked stateAfter linesOf lineAnswer commandOf frameOf chec
     without with setOf member lowest any count
     entered sheetRedrawn revalued checkReply accepted valueOf run computed scaled rounded total sumℤ lowestOf size
 values-hold = refl
+
+-- "With 64 fields 043F is accepted": the reply is no refusal, whatever its count, which would be long to compute
+pub last-field-touched : isRefusal (performed (opened 64) (touching 63) .reply) ≡ false
+unfolding checked touchStep toFront opened isBlocked strengthOf strength greatest setterOf tabulate only member setOf any
+last-field-touched = refl

@@ -31,8 +31,9 @@ further =
     "0000\n0001\nFF06\nFF06\nFF06\nFF07\nFF08\nFF06\nEE00000800000200000606\n"
     -- "an added link of level 0F is accepted, 10 gives FF06; id 7F is accepted, 80 gives FF06"
     ∷ item "0101\n02000F80\n02011080\n027F0F80\n02800F80\n" "0000\n0001\nFF06\n0000\nFF06\nEE00000500000300000206\n"
-    -- "With 64 fields 043F is accepted, 0440 gives FF07. Eight field bytes are taken, nine give FF02."
-    ∷ item "0140\n043F\n0440\n" "0000\n0000\nFF07\nEE00000300000200000107\n"
+    -- "With 64 fields .. 0440 gives FF07", and so does a value; that 043F is accepted: `last-field-touched` (`items/proofs/Items.antt`). "Eight field bytes
+    -- are taken, nine give FF02."
+    ∷ item "0140\n0440\n074000000001\n" "0000\nFF07\nFF07\nEE00000300000100000207\n"
     ∷ item "0109\n0200008081828384858687\n020100808182838485868788\n" "0000\n0001\nFF02\nEE00000300000200000102\n"
     -- "bit 6 set in a field byte": in the second one too
     ∷ item "0102\n02000080C1\n" "0000\nFF02\nEE00000200000100000102\n"
@@ -68,8 +69,8 @@ further =
     -- "from −2,147,483,648 to 2,147,483,647", "13 OutOfRange (a result outside the limits)" (document 02, request 2): a sum at each limit, and one past it
     ∷ item "0103\n020000000182\n08000202\n070080000000\n0701FFFFFFFF\n07007FFFFFFF\n070100000001\n"
     "0000\n0001\n0000\n0002\nFF0D\n0002\nFF0D\nEE0000070000050000020D\n"
-    -- every field of 64 takes a value (document 02, request 2)
-    ∷ item "0140\n073F00000001\n074000000001\n" "0000\n0001\nFF07\nEE00000300000200000107\n"
+    -- every field takes a value (document 02, request 2)
+    ∷ item "0102\n070100000001\n070200000001\n" "0000\n0001\nFF07\nEE00000300000200000107\n"
     -- kind 07: "14 FieldDriven (a link still sets f after the touch, checked before 13)" (document 02, request 2)
     ∷ item "0103\n0200000081\n07007FFFFFFF\n080001003C0001\n070100000000\n070200000000\n" "0000\n0001\n0001\n0000\nFF0E\nFF0D\nEE0000060000040000020D\n"
     -- NoSuchField and the touch's Loop (document 02, request 2)
