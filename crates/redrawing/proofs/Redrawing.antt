@@ -13,13 +13,13 @@ use lib.ListN.{length, replicate, getD-replicate}
 use Rattle.fieldset.specs.Tables.{at}
 use Rattle.fieldset.specs.Fields.{member, union, below, Within}
 use Rattle.fieldset.proofs.Numbers.{clash}
-use Rattle.fieldset.proofs.Fields.{member-empty, member-below}
+use Rattle.fieldset.proofs.Fields.{member-below}
 use Rattle.ordering.specs.Order.{hasLoop}
 use Rattle.ordering.specs.Walks.{Among}
 use Rattle.downstream.specs.Downstream.{gathered}
-use Rattle.downstream.proofs.Tables.{spread-ext, nothing-downstream, nothing-direct}
+use Rattle.downstream.proofs.Tables.{spread-ext}
 use Rattle.keeping.specs.Keeping.{Kept, Differ}
-use Rattle.keeping.proofs.Keeping.{kept-nothing, kept-spread}
+use Rattle.keeping.proofs.Keeping.{kept-nothing, kept-opened, kept-spread}
 use Rattle.panel.specs.declared.Panel.{Panel}
 use Rattle.panel.specs.declared.Step.{Step}
 use Rattle.panel.specs.Items.{setterOf}
@@ -91,15 +91,6 @@ module _ {p : Panel} (h : Legal p) {levels others reads : List ℕ} (t : Tabled 
   -- at the start nothing is kept
   pub stale-start : Stale (p .size) (below (p .size)) reads (replicate 64 0) (replicate 64 0) (replicate 64 0)
   stale-start = stale-any (kept-nothing (p .size) (h .few)) (λ f a b. getD-replicate {A = ℕ} 64 f 0 0 b)
-
--- a panel of another size: it was not open, and nothing reads anything
-kept-opened : {reads readers down : List ℕ} → Kept 0 reads readers down → ((f : ℕ) → f < 64 → at reads f ≡ 0) → (n : ℕ) → n ≤ 64 → Kept n reads readers down
-kept-opened {reads} k none n few = record {
-  full = k .full;
-  among = record { few = few; inside = λ g f l i e. absurd (clash e (ap (λ (x : ℕ). member x f) (none g (omega arith)) ∙ member-empty f)) };
-  readers-are = k .readers-are ∙ nothing-direct (at reads) 0 (omega arith) (λ f l. absurd (omega arith)) ∙ sym (nothing-direct (at reads) n few (λ f l. none f (omega arith)));
-  down-are = k .down-are ∙ nothing-downstream (at reads) 0 (omega arith) (λ f l. absurd (omega arith)) ∙ sym (nothing-downstream (at reads) n few (λ f l. none f (omega arith)));
-}
 
 -- the size stays, or the panel was not open
 abbrev pub Sizes : Panel → Panel → Type 0
