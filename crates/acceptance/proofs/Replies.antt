@@ -19,7 +19,7 @@ use Rattle.fieldset.proofs.Fields.{size-le}
 use Rattle.fieldset.proofs.Lists.{Whole}
 use Rattle.panel.specs.declared.Panel.{Panel}
 use Rattle.panel.specs.declared.Refusal.{Refusal}
-use Rattle.panel.specs.declared.Refusal.the-variants.{BadHex, BadFrame, AlreadyOpen, NotOpen, BadSize, BadLink, NoSuchField, LinkTaken, NoSuchLink, Conflict, Loop, TextTooLong, OutOfRange, FieldDriven, BadFormula, BadHeader, UnclearUnit, FlowCount}
+use Rattle.panel.specs.declared.Refusal.the-variants.{BadHex, BadFrame, AlreadyOpen, NotOpen, BadSize, BadLink, NoSuchField, LinkTaken, NoSuchLink, Conflict, Loop, TextTooLong, OutOfRange, FieldDriven, BadFormula, BadHeader, UnclearUnit, FlowCount, BadImage, UnknownVersion, Unfit}
 use Rattle.panel.specs.Items.{Item, link, stay, inForce}
 use Rattle.panel.specs.Answers.{Answer, refusalBytes}
 use Rattle.panel.specs.Panels.{opened}
@@ -71,6 +71,9 @@ refusal-reply kind BadFormula m l = absurd (omega arith)
 refusal-reply kind BadHeader m l = absurd (omega arith)
 refusal-reply kind UnclearUnit m l = absurd (omega arith)
 refusal-reply kind FlowCount m l = absurd (omega arith)
+refusal-reply kind BadImage m l = absurd (omega arith)
+refusal-reply kind UnknownVersion m l = absurd (omega arith)
+refusal-reply kind Unfit m l = absurd (omega arith)
 
 bad-hex-reply : (offset : ℕ) → offset ≤ 0xFFFF → IsReply 0xFF (0xFF ∷ refusalBytes (BadHex offset))
 bad-hex-reply offset h = record { form = Form.badHex offset refl; bytes = (omega arith, (omega arith, (omega arith, (omega arith, tt)))) }

@@ -33,11 +33,15 @@ Usable None reads = Unit {0}
 Usable (Ratio p q) reads = (0 < p) × ((0 < q) × (0 < reads))
 Usable (Sum g) reads = g < 64
 
+-- "p and q from 1 to 65,535"
+abbrev pub isTerm : ℕ → Bool
+isTerm p = ltb 0 p && leb p 65535
+
 -- a link over these covered fields can be given the formula: the cases of "BadFormula (p or q 0, wrong number of covered fields, f not covered)" are the
--- others, and so is no formula, which no frame can hold
+-- others, and so is what no frame can hold: no formula, and p or q over 65,535
 unfoldable pub accepted : Formula → ℕ → Bool
 accepted None covered = false
-accepted (Ratio p q) covered = ltb 0 p && (ltb 0 q && eqb (size covered) 2)
+accepted (Ratio p q) covered = isTerm p && (isTerm q && eqb (size covered) 2)
 accepted (Sum g) covered = ltb g 64 && (member covered g && leb 2 (size covered))
 
 -- "each held formula is right, only for the field it sets": of a link over these covered fields that sets f, between the values v. A ratio: f has the

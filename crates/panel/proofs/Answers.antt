@@ -6,7 +6,7 @@ use Prim.Native.Nat.{ℕ, _+_, _*_, _/_, _%_, _≤_}
 use native.Mathlib.Omega.{arith}
 use lib.ListN.{length, getD, drop}
 use Rattle.panel.specs.declared.Refusal.{Refusal}
-use Rattle.panel.specs.declared.Refusal.the-variants.{BadHex, BadFrame, AlreadyOpen, NotOpen, BadSize, BadLink, NoSuchField, LinkTaken, NoSuchLink, Conflict, Loop, TextTooLong, OutOfRange, FieldDriven, BadFormula, BadHeader, UnclearUnit, FlowCount}
+use Rattle.panel.specs.declared.Refusal.the-variants.{BadHex, BadFrame, AlreadyOpen, NotOpen, BadSize, BadLink, NoSuchField, LinkTaken, NoSuchLink, Conflict, Loop, TextTooLong, OutOfRange, FieldDriven, BadFormula, BadHeader, UnclearUnit, FlowCount, BadImage, UnknownVersion, Unfit}
 use Rattle.panel.specs.declared.Reply.{Reply}
 use Rattle.panel.specs.declared.Reply.the-variants.{Accepted, Refused}
 use Rattle.panel.specs.Answers.{refusalBytes, replyBytes}
@@ -17,7 +17,7 @@ refusalAt b =
     let badHex = BadHex (getD b 1 0 * 256 + getD b 2 0) in
     getD
     (badHex ∷ badHex ∷ BadFrame ∷ AlreadyOpen ∷ NotOpen ∷ BadSize ∷ BadLink ∷ NoSuchField ∷ LinkTaken ∷ NoSuchLink ∷ Conflict ∷ Loop ∷ TextTooLong ∷ OutOfRange
-    ∷ FieldDriven ∷ BadFormula ∷ BadHeader ∷ UnclearUnit ∷ FlowCount ∷ [])
+    ∷ FieldDriven ∷ BadFormula ∷ BadHeader ∷ UnclearUnit ∷ FlowCount ∷ BadImage ∷ UnknownVersion ∷ Unfit ∷ [])
     (getD b 0 0) badHex
 
 pub refusal-at : (r : Refusal) → refusalAt (refusalBytes r) ≡ r
@@ -39,6 +39,9 @@ refusal-at BadFormula = refl
 refusal-at BadHeader = refl
 refusal-at UnclearUnit = refl
 refusal-at FlowCount = refl
+refusal-at BadImage = refl
+refusal-at UnknownVersion = refl
+refusal-at Unfit = refl
 
 -- a refusal has its number and at most two values
 pub refusal-length : (r : Refusal) → (1 ≤ length (refusalBytes r)) × (length (refusalBytes r) ≤ 3)
@@ -60,6 +63,9 @@ refusal-length BadFormula = (omega arith, omega arith)
 refusal-length BadHeader = (omega arith, omega arith)
 refusal-length UnclearUnit = (omega arith, omega arith)
 refusal-length FlowCount = (omega arith, omega arith)
+refusal-length BadImage = (omega arith, omega arith)
+refusal-length UnknownVersion = (omega arith, omega arith)
+refusal-length Unfit = (omega arith, omega arith)
 
 -- a reply's first two bytes are there
 pub reply-two : (r : Reply) → 2 ≤ length (replyBytes r)

@@ -6,7 +6,7 @@ use lib.Dec.{eqb}
 use lib.ListN.{getD}
 use Rattle.panel.specs.declared.Panel.{Panel}
 use Rattle.panel.specs.declared.Refusal.{Refusal}
-use Rattle.panel.specs.declared.Refusal.the-variants.{BadHex, BadFrame, AlreadyOpen, NotOpen, BadSize, BadLink, NoSuchField, LinkTaken, NoSuchLink, Conflict, Loop, TextTooLong, OutOfRange, FieldDriven, BadFormula, BadHeader, UnclearUnit, FlowCount}
+use Rattle.panel.specs.declared.Refusal.the-variants.{BadHex, BadFrame, AlreadyOpen, NotOpen, BadSize, BadLink, NoSuchField, LinkTaken, NoSuchLink, Conflict, Loop, TextTooLong, OutOfRange, FieldDriven, BadFormula, BadHeader, UnclearUnit, FlowCount, BadImage, UnknownVersion, Unfit}
 use Rattle.panel.specs.declared.Reply.{Reply}
 use Rattle.panel.specs.declared.Reply.the-variants.{Accepted, Refused}
 
@@ -35,6 +35,9 @@ refusalBytes BadFormula = 15 ∷ []
 refusalBytes BadHeader = 16 ∷ []
 refusalBytes UnclearUnit = 17 ∷ []
 refusalBytes FlowCount = 18 ∷ []
+refusalBytes BadImage = 19 ∷ []
+refusalBytes UnknownVersion = 20 ∷ []
+refusalBytes Unfit = 21 ∷ []
 
 -- "Replies: 00 m (m the moved count); for a plan 00 n, ..; for a refusal FF and its number", with its values
 abbrev pub replyBytes : Reply → List ℕ

@@ -71,6 +71,12 @@ pub enum Refusal {
     UnclearUnit,
     // no signal of airflow, or more than a panel has fields for
     FlowCount,
+    // a text that is not that of a panel
+    BadImage,
+    // a saved text of a version that is not known
+    UnknownVersion,
+    // a saved panel that no commands lead to
+    Unfit,
 }
 
 // The reply to a command. An accepted one has a count: the fields that are redrawn, or, for a plan, the fields listed.

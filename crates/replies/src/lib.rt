@@ -71,6 +71,9 @@ fn refusal_bytes(r: Refusal) -> RefusalBytes
         Refusal::BadHeader => number_alone(16),
         Refusal::UnclearUnit => number_alone(17),
         Refusal::FlowCount => number_alone(18),
+        Refusal::BadImage => number_alone(19),
+        Refusal::UnknownVersion => number_alone(20),
+        Refusal::Unfit => number_alone(21),
     }
 }
 

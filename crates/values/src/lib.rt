@@ -11,7 +11,7 @@ ghost use mir.Val.{SFits};
 ghost use Rattle.values.specs.Limits.{limitedValues, limited, valueAt};
 ghost use Rattle.values.specs.Ratios.{rounded, scaled};
 ghost use Rattle.values.specs.Sums.{total};
-ghost use Rattle.values.specs.Words.{valueOf};
+ghost use Rattle.values.specs.Words.{valueOf, bitsOf};
 ghost use Rattle.values.specs.Changes.{differ, revalued};
 
 // A result that is held to the limits: a value, or that it is outside.
@@ -105,6 +105,17 @@ pub fn of_bits(n: u32) -> i32
         n as i32
     } else {
         ((n as i64) - 4294967296) as i32
+    }
+}
+
+// The number of 32 bits that is a value in two's complement.
+pub fn bits_of(v: i32) -> u32
+    ensures { λ r. ⌜ r ≡ bitsOf v ⌝ }
+{
+    if v < 0 {
+        ((v as i64) + 4294967296) as u32
+    } else {
+        v as u32
     }
 }
 

@@ -1,6 +1,9 @@
 -- `formulas::accepts` meets its contract, by one law for each way through the check.
 use Prim.Native.Nat.{_<_}
 use mathlib.Core.Path.{_≡_, sym, ap, _∙_}
+use native.Mathlib.Omega.{arith}
+use mir.Syntax.{w16}
+use mir.Val.{Fits}
 use borrow.Author.Tests.{not-true, not-false}
 use borrow.Author.Needs.{needs}
 use Rattle.fieldset.specs.Fields.{member}
@@ -35,7 +38,10 @@ returns : tie.Need-returns
 returns c = let k = c .before .before in ratio-no-p (start k .args .covered) (k .formula .given .1) (c .if1 .taken)
 
 returns-2 : tie.Need-returns-2
-returns-2 c = let k = c .before .before .before in ratio-no-q (start k .args .covered) (k .formula .given .1) (c .before .if1 .left) (c .if2 .taken)
+returns-2 c =
+    let k = c .before .before .before in
+    let p-fits : Fits w16 (k .formula .given .0 .0) = search needs in
+    ratio-no-q (start k .args .covered) (k .formula .given .1) (c .before .if1 .left) (omega (arith, p-fits .fits)) (c .if2 .taken)
 
 returns-3 : tie.Need-returns-3
 returns-3 c =
@@ -55,7 +61,10 @@ returns-6 : tie.Need-returns-6
 returns-6 c =
     let e = c .before .before in
     let k = e .before .before in
-    ratio-accepts (start k .args .covered) (k .formula .given .1) (e .if1 .left) (c .before .if2 .left) (c .size .ensures)
+    let p-fits : Fits w16 (k .formula .given .0 .0) = search needs in
+    let q-fits : Fits w16 (k .formula .given .0 .1 .0) = search needs in
+    ratio-accepts (start k .args .covered) (k .formula .given .1) (e .if1 .left) (omega (arith, p-fits .fits)) (c .before .if2 .left)
+    (omega (arith, q-fits .fits)) (c .size .ensures)
 
 returns-7 : tie.Need-returns-7
 returns-7 c =

@@ -1,0 +1,4 @@
+pub mod Images
+pub mod Entries
+pub mod Forms
+pub mod Reading
