@@ -134,15 +134,15 @@ module _ (s : Sheet) (e : isFormed s ≡ true) where
     where
       go : (k : ℕ) → Dec (k < 128) → Fits (formulaAt (s .formulas) k) (linkAt (s .panel .links) k)
       go k (yes l) = F .fits k l
-      go k (no l) = inl (ap (λ (r : Rule). r .formula) (List·getD-eq-default (s .formulas .of) (record { formula = None }) (omega (arith, F .rules-long))))
+      go k (no l) = inl (ap (λ (r : Rule). r .formula) (List·getD-eq-default (s .formulas .of) (record { formula = None }) {n = k} (omega (arith, F .rules-long))))
 
       inside-limits : (f : ℕ) → Dec (f < 64) → outside (valueAt (s .values) f) ≡ false
       inside-limits f (yes l) = not-true (outside (valueAt (s .values) f)) (small-value (valueAt (s .values) f) (F .value-fits f l))
-      inside-limits f (no l) = rw (List·getD-eq-default (s .values) (pos 0) (omega (arith, F .values-long)))
+      inside-limits f (no l) = rw (List·getD-eq-default (s .values) (pos 0) {n = f} (omega (arith, F .values-long)))
 
       zero-past : (f : ℕ) → s .panel .size ≤ f → Dec (f < 64) → valueAt (s .values) f ≡ pos 0
       zero-past f h (yes l) = F .value-past f h l
-      zero-past f h (no l) = List·getD-eq-default (s .values) (pos 0) (omega (arith, F .values-long))
+      zero-past f h (no l) = List·getD-eq-default (s .values) (pos 0) {n = f} (omega (arith, F .values-long))
 
 -- ---- what Unfit says, part by part
 
