@@ -11,7 +11,7 @@ use lib.Dec.{leb, ltb, eqb, eqb·suc-zero}
 use lib.ListN.{length, drop}
 use borrow.Author.Tests.{leb-true, not-false, lt-ltb, le-ltb, le-leb, lt-leb, eq-eqb, ne-eqb, ltb-false}
 use Rattle.edf.specs.Texts.{isPlain, numberOf}
-use Rattle.fieldset.proofs.Tests.{and-left, and-right}
+use Rattle.fieldset.proofs.Tests.{and-left, and-right, or-left, or-right}
 use Rattle.panel.specs.declared.Refusal.{Refusal}
 use Rattle.panel.specs.declared.Refusal.the-variants.{BadHeader, UnclearUnit, FlowCount}
 use Rattle.panel.specs.Answers.{refusalBytes}
@@ -46,11 +46,6 @@ pub no-number : (s : List ℕ) (m : ℕ) → [] ≡ numberRead s → false ≡ (
 no-number s m e = rw (other-read s e) refl
 
 -- ---- BadHeader
-
--- neither of two
-or-none : (a b : Bool) → (a || b) ≡ false → (a ≡ false) × (b ≡ false)
-or-none false b e = (refl, e)
-or-none true b e = absurd (true≢false e)
 
 -- some check applies
 bad : (file : List ℕ) → isBadHeader file ≡ true → [] ≡ signalsRead file
@@ -116,16 +111,15 @@ module _ (file : List ℕ) where
   header-right e =
       let counted : Bool = isPlain (countText file) && leb 1 (countOf file) && leb (countOf file) 254 in
       let whole : Bool = isPlain (lengthText file) && eqb (numberOf (lengthText file)) (256 * (countOf file + 1)) in
-      let (first, third) = or-none (short || not counted) (not whole) e in
-      let (one, two) = or-none short (not counted) first in
-      let both = not-false counted two in
+      let first = or-left (short || not counted) (not whole) e in
+      let both = not-false counted (or-right short (not counted) first) in
       let plain-some = and-left (isPlain (countText file) && leb 1 (countOf file)) (leb (countOf file) 254) both in
       record {
-        long = ltb-false (length file) (headerLength (countOf file)) one;
+        long = ltb-false (length file) (headerLength (countOf file)) (or-left short (not counted) first);
         plain = and-left (isPlain (countText file)) (leb 1 (countOf file)) plain-some;
         some-signal = leb-true 1 (countOf file) (and-right (isPlain (countText file)) (leb 1 (countOf file)) plain-some);
         few-signals = leb-true (countOf file) 254 (and-right (isPlain (countText file) && leb 1 (countOf file)) (leb (countOf file) 254) both);
-        bytes = not-false whole third;
+        bytes = not-false whole (or-right (short || not counted) (not whole) e);
       }
 
   pub all-right : Right → countOf file ∷ [] ≡ signalsRead file

@@ -29,6 +29,10 @@ version = 1
 abbrev pub isVersion : ℕ → Bool
 isVersion v = eqb v version
 
+-- the length of the longest text of a panel: 64 fields with a value each, and 128 links of eight fields, each with a sum
+abbrev pub longest : ℕ
+longest = 5322
+
 -- "the first line begins with byte 0A and a second byte that is no known version": its first four characters
 unfoldable pub isUnknown : List ℕ → Bool
 isUnknown text =

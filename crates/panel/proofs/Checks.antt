@@ -13,7 +13,7 @@ use lib.ListN.{length}
 use Rattle.fieldset.specs.Fields.{member, with, without, size}
 use Rattle.fieldset.proofs.Numbers.{clash}
 use Rattle.fieldset.proofs.Fields.{member-with, member-with-same, member-without-same, member-without-other, member-empty, member-some, with-lt, size-without, size-mono, size-empty}
-use Rattle.fieldset.proofs.Tests.{and-left, and-right}
+use Rattle.fieldset.proofs.Tests.{and-left, and-right, or-left, or-right}
 use Rattle.panel.specs.declared.Link.{Link}
 use Rattle.panel.specs.declared.Panel.{Panel}
 use Rattle.panel.specs.declared.Refusal.{Refusal}
@@ -124,14 +124,6 @@ module _ (p : Panel) (cs ds : List Check) (step : Answer) (agree : Agree cs ds) 
 -- the link that an operation is given under its number
 pub named-link : (links : List Link) (id : ℕ) (old : Link) → old ≡ linkAt links (id % 128) → id < 128 → old ≡ linkAt links id
 named-link links id old same l = same ∙ ap (linkAt links) (mod-eq-of-lt l)
-
-or-left : (a b : Bool) → (a || b) ≡ false → a ≡ false
-or-left true b e = e
-or-left false b e = refl
-
-or-right : (a b : Bool) → (a || b) ≡ false → b ≡ false
-or-right true b e = absurd (clash refl e)
-or-right false b e = e
 
 -- ---- field bytes
 

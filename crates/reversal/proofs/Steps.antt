@@ -14,6 +14,7 @@ use lib.ListN.{length, take, set}
 use lib.Seq.{getD-set-other}
 use Rattle.fieldset.specs.Tables.{at}
 use Rattle.fieldset.specs.Fields.{member, only, union, size}
+use Rattle.fieldset.proofs.Tests.{or-left}
 use Rattle.fieldset.proofs.Numbers.{clash}
 use Rattle.fieldset.proofs.Fields.{member-empty, member-only, member-union, member-setOf-lt, empty-of-none, setOf-lt, union-lt}
 use Rattle.strength.specs.Strength.{greatest, strength}
@@ -113,12 +114,8 @@ module _ (p : Panel) (k n : ℕ) (place : List ℕ) (l : Link) (held : Standing)
       still z = let m = moves none in (waiting held refl, m .0, m .1)
         where
           none : fieldsBy t ≡ 0
-          none = fields ∙ empty-of-none 64 (fieldsOf vs) small (λ f lf. let e = none-zero (fieldsBy t) (heldField held) f z lf in ap (λ (m : ℕ). member m f) (sym fields) ∙ left (member (fieldsBy t) f) (member (heldField held) f) e)
+          none = fields ∙ empty-of-none 64 (fieldsOf vs) small (λ f lf. let e = none-zero (fieldsBy t) (heldField held) f z lf in ap (λ (m : ℕ). member m f) (sym fields) ∙ or-left (member (fieldsBy t) f) (member (heldField held) f) e)
             where
-              left : (a b : Bool) → (a || b) ≡ false → a ≡ false
-              left true b e = e
-              left false b e = refl
-
               small : fieldsOf vs < 2 ^ 64
               small = setOf-lt (λ f. anyOf (eqb f) vs) 64
 

@@ -57,7 +57,7 @@ pub enum Blocked {
 
 // The blocked link or stay of least level, the lowest link number among equals, where the fields have these setters. Of strengths it knows the
 // table alone: what is found is what that gives, whatever stands in it. Both scans stand here: a function for each would copy the panel.
-fn find_blocked(p: Panel, setter: &[u8; 64], table: &[u8; 64]) -> Blocked
+pub fn find_blocked(p: Panel, setter: &[u8; 64], table: &[u8; 64]) -> Blocked
     requires { ⌜ Legal p ⌝ }
     ensures { λ r. ⌜ Names (p .links) (leastBlockedBy (now (table .entry)) (withSetters p (now (setter .entry)))) r ⌝ }
 {

@@ -9,7 +9,6 @@ ghost use mathlib.Core.Path.{_≡_};
 ghost use Prim.Native.Nat.{_<_};
 ghost use lib.ListN.{length};
 ghost use Rattle.fieldset.specs.Tables.{at, tabulate};
-ghost use Rattle.panel.specs.Legal.{Legal};
 ghost use Rattle.tables.specs.Tables.{EntryOf, Tabled, Places, levelWith};
 
 // What a field's setter gives its tables: level, other outputs, read fields.
@@ -41,7 +40,7 @@ pub fn setter_entry(c: u8, l: Link, place: u8, f: usize) -> Entry
 
 // Fills the tables of a panel.
 pub fn fill_tables(p: Panel, levels: &mut [u8; 64], others: &mut [u64; 64], reads: &mut [u64; 64])
-    requires { ⌜ Legal p × (length (now levels) ≡ 64) × (length (now others) ≡ 64) × (length (now reads) ≡ 64) ⌝ }
+    requires { ⌜ Places (p .place) × (length (now levels) ≡ 64) × (length (now others) ≡ 64) × (length (now reads) ≡ 64) ⌝ }
     ensures { λ _. ⌜ Tabled p (now (levels .exit)) (now (others .exit)) (now (reads .exit)) ⌝ }
 {
     let mut f: usize = 0;

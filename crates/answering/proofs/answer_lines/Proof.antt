@@ -101,7 +101,7 @@ ends : (c : tie.After-line-end Inv-loop μ-loop) → c .line-end .result ≤ len
 ends c = let l = c .before .before .before in end-within (text-of l) (l .loop .at) (c .line-end .result) (c .before .before .loop-test .taken) (c .line-end .ensures)
 
 fill-tables-requires : tie.Need-fill-tables-requires Inv-loop μ-loop
-fill-tables-requires c κs = (begin c .pre .0 .panel, refl, refl, refl)
+fill-tables-requires c κs = (places _ (begin c .pre .0 .panel), refl, refl, refl)
 
 below-requires : tie.Need-below-requires Inv-loop μ-loop
 below-requires c κs = begin (c .before) .pre .0 .panel .few

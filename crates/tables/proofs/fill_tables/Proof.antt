@@ -6,7 +6,7 @@ use native.Mathlib.Omega.{arith}
 use borrow.Author.Needs.{needs}
 use Rattle.panel.specs.Items.{linkAt}
 use Rattle.tables.specs.Tables.{TabledTo}
-use Rattle.tables.proofs.Settings.{places, entry-setting, tabled-set}
+use Rattle.tables.proofs.Settings.{entry-setting, tabled-set}
 use Rattle.tables.proofs.fill_tables.Statement.{statement}
 use Rattle.tables.proofs.fill_tables.Tie as tie
 
@@ -29,7 +29,7 @@ setter-entry-requires : tie.Need-setter-entry-requires Inv-loop μ-loop
 setter-entry-requires c κs =
     let next = inside c in
     let loop = next .before in
-    (places _ (loop .before .pre .0) (loop .loop .f) (omega (arith, next .loop-test .taken)), omega (arith, next .loop-test .taken))
+    (loop .before .pre .0 (loop .loop .f) (omega (arith, next .loop-test .taken)), omega (arith, next .loop-test .taken))
 
 loop-again : tie.Need-loop-again Inv-loop μ-loop
 loop-again c =
