@@ -37,7 +37,7 @@ fn low_char(b: u8) -> u8
 }
 
 // A byte as two digits at a position, as far as they fit.
-fn put(out: &mut [u8], at: usize, b: u8)
+pub fn put(out: &mut [u8], at: usize, b: u8)
     requires { ⌜ at + 1 < 2 ^ 64 ⌝ }
     ensures { λ _. ⌜ now (out .exit) ≡ sets (now (out .entry)) at (hexOf (b ∷ [])) ⌝ }
 {
@@ -59,7 +59,7 @@ fn put_all(out: &mut [u8], at: usize, bytes: &[u8])
 }
 
 // Bytes as digits at a position, as far as they fit.
-fn put_bytes(out: &mut [u8], at: usize, bytes: &[u8])
+pub fn put_bytes(out: &mut [u8], at: usize, bytes: &[u8])
     requires { ⌜ at + 1 + 2 * length (now bytes) < 2 ^ 64 ⌝ }
     ensures { λ _. ⌜ now (out .exit) ≡ sets (now (out .entry)) at (hexOf (now (bytes .entry))) ⌝ }
 {
