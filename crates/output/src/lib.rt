@@ -37,7 +37,7 @@ pub fn answer_from(text: &[u8], first: Sheet) -> Output
     ensures { λ r. ⌜ (r .whole ≡ true → r .len ≡ length (outputOf lineAnswer first (now (text .entry)))) ⌝ }
 {
     let mut out = io::large_buffer();
-    if text::is_too_long(text) {
+    if frames::is_too_long(text) {
         let n = text::put_too_long(&mut out);
         return send(text, first, 0, &out[..n]);
     }

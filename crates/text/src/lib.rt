@@ -1,5 +1,7 @@
 // The operations on a whole text.
 use answering::answer_lines;
+use frames::TEXT_LIMIT;
+use frames::is_too_long;
 use panel::Refusal;
 use replies::LONGEST;
 use replies::put_refusal;
@@ -14,13 +16,9 @@ ghost use Rattle.panel.specs.declared.Refusal.the-variants.{TextTooLong as TooL
 ghost use Rattle.panel.specs.Answers.{refusalBytes};
 ghost use Rattle.hex.specs.Hex.{lineOf};
 ghost use Rattle.tally.specs.Tallies.{tallyBytes};
-ghost use Rattle.frames.specs.Texts.{isTooLong};
 ghost use Rattle.sheet.specs.Sheets.{unopened};
 ghost use Rattle.frames.specs.Frames.{lineAnswer};
 ghost use Rattle.text.specs.Outcomes.{tallyLength, Told, fieldsAfter, valuesAfter};
-
-// The greatest length of a text.
-const TEXT_LIMIT: usize = 65535;
 
 // Room for a longest reply to each line of a text.
 const ROOM: usize = LONGEST * TEXT_LIMIT;
@@ -29,13 +27,6 @@ const ROOM: usize = LONGEST * TEXT_LIMIT;
 pub enum Outcome {
     Length(usize),
     TextTooLong,
-}
-
-// Whether a text is refused with TextTooLong.
-pub fn is_too_long(text: &[u8]) -> bool
-    ensures { λ r. ⌜ r ≡ isTooLong (now (text .entry)) ⌝ }
-{
-    TEXT_LIMIT < text.len()
 }
 
 // The line of a text that is too long, FF and the refusal's number, at the start of a buffer, as far as it fits; the position behind it.
