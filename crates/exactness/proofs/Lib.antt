@@ -1,3 +1,4 @@
+pub mod Beginnings
 pub mod Values
 pub mod Solutions
 pub mod Lists
