@@ -291,7 +291,7 @@ module _ (text : List ℕ) (s : Sheet) (G : Good text s) where
 -- ---- beginnings
 
 -- where nothing is found nothing is blocked
-none-blocked : (p : Panel) → Legal p → leastBlocked p ≡ none → (c : Item) → isBlocked p c ≡ false
+pub none-blocked : (p : Panel) → Legal p → leastBlocked p ≡ none → (c : Item) → isBlocked p c ≡ false
 none-blocked p h e = subst (LeastBlocked p) e (least-blocked p h)
 
 pub begun-legal : (x : Beginning) → LegalSheet (startOf x .state)
