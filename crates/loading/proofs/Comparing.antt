@@ -45,4 +45,3 @@ alike-all buffer text n i l A =
     let e : i ≡ n = omega (arith, A .within) in
     let q : take n buffer ≡ text = ap (λ (x : ℕ). take x buffer) (sym e) ∙ A .so-far ∙ take-all i text (omega (arith, A .long)) in
     rw q (sym (same-self text))
-

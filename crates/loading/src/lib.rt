@@ -55,12 +55,10 @@ pub struct Loaded {
 }
 
 // The sheet as it was, with the refusal.
-fn refused(s: Sheet, r: Refusal) -> Loaded
-{
+fn refused(s: Sheet, r: Refusal) -> Loaded {
     let reply = Reply::Refused(r);
     Loaded {
         reply: reply,
         sheet: s,
     }
 }
-
