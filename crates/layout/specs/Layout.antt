@@ -67,7 +67,7 @@ textOf x =
 -- each number is greater than those before it
 unfoldable pub Rising : List ℕ → Type 0
 Rising [] = Unit {0}
-Rising (a ∷ as) = All (λ b. a < b) as × Rising as
+Rising (a ∷ bs) = All (λ b. a < b) bs × Rising bs
 
 -- "the held field or FF": the fields that are held
 abbrev pub heldFields : List LinkLine → List ℕ
