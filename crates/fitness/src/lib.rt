@@ -24,13 +24,7 @@ fn lacks(l: Link) -> bool
 {
     let s = l.standing;
     match s {
-        Standing::Waiting => {
-            if l.used {
-                l.level == 0
-            } else {
-                false
-            }
-        }
+        Standing::Waiting => { if l.used { l.level == 0 } else { false } }
         Standing::Holding(_) => false,
     }
 }
