@@ -224,7 +224,7 @@ no-tail t form o = sym (rw (ne-eqb form 1 (o .0 .1), ne-eqb form 2 (o .1)) refl)
 -- ---- a line
 
 -- what decoding tells
-bad-told : (s : List ℕ) (n : ℕ) → decodedValues (NoHex n) ≡ decoded s → (isHex s ≡ false) × (n ≡ offsetOf s)
+pub bad-told : (s : List ℕ) (n : ℕ) → decodedValues (NoHex n) ≡ decoded s → (isHex s ≡ false) × (n ≡ offsetOf s)
 unfolding decoded
 bad-told s n e = go (isHex s) refl e where
   go : (b : Bool) → isHex s ≡ b → decodedValues (NoHex n) ≡ cond b (0x00 ∷ length (bytesOf s) ∷ []) (0xFF ∷ offsetOf s ∷ [])
@@ -232,7 +232,7 @@ bad-told s n e = go (isHex s) refl e where
   go true t told = let z : _≡_ {A = ℕ} 255 0 = ap (λ (l : List ℕ). at l 0) told in absurd (omega arith)
   go false t told = (t, ap (λ (l : List ℕ). at l 1) told)
 
-frame-told : (s : List ℕ) (n : ℕ) → decodedValues (Frame n) ≡ decoded s → (isHex s ≡ true) × (n ≡ length (bytesOf s))
+pub frame-told : (s : List ℕ) (n : ℕ) → decodedValues (Frame n) ≡ decoded s → (isHex s ≡ true) × (n ≡ length (bytesOf s))
 unfolding decoded
 frame-told s n e = go (isHex s) refl e where
   go : (b : Bool) → isHex s ≡ b → decodedValues (Frame n) ≡ cond b (0x00 ∷ length (bytesOf s) ∷ []) (0xFF ∷ offsetOf s ∷ [])

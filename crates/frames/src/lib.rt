@@ -186,14 +186,14 @@ fn tail_byte(frame: &[u8; hex::FRAME_ROOM], len: usize, i: usize) -> u8
 }
 
 // The number of two bytes, most significant first.
-fn pair(a: u8, b: u8) -> u16
+pub fn pair(a: u8, b: u8) -> u16
     ensures { λ r. ⌜ r ≡ pairOf (a ∷ b ∷ []) ⌝ }
 {
     (a as u16) * 256 + (b as u16)
 }
 
 // The number of four bytes, most significant first.
-fn word(a: u8, b: u8, c: u8, d: u8) -> u32
+pub fn word(a: u8, b: u8, c: u8, d: u8) -> u32
     ensures { λ r. ⌜ r ≡ wordOf (a ∷ b ∷ c ∷ d ∷ []) ⌝ }
 {
     (a as u32) * 16777216 + (b as u32) * 65536 + (c as u32) * 256 + (d as u32)

@@ -71,7 +71,7 @@ fn value(c: u8) -> u8
 }
 
 // Two digits as a byte.
-fn byte(a: u8, b: u8) -> u8
+pub fn byte(a: u8, b: u8) -> u8
     requires { ⌜ (isDigit a ≡ true) × (isDigit b ≡ true) ⌝ }
     ensures { λ r. ⌜ r ≡ digitOf a * 16 + digitOf b ⌝ }
 {

@@ -1,8 +1,9 @@
 -- Sheets: a panel with the formulas of its links and the values of its fields (document 02, request 2).
 use Prim.Native.Nat.{ℕ}
+use mathlib.Core.Path.{_≡_}
 use mathlib.Core.List.{List}
 use lib.IntN.{ℤ, pos}
-use lib.ListN.{getD, set, replicate}
+use lib.ListN.{length, getD, set, replicate}
 use Rattle.panel.specs.declared.Panel.{Panel}
 use Rattle.panel.specs.Panels.{opened}
 use Rattle.panel.specs.Solution.{setterReads, planOf}
@@ -36,3 +37,8 @@ withFormula formulas k formula = record { of = set (formulas .of) k (record { fo
 -- the panel's plan, run once over these values
 abbrev pub evaluated : Panel → Formulas → List ℤ → Run
 evaluated p formulas values = run (formulaOf (formulas .of) (p .setter)) (setterReads p) (planOf p) values
+
+-- the tables of links and of formulas have all their entries
+pub record Full (s : Sheet) : Type 0 where
+  pub links : length (s .panel .links) ≡ 128
+  pub formulas : length (s .formulas .of) ≡ 128
