@@ -1,6 +1,6 @@
 -- Where runs begin, all is sound: the lines of a formed sheet's text enter its links, its stays and its formulas, by induction over the lines of each
 -- number (`folded-gather`); of what reading took in the sheet is legal and nothing is blocked (`took`). Assumes nothing.
-use Prim.Native.Nat.{ℕ, zero, suc, _+_, _*_, _/_, _%_, _≤_, _<_, zero-le}
+use Prim.Native.Nat.{ℕ, suc, _≤_, _<_, zero-le}
 use mathlib.Core.Path.{_≡_, refl, sym, ap, ap₂, subst, _∙_}
 use mathlib.Core.Bool.{Bool, true, false, cond}
 use mathlib.Core.List.{List, [], _∷_, _++_, map}
@@ -12,10 +12,10 @@ use borrow.Author.Tests.{lt-ltb, le-ltb, eq-eqb, ne-eqb, eqb-true}
 use lib.Dec.{eqb, ltb}
 use lib.ListN.{length, getD, List·getD-eq-default}
 use Rattle.fieldset.specs.Tables.{at, tabulate}
-use Rattle.fieldset.specs.Lists.{In, All, Distinct, place}
+use Rattle.fieldset.specs.Lists.{In, All, place}
 use Rattle.fieldset.proofs.Tables.{length-tabulate, getD-tabulate}
 use Rattle.fieldset.proofs.Numbers.{ltb-suc, Lowest, lowest-is}
-use Rattle.fieldset.proofs.Lists.{in-all, all-append, all-map, place-at, place-later, pigeonhole, tabulate-below}
+use Rattle.fieldset.proofs.Lists.{in-all, all-map, place-at, place-found, pigeonhole, tabulate-distinct, tabulate-below}
 use Rattle.panel.specs.declared.Link.{Link}
 use Rattle.panel.specs.declared.Panel.{Panel}
 use Rattle.panel.specs.Items.{Item, linkAt, noLink}
@@ -42,34 +42,13 @@ use Rattle.images.specs.Images.{gather, fieldAt, stayOrder, linkFrame, linkPiec
 use Rattle.lines.specs.Lines.{linesOf}
 use Rattle.images.specs.Entries.{folded, lineBytes, candidate}
 use Rattle.images.specs.Reading.{version, Good}
-use Rattle.images.proofs.Lines.{frames-written}
+use Rattle.images.proofs.Lines.{frames-written, formula-back}
 use Rattle.images.proofs.Folds.{folded-append, folded-gather}
 use Rattle.images.proofs.FieldBytes.{covered-back, outputs-back}
 use Rattle.images.proofs.Facts.{Facts, formed-facts}
 use Rattle.images.proofs.Rounds.{frames-bytes}
 use Rattle.images.proofs.Reading.{took}
 use Rattle.exactness.specs.Beginnings.{lineStore, storeOf, lineGives, formulasOf, Beginning, fromUnopened, fromText, startOf, givenOf}
-
--- ---- lists
-
--- what has a place in the list stands in it
-place-found : (f : ℕ) (xs : List ℕ) → place xs f < length xs → In f xs
-unfolding place
-place-found f [] l = absurd (omega arith)
-place-found f (x ∷ xs) l = go (ℕ-discrete x f) (place-found f xs)
-  where
-    go : Dec (x ≡ f) → (place xs f < length xs → In f xs) → In f (x ∷ xs)
-    go (yes e) h = inl (sym e)
-    go (no e) h = inr (h (omega (arith, place-later f x xs e)))
-
-distinct-last : (xs : List ℕ) (x : ℕ) → Distinct xs → All (λ y. y < x) xs → Distinct (xs ++ (x ∷ []))
-distinct-last [] x d a = (tt, tt)
-distinct-last (y ∷ ys) x (h, d) (l, a) = (all-append (λ z. y ≢ z) ys (x ∷ []) h ((λ e. omega arith), tt), distinct-last ys x d a)
-
-tabulate-distinct : (n : ℕ) → Distinct (tabulate (λ k. k) n)
-unfolding tabulate
-tabulate-distinct zero = tt
-tabulate-distinct (suc n) = distinct-last (tabulate (λ k. k) n) n (tabulate-distinct n) (tabulate-below n)
 
 -- ---- a table that is entered number by number
 
@@ -166,7 +145,7 @@ module _ (s : Sheet) (F : Facts s) where
       let L = gather (linkPiece (p .links)) 128 in
       let R = gather (formulaPiece (s .formulas)) 128 in
       let Q = gather (valuePiece (s .values)) (p .size) in
-      let b : Store = record { stays = order; links = λ i. none } in
+      let b : Store = folded lineStore empty ((0x0A ∷ version ∷ p .size ∷ []) ∷ (0x0B ∷ order) ∷ []) in
       rw (folded-append lineStore b L (R ++ Q), folded-append lineStore (folded lineStore b L) R Q)
       (folded-gather lineStore (λ i. Stored 128) (valuePiece (s .values)) (p .size) (λ i l. value-stored (Stored 128) i) _
       (folded-gather lineStore (λ i. Stored 128) (formulaPiece (s .formulas)) 128 (λ i l. formula-stored (Stored 128) i) _
@@ -184,13 +163,10 @@ module _ (s : Sheet) (F : Facts s) where
   formula-gives : (i : ℕ) → i < 128 → (given : ℕ → Formula) → UpTo None formulas i given → UpTo None formulas (suc i) (folded lineGives given (formulaPiece (s .formulas) i))
   formula-gives i l given h = go (formulas i) refl
     where
-      halves : (x : ℕ) → x / 256 * 256 + x % 256 ≡ x
-      halves x = omega arith
-
       go : (r : Formula) → formulas i ≡ r → UpTo None formulas (suc i) (folded lineGives given (formulaFrames i r))
       go None e = up-keep None formulas given i e h
-      go (Ratio x y) e = up-more None formulas given i _ (ap₂ Ratio (halves x) (halves y) ∙ sym e) h
-      go (Sum f) e = up-more None formulas given i _ (sym e) h
+      go (Ratio x y) e = up-more None formulas given i _ (formula-back (Ratio x y) ∙ sym e) h
+      go (Sum f) e = up-more None formulas given i _ (formula-back (Sum f) ∙ sym e) h
 
   value-gives : (P : (ℕ → Formula) → Type 0) (f : ℕ) (given : ℕ → Formula) → P given → P (folded lineGives given (valuePiece (s .values) f))
   value-gives P f given h = go (eqb (bitsOf (valueAt (s .values) f)) 0)

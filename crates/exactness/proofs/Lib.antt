@@ -4,4 +4,5 @@ pub mod Solutions
 pub mod Lists
 pub mod Changes
 pub mod Redraws
+pub mod Longest
 pub mod Saved

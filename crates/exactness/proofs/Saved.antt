@@ -1,15 +1,15 @@
 -- Saved texts: what is reachable is legal and nothing in it is blocked, so it is formed and not unfit, and its text is taken back (`read-legal`). What
 -- reading answers goes by its checks, each of which says what the statement says (`unfit-is`, `bad-exactly`). Assumes nothing.
-use Prim.Native.Nat.{ℕ, _≤_, _<_}
-use mathlib.Core.Path.{_≡_, refl, sym, ap, subst, _∙_}
+use Prim.Native.Nat.{ℕ, _<_}
+use mathlib.Core.Path.{_≡_, refl, ap, subst}
 use mathlib.Core.Bool.{Bool, true, false, _&&_, _||_, or-true}
-use mathlib.Core.List.{List, [], _∷_}
-use mathlib.Core.Logic.{_↔_, _⊎_, inl, inr}
+use mathlib.Core.List.{_∷_}
+use mathlib.Core.Logic.{_⊎_, inl, inr}
 use mathlib.Core.Option.{Option, none, some as found}
 use native.Mathlib.Decide.{decLt}
 use native.Mathlib.Omega.{arith}
 use borrow.Author.Tests.{lt-ltb, ltb-true, ltb-false, eq-eqb, eqb-true}
-use lib.Dec.{eqb, ltb}
+use lib.Dec.{eqb}
 use lib.ListN.{length}
 use Rattle.fieldset.specs.Tables.{at}
 use Rattle.fieldset.proofs.Tests.{and-left, and-right, and-both}
@@ -18,10 +18,11 @@ use Rattle.ordering.specs.Walks.{Inside}
 use Rattle.ordering.proofs.Sets.{or-cases}
 use Rattle.ordering.proofs.Loops.{loop-walk, walk-loop}
 use Rattle.panel.specs.declared.Panel.{Panel}
-use Rattle.panel.specs.Items.{Item, link, stay, linkAt, setterOf, inForce, waits}
-use Rattle.panel.specs.Solution.{setterReads, isBlocked, isLooped, leastBlocked}
+use Rattle.panel.specs.Items.{Item, link, linkAt, setterOf, inForce, waits}
+use Rattle.panel.specs.Panels.{opened}
+use Rattle.panel.specs.Solution.{setterReads, isLooped, leastBlocked}
 use Rattle.panel.specs.declared.Refusal.the-variants.{Unfit}
-use Rattle.panel.specs.Answers.{refusalBytes}
+use Rattle.panel.specs.Answers.{refusalBytes, isRefusal}
 use Rattle.panel.specs.Commands.{isOpen, checkReply}
 use Rattle.panel.proofs.InForce.{used-force}
 use Rattle.panel.proofs.Reversed.{setter-link, setter-stay}
@@ -29,18 +30,19 @@ use Rattle.panel.proofs.Legal.{Filled, force-small}
 use Rattle.panel.proofs.Setters.{reads-inside, waits-force}
 use Rattle.panel.proofs.Least.{LeastBlocked, least-whole, least-blocked, none-least}
 use Rattle.sheet.specs.declared.Sheet.{Sheet}
+use Rattle.sheet.specs.Sheets.{unopened}
 use Rattle.sheet.specs.Commands.{Answer}
-use Rattle.sheet.specs.Legal.{LegalSheet}
 use Rattle.frames.specs.Texts.{textLimit, isTooLong}
 use Rattle.images.specs.Images.{imageOf}
 use Rattle.images.specs.Entries.{candidate}
-use Rattle.images.specs.Reading.{version, isUnknown, isBad, isSome, isShort, isUnfit, Good, read}
+use Rattle.images.specs.Reading.{version, isUnknown, isBad, isSome, isShort, isUnfit, read}
 use Rattle.images.proofs.Facts.{Facts, formed-facts}
 use Rattle.images.proofs.Lengths.{legal-length}
 use Rattle.images.proofs.Legality.{legal-formed}
-use Rattle.images.proofs.Reading.{image-once, not-bad, good-candidate, good-not-bad, bad-exactly, read-legal, took, refused-same}
+use Rattle.images.proofs.Reading.{image-once, not-bad, good-candidate, good-not-bad, bad-exactly, read-written, read-legal, took, refused-same}
 use Rattle.exactness.specs.Saved.{TakenBack, WrittenSame, OneText, LongestText, TakenLegal, RefusedReadUnchanged, IsUnfit, loop, blocked, short, Reading, tooLong, alreadyOpen, unknownVersion, badImage, unfit, taken, ReadingExactly, GivesUnfit, UnfitExactly}
 use Rattle.exactness.proofs.Beginnings.{none-blocked}
+use Rattle.exactness.proofs.Longest.{longSheet, long-length, long-formed, long-fit}
 use Rattle.exactness.proofs.Values.{differ}
 use Rattle.exactness.proofs.Lists.{sound-after, legal-after}
 
@@ -60,8 +62,20 @@ one-text x commands y others some more = (
   image-once version _ _ (omega arith) (legal-formed _ (legal-after x commands) (ltb-true 0 _ some)) (legal-formed _ (legal-after y others) (ltb-true 0 _ more)),
 )
 
+unopened-closed : isOpen (unopened .panel) ≡ false
+unfolding opened
+unopened-closed = refl
+
 pub longest-text : LongestText
-longest-text = (λ x commands. legal-length version _ (legal-after x commands), omega arith)
+longest-text = record {
+  most = λ x commands. legal-length version _ (legal-after x commands);
+  within = omega arith;
+  there = (
+    imageOf version longSheet,
+    ap (λ (a : Answer). isRefusal (a .reply)) (read-written unopened longSheet unopened-closed long-formed long-fit),
+    long-length,
+  );
+}
 
 -- ---- what was taken in, and what was not
 
@@ -164,7 +178,7 @@ unfit-exactly u text = (to (read u text) (reading-exactly u text), back (read u 
     to a (badImage l o k b) e = absurd (differ (λ q. omega arith) e)
     to a (unfit l o k s G x) e = record {
       short-enough = l;
-      unopened = o;
+      closed = o;
       known = k;
       good = good-not-bad text s G;
       unfit = rw (good-candidate text s G) x;
@@ -173,7 +187,7 @@ unfit-exactly u text = (to (read u text) (reading-exactly u text), back (read u 
 
     back : (a : Answer) → Reading u text a → GivesUnfit u text → a .reply ≡ 0xFF ∷ refusalBytes Unfit
     back a (tooLong l) g = absurd (omega (arith, g .short-enough))
-    back a (alreadyOpen l o) g = absurd (omega (arith, g .unopened))
+    back a (alreadyOpen l o) g = absurd (omega (arith, g .closed))
     back a (unknownVersion l o k) g = absurd (clash k (g .known))
     back a (badImage l o k b) g = absurd (b (candidate text) (not-bad text (g .good)))
     back a (unfit l o k s G x) g = refl

@@ -14,6 +14,7 @@ use Rattle.panel.specs.Solution.{setterReads, isBlocked}
 use Rattle.panel.specs.Answers.{refusalBytes, isRefusal}
 use Rattle.panel.specs.Commands.{isOpen}
 use Rattle.sheet.specs.declared.Sheet.{Sheet}
+use Rattle.sheet.specs.Sheets.{unopened}
 use Rattle.sheet.specs.Commands.{Answer}
 use Rattle.sheet.specs.Legal.{LegalSheet}
 use Rattle.optimality.specs.States.{NothingBlocked}
@@ -42,8 +43,11 @@ OneText =
     → (r .state ≡ q .state) ↔ (imageOf version (r .state) ≡ imageOf version (q .state))))
 
 -- a text that is written is never too long to be read
-abbrev pub LongestText : Type 0
-LongestText = AfterEveryRun (λ r. length (imageOf version (r .state)) ≤ longest) × (longest ≤ textLimit)
+pub record LongestText : Type 0 where
+  pub most : AfterEveryRun (λ r. length (imageOf version (r .state)) ≤ longest)
+  pub within : longest ≤ textLimit
+  -- a text taken in is that long
+  pub there : (text : List ℕ) × (isRefusal (read unopened text .reply) ≡ false) × (length text ≡ longest)
 
 -- ---- what reading answers
 
@@ -87,7 +91,7 @@ ReadingExactly = (u : Sheet) (text : List ℕ) → Reading u text (read u text)
 -- Unfit, by the sheet that the text's lines enter
 pub record GivesUnfit (u : Sheet) (text : List ℕ) : Type 0 where
   pub short-enough : length text ≤ textLimit
-  pub unopened : u .panel .size ≡ 0
+  pub closed : u .panel .size ≡ 0
   pub known : isUnknown text ≡ false
   pub good : isBad text ≡ false
   pub unfit : IsUnfit (candidate text .panel)

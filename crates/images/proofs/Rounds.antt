@@ -42,7 +42,7 @@ use Rattle.images.specs.Entries.{standingOf, placed, entered, folded, en
 use Rattle.sheet.specs.Sheets.{unopened, formulaAt}
 use Rattle.frames.specs.Frames.{wordOf, formulaIn}
 use Rattle.images.specs.Forms.{isFormed}
-use Rattle.images.proofs.Lines.{Bytes, Frames, all-gather, frames-written}
+use Rattle.images.proofs.Lines.{Bytes, Frames, all-gather, frames-written, formula-back}
 use Rattle.images.proofs.Folds.{folded-append, folded-gather}
 use Rattle.images.proofs.FieldBytes.{covered-back, outputs-back, field-bytes, field-count}
 use Rattle.images.proofs.Cuts.{cut, cut-none, cut-all, cut-keep, cut-more, cutSetter, setter-none, setter-all, setter-keep, setter-more, places-back}
@@ -150,14 +150,11 @@ module _ (s : Sheet) (F : Facts s) where
           ap (λ (y : List Rule). stage n L place set′ y v)
           (ap (λ (y : Formula). set (cut none rules 128 i) i (record { formula = y })) same ∙ cut-more none rules 128 i l)
 
-      halves : (p : ℕ) → p / 256 * 256 + p % 256 ≡ p
-      halves p = omega arith
-
       go : (r : Formula) → formulaAt (s .formulas) i ≡ r
           → enteredAll (stage n L place set′ (cut none rules 128 i) v) (formulaFrames i r) ≡ stage n L place set′ (cut none rules 128 (suc i)) v
       go None t = ap (λ (y : List Rule). stage n L place set′ y v) (cut-keep none rules 128 i (ap (λ (y : Formula). record { formula = y }) t))
-      go (Ratio p q) t = done _ (Ratio p q) (ap₂ Ratio (halves p) (halves q)) t
-      go (Sum f) t = done _ (Sum f) refl t
+      go (Ratio p q) t = done _ (Ratio p q) (formula-back (Ratio p q)) t
+      go (Sum f) t = done _ (Sum f) (formula-back (Sum f)) t
 
   -- ---- values
 
