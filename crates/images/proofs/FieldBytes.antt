@@ -65,14 +65,14 @@ fields-append q (x ∷ a) b u l =
 
 -- ---- the bytes of two sets
 
-field-byte : (o u : ℕ) → u < 64 → fieldOf (fieldByte o u) ≡ u
+pub field-byte : (o u : ℕ) → u < 64 → fieldOf (fieldByte o u) ≡ u
 field-byte o u l = go (member o u)
   where
     go : (t : Bool) → cond t (u + 128) u % 64 ≡ u
     go true = omega arith
     go false = omega arith
 
-output-byte : (o u : ℕ) → u < 64 → isOutput (fieldByte o u) ≡ member o u
+pub output-byte : (o u : ℕ) → u < 64 → isOutput (fieldByte o u) ≡ member o u
 output-byte o u l = go (member o u)
   where
     go : (t : Bool) → eqb (cond t (u + 128) u / 128 % 2) 1 ≡ t
