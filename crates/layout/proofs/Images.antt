@@ -50,10 +50,11 @@ use Rattle.layout.proofs.Rising.{rising-distinct, gather-cong, listed, 
 
 -- ---- the lines of each number
 
+abbrev pub lineOf : ℕ → Link → LinkLine
+lineOf i l = record { id = i; level = l .level; standing = standingByte (l .standing); fields = fieldBytes (l .covered) (l .outputs) }
+
 abbrev pub linkLine : List Link → ℕ → LinkLine
-linkLine links i =
-    let l = linkAt links i in
-    record { id = i; level = l .level; standing = standingByte (l .standing); fields = fieldBytes (l .covered) (l .outputs) }
+linkLine links i = lineOf i (linkAt links i)
 
 abbrev pub isLine : List Link → ℕ → Bool
 isLine links i = linkAt links i .used

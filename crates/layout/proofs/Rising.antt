@@ -1,6 +1,6 @@
 -- Lists with rising keys, lookups by a key, and what is listed number by number: a list with rising keys is what is listed from its lookups
 -- (`listed-is`), since two lists with rising keys and the same entries are equal (`rising-same`). By induction on the lists. Assumes nothing.
-use Prim.Native.Nat.{ℕ, zero, suc, _<_}
+use Prim.Native.Nat.{ℕ, zero, suc, _≤_, _<_}
 use mathlib.Core.Path.{_≡_, refl, sym, ap, _∙_}
 use mathlib.Core.Bool.{Bool, true, false, cond}
 use mathlib.Core.List.{List, [], _∷_, _++_, map}
@@ -12,6 +12,7 @@ use lib.Dec.{eqb}
 use lib.ListN.{length, getD}
 use Rattle.fieldset.specs.Tables.{at, tabulate}
 use Rattle.fieldset.specs.Lists.{In, All, Distinct, place}
+use Rattle.fieldset.proofs.Numbers.{clash}
 use Rattle.fieldset.proofs.Tables.{getD-tabulate}
 use Rattle.fieldset.proofs.Lists.{all-in, in-all, all-map, all-at, all-append, in-left, in-right, in-map, map-in, place-here, place-later}
 use Rattle.images.specs.Images.{gather}
@@ -199,6 +200,24 @@ module _ {A B : Type 0} (key : A → ℕ) (g : A → B) (d : B) where
       go : Looked xs (key x) (getD (table xs n) (key x) c) → getD (table xs n) (key x) c ≡ g x
       go (inl (y, k, e, b)) = b ∙ ap g (once key xs once-each y x k m e)
       go (inr (a, b)) = absurd (a x m refl)
+
+  -- a list with rising keys is listed from its lookups, where a line of a number and what is looked up there makes the entry anew
+  pub table-back : (test : B → Bool) (line : ℕ → B → A) (xs : List A) (m n : ℕ) (c : B) → m ≤ n → test d ≡ false → ((i : ℕ) (b : B) → key (line i b) ≡ i)
+      → Rising (map key xs) → All (λ x. key x < m) xs → All (λ x. (test (g x) ≡ true) × (line (key x) (g x) ≡ x)) xs
+      → listed (λ i. test (getD (table xs n) i c)) (λ i. line i (getD (table xs n) i c)) m ≡ xs
+  table-back test line xs m n c h off keys rise low same =
+      listed-is (λ i. test (getD (table xs n) i c)) (λ i. line i (getD (table xs n) i c)) key m xs (λ i l. keys i (getD (table xs n) i c)) rise low
+      (λ x k.
+      let e : getD (table xs n) (key x) c ≡ g x =
+          table-in xs n x c (rising-distinct (map key xs) rise) k (omega (arith, all-in (λ x. key x < m) xs x low k))
+      in
+      let is = all-in (λ x. (test (g x) ≡ true) × (line (key x) (g x) ≡ x)) xs x same k in
+      (ap test e ∙ is .0, ap (line (key x)) e ∙ is .1))
+      (λ i l t. has i t (table-is xs n i c (omega arith)))
+    where
+      has : (i : ℕ) → test (getD (table xs n) i c) ≡ true → Looked xs i (getD (table xs n) i c) → Has key xs i
+      has i t (inl (x, k, e, b)) = (x, k, e)
+      has i t (inr (a, b)) = absurd (clash t (ap test b ∙ off))
 
 -- ---- tables and places
 
