@@ -72,7 +72,7 @@ field-byte o u l = go (member o u)
     go true = omega arith
     go false = omega arith
 
-pub output-byte : (o u : ℕ) → u < 64 → isOutput (fieldByte o u) ≡ member o u
+output-byte : (o u : ℕ) → u < 64 → isOutput (fieldByte o u) ≡ member o u
 output-byte o u l = go (member o u)
   where
     go : (t : Bool) → eqb (cond t (u + 128) u / 128 % 2) 1 ≡ t

@@ -1,30 +1,29 @@
 -- The image of a sheet: its text is the sheet's text (`image-text`), and of a formed sheet it is well-formed (`image-formed`). What it lists number by
 -- number has rising numbers, and each line's facts are those of the sheet at that number. Assumes nothing.
-use Prim.Native.Nat.{ℕ, _+_, _/_, _%_, _^_, _≤_, _<_}
-use mathlib.Core.Path.{_≡_, refl, sym, ap, ap₂, subst, _∙_}
-use mathlib.Core.Bool.{Bool, true, false, not, _&&_, _||_, cond}
-use mathlib.Core.List.{List, [], _∷_, _++_, map}
+use Prim.Native.Nat.{ℕ, _+_, _/_, _%_, _≤_, _<_}
+use mathlib.Core.Path.{_≡_, refl, sym, ap, _∙_}
+use mathlib.Core.Bool.{Bool, true, false, not, _&&_, cond}
+use mathlib.Core.List.{List, [], _∷_, map}
 use mathlib.Core.Logic.{_≢_, _⊎_, inl, inr}
 use native.Mathlib.Omega.{arith}
-use borrow.Author.Tests.{lt-ltb, le-ltb, le-leb, lt-leb, eq-eqb, ne-eqb, eqb-true, eqb-false, not-true, not-false}
-use lib.Dec.{eqb, leb, ltb}
+use borrow.Author.Tests.{lt-ltb, le-ltb, le-leb, lt-leb, eq-eqb, ne-eqb, eqb-true, eqb-false, not-true}
+use lib.Dec.{eqb, leb}
 use lib.IntN.{ℤ, pos}
-use lib.ListN.{length, getD, getD-replicate}
-use Rattle.fieldset.specs.Numbers.{lowest}
+use lib.ListN.{length, getD-replicate}
 use Rattle.fieldset.specs.Tables.{at, tabulate}
 use Rattle.fieldset.specs.Lists.{In, All, Distinct, passing}
 use Rattle.fieldset.specs.Fields.{member, size}
 use Rattle.fieldset.proofs.Tests.{and-left, and-both}
 use Rattle.fieldset.proofs.Numbers.{clash, lowest-lt, lowest-true, count-pos}
 use Rattle.fieldset.proofs.Tables.{length-tabulate}
-use Rattle.fieldset.proofs.Lists.{all-in, in-all, all-map, passing-in, passing-map, passing-distinct, distinct-map, Whole, whole-in}
+use Rattle.fieldset.proofs.Lists.{all-in, passing-in, passing-map, passing-distinct, distinct-map, whole-in}
 use Rattle.fieldset.proofs.Fields.{some-member}
 use Rattle.panel.specs.declared.Standing.{Standing}
 use Rattle.panel.specs.declared.Standing.the-variants.{Waiting, Holding}
 use Rattle.panel.specs.declared.Link.{Link}
 use Rattle.panel.specs.Items.{noLink, linkAt}
 use Rattle.panel.specs.Panels.{opened}
-use Rattle.panel.specs.Commands.{fieldOf, isOutput, hasBit6, anyOf, coveredIn, outputsIn, isRising, areFieldBytes, Passes, checkOpen, addChecks}
+use Rattle.panel.specs.Commands.{fieldOf, isOutput, hasBit6, anyOf, coveredIn, outputsIn, isRising, areFieldBytes, Passes, addChecks}
 use Rattle.panel.specs.Legal.{Formed}
 use Rattle.panel.proofs.Checks.{Found, anyOf-found, found-any, member-fields}
 use Rattle.values.specs.Limits.{valueAt, outside}
@@ -36,15 +35,14 @@ use Rattle.formulas.specs.Formulas.{accepted}
 use Rattle.formulas.proofs.Accepting.{sum-accepted}
 use Rattle.sheet.specs.declared.Sheet.{Sheet}
 use Rattle.sheet.specs.Sheets.{formulaAt}
-use Rattle.sheet.specs.Commands.{sumPast, checkFormula}
+use Rattle.sheet.specs.Commands.{sumPast}
 use Rattle.sheet.specs.Legal.{Fits}
-use Rattle.frames.specs.Texts.{written}
 use Rattle.frames.specs.Frames.{formulaBytes}
-use Rattle.images.specs.Images.{gather, fieldAt, stayOrder, fieldByte, fieldBytes, standingByte, linkPiece, formulaFrames, formulaPiece, fourBytes, valuePiece, framesOf, imageOf}
+use Rattle.images.specs.Images.{fieldAt, stayOrder, fieldByte, fieldBytes, standingByte, formulaFrames, formulaPiece, valuePiece, framesOf, imageOf}
 use Rattle.images.specs.Forms.{isNone}
 use Rattle.images.specs.Reading.{version}
 use Rattle.images.proofs.FieldBytes.{field-byte, covered-back, outputs-back, field-bytes, field-count}
-use Rattle.images.proofs.Facts.{Facts, HoldFacts, small-value}
+use Rattle.images.proofs.Facts.{Facts, small-value}
 use Rattle.layout.specs.Layout.{LinkLine, linkBytes, FormulaLine, ruleBytes, ValueLine, valueBytes, Image, textOf, Rising, heldFields, Relates, WellFormed}
 use Rattle.layout.proofs.Rising.{rising-distinct, gather-cong, listed, listed-map, listed-all, listed-in, listed-rising, tabulate-all, tabulate-distinct}
 
@@ -150,9 +148,9 @@ module _ (n i : ℕ) (l : Link) (some : 1 ≤ n) (number : i < 128) (F : Formed 
   some-output =
       let (u, k, m) = an-output in
       let b : Found (λ b. isOutput b && eqb u (fieldOf b)) bytes =
-          anyOf-found (λ b. isOutput b && eqb u (fieldOf b)) bytes
-          (sym (member-fields isOutput bytes u k)
-          ∙ ap (λ (o : ℕ). member o u) (outputs-back (l .covered) (l .outputs) (F .outputs-small) (F .subset)) ∙ m)
+      anyOf-found (λ b. isOutput b && eqb u (fieldOf b)) bytes
+      (sym (member-fields isOutput bytes u k)
+      ∙ ap (λ (o : ℕ). member o u) (outputs-back (l .covered) (l .outputs) (F .outputs-small) (F .subset)) ∙ m)
       in
       found-any (λ b. isOutput b && eqb u (fieldOf b)) isOutput bytes b (and-left (isOutput (b .byte)) (eqb u (fieldOf (b .byte))) (b .passes))
 
@@ -263,7 +261,7 @@ module _ (s : Sheet) (F : Facts s) where
     formulas-fit = listed-all (isRuled (s .formulas)) (ruleLine (s .formulas)) _ 128 (λ i l t. relates i l (formulaAt (s .formulas) i) t (F .fits i l));
     values-rise = listed-rising (isValued (s .values)) (valueLine (s .values)) (λ v. v .field) n (λ i l. refl);
     values-fit = listed-all (isValued (s .values)) (valueLine (s .values)) _ n (λ f l t.
-    (l, not-zero (valueAt (s .values) f) t, not-true (outside (valueAt (s .values) f)) (small-value _ (F .value-fits f (omega (arith, F .few))))));
+        (l, not-zero (valueAt (s .values) f) t, not-true (outside (valueAt (s .values) f)) (small-value _ (F .value-fits f (omega (arith, F .few))))));
   }
     where
       output : (i : ℕ) → i < 128 → linkAt links i .used ≡ true → (st : Standing) → linkAt links i .standing ≡ st
@@ -283,8 +281,7 @@ module _ (s : Sheet) (F : Facts s) where
       relates i l r t (inl e) = absurd (clash (rw e at t) refl)
       relates i l r t (inr (u, a)) =
           let L = F .formed i l u in
-          let back : coveredIn (linkLine links i .fields) ≡ linkAt links i .covered = covered-back (linkAt links i .covered) (linkAt links i .outputs) (L .small) in
-          (
+          let back : coveredIn (linkLine links i .fields) ≡ linkAt links i .covered = covered-back (linkAt links i .covered) (linkAt links i .outputs) (L .small) in (
             linkLine links i,
             listed-in (isLine links) (linkLine links) 128 i l u,
             refl,

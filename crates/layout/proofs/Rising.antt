@@ -209,7 +209,7 @@ module _ {A B : Type 0} (key : A → ℕ) (g : A → B) (d : B) where
       listed-is (λ i. test (getD (table xs n) i c)) (λ i. line i (getD (table xs n) i c)) key m xs (λ i l. keys i (getD (table xs n) i c)) rise low
       (λ x k.
       let e : getD (table xs n) (key x) c ≡ g x =
-          table-in xs n x c (rising-distinct (map key xs) rise) k (omega (arith, all-in (λ x. key x < m) xs x low k))
+      table-in xs n x c (rising-distinct (map key xs) rise) k (omega (arith, all-in (λ x. key x < m) xs x low k))
       in
       let is = all-in (λ x. (test (g x) ≡ true) × (line (key x) (g x) ≡ x)) xs x same k in
       (ap test e ∙ is .0, ap (line (key x)) e ∙ is .1))

@@ -13,22 +13,20 @@ use lib.ListN.{length, getD}
 use lib.Seq.{ext-getD}
 use mir.Syntax.{w32}
 use mir.Val.{SFits}
-use Rattle.fieldset.specs.Numbers.{lowest}
 use Rattle.fieldset.specs.Tables.{at, tabulate}
 use Rattle.fieldset.specs.Lists.{In, All, Distinct, passing, place}
 use Rattle.fieldset.specs.Fields.{member}
 use Rattle.fieldset.proofs.Tests.{and-left, and-right, and-both, or-left, or-right}
 use Rattle.fieldset.proofs.Numbers.{clash, lowest-unique}
 use Rattle.fieldset.proofs.Tables.{length-tabulate, getD-tabulate}
-use Rattle.fieldset.proofs.Lists.{all-in, in-all, all-map, all-at, in-passing, passing-in, passing-map, Whole, whole-in, place-in}
-use Rattle.panel.specs.declared.Standing.{Standing}
+use Rattle.fieldset.proofs.Lists.{all-in, in-all, all-map, all-at, in-passing, passing-in, passing-map, whole-in, place-in}
 use Rattle.panel.specs.declared.Standing.the-variants.{Waiting, Holding}
 use Rattle.panel.specs.declared.Link.{Link}
 use Rattle.panel.specs.Items.{noLink, linkAt}
 use Rattle.panel.specs.Panels.{opened}
 use Rattle.panel.specs.Commands.{fieldOf, isOutput, hasBit6, anyOf, coveredIn, outputsIn, isRising, areFieldBytes, Passes, addChecks}
 use Rattle.panel.specs.Legal.{Formed}
-use Rattle.panel.proofs.Checks.{field-small, member-fields, Addable, addable}
+use Rattle.panel.proofs.Checks.{field-small, member-fields, addable}
 use Rattle.values.specs.Limits.{outside}
 use Rattle.values.specs.Words.{bitsOf}
 use Rattle.formulas.specs.declared.Formula.{Formula}
@@ -44,7 +42,7 @@ use Rattle.images.specs.Forms.{isNone}
 use Rattle.images.proofs.FieldBytes.{field-byte}
 use Rattle.images.proofs.Facts.{Facts, HoldFacts, SetFacts, value-small, zero-value}
 use Rattle.layout.specs.Layout.{LinkLine, FormulaLine, ValueLine, Image, Rising, Relates, WellFormed}
-use Rattle.layout.proofs.Rising.{rising-distinct, once, Has, listed, listed-is, table, Looked, table-is, table-in, table-back, place-of, at-place}
+use Rattle.layout.proofs.Rising.{rising-distinct, once, listed, listed-is, table, Looked, table-is, table-in, table-back, place-of, at-place}
 use Rattle.layout.proofs.Images.{lineOf, linkLine, isLine, ruleLine, isRuled, valueLine, isValued, imageFrom, zero-bits}
 
 -- ---- field bytes that pass Add's checks are those of their sets
@@ -92,7 +90,7 @@ module _ (bytes : List ℕ) (rise : Rising (map fieldOf bytes)) (small : All (λ
           none true t =
               let (c, k, q) = of-any out bytes t in
               let same : c ≡ b =
-                  once fieldOf bytes (rising-distinct (map fieldOf bytes) rise) c b k m (sym (eqb-true (fieldOf b) (fieldOf c) (and-right (isOutput c) _ q)))
+              once fieldOf bytes (rising-distinct (map fieldOf bytes) rise) c b k m (sym (eqb-true (fieldOf b) (fieldOf c) (and-right (isOutput c) _ q)))
               in
               absurd (clash (and-left (isOutput c) _ q) (ap isOutput same ∙ e))
           none false t = refl
