@@ -1,5 +1,5 @@
 -- Saved texts: what is reachable is legal and nothing in it is blocked, so it is formed and not unfit, and its text is taken back (`read-legal`). What
--- reading answers goes by its checks, each of which says what the statement says (`unfit-is`, `bad-exactly`). Assumes nothing.
+-- reading answers goes by its checks, each of which says what the statement says (`unfit-is`, `images-exactly`). Assumes nothing.
 use Prim.Native.Nat.{ℕ, _<_}
 use mathlib.Core.Path.{_≡_, refl, ap, subst}
 use mathlib.Core.Bool.{Bool, true, false, _&&_, _||_, or-true}
@@ -39,7 +39,8 @@ use Rattle.images.specs.Reading.{version, isUnknown, isBad, isSome, isShort, is
 use Rattle.images.proofs.Facts.{Facts, formed-facts}
 use Rattle.images.proofs.Lengths.{legal-length}
 use Rattle.images.proofs.Legality.{legal-formed}
-use Rattle.images.proofs.Reading.{image-once, not-bad, good-candidate, good-not-bad, bad-exactly, read-written, read-legal, took, refused-same}
+use Rattle.images.proofs.Reading.{image-once, not-bad, good-candidate, good-not-bad, read-written, read-legal, took, refused-same}
+use Rattle.layout.proofs.Exactly.{images-exactly}
 use Rattle.exactness.specs.Saved.{TakenBack, WrittenSame, OneText, LongestText, TakenLegal, RefusedReadUnchanged, IsUnfit, loop, blocked, short, Reading, tooLong, alreadyOpen, unknownVersion, badImage, unfit, taken, ReadingExactly, GivesUnfit, UnfitExactly}
 use Rattle.exactness.proofs.Beginnings.{none-blocked}
 use Rattle.exactness.proofs.Longest.{longSheet, long-length, long-formed, long-fit}
@@ -158,7 +159,7 @@ reading-exactly u text = go (isTooLong text) refl (isOpen (u .panel)) refl (isUn
     go true ea b eb c ec d ed e ee = rw ea (tooLong (ltb-true textLimit (length text) ea))
     go false ea true eb c ec d ed e ee = rw (ea, eb) (alreadyOpen (ltb-false textLimit (length text) ea) (ltb-true 0 (u .panel .size) eb))
     go false ea false eb true ec d ed e ee = rw (ea, eb, ec) (unknownVersion (ltb-false textLimit (length text) ea) (closed eb) ec)
-    go false ea false eb false ec true ed e ee = rw (ea, eb, ec, ed) (badImage (ltb-false textLimit (length text) ea) (closed eb) ec (bad-exactly text .0 ed))
+    go false ea false eb false ec true ed e ee = rw (ea, eb, ec, ed) (badImage (ltb-false textLimit (length text) ea) (closed eb) ec (λ x w t. clash ed (images-exactly text .1 (x, w, t))))
     go false ea false eb false ec false ed true ee =
         let G = not-bad text ed in
         rw (ea, eb, ec, ed, ee)
@@ -189,6 +190,6 @@ unfit-exactly u text = (to (read u text) (reading-exactly u text), back (read u 
     back a (tooLong l) g = absurd (omega (arith, g .short-enough))
     back a (alreadyOpen l o) g = absurd (omega (arith, g .closed))
     back a (unknownVersion l o k) g = absurd (clash k (g .known))
-    back a (badImage l o k b) g = absurd (b (candidate text) (not-bad text (g .good)))
+    back a (badImage l o k b) g = let (x, w, t) = images-exactly text .0 (g .good) in absurd (b x w t)
     back a (unfit l o k s G x) g = refl
     back a (taken l o k s G x) g = absurd (x (subst (λ (t : Sheet). IsUnfit (t .panel)) (good-candidate text s G) (g .unfit)))

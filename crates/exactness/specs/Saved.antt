@@ -22,6 +22,7 @@ use Rattle.frames.specs.Texts.{textLimit}
 use Rattle.images.specs.Images.{imageOf}
 use Rattle.images.specs.Entries.{candidate}
 use Rattle.images.specs.Reading.{version, longest, isUnknown, isBad, Good, read}
+use Rattle.layout.specs.Layout.{Image, WellFormed, textOf}
 use Rattle.exactness.specs.Beginnings.{AfterEveryRun}
 
 -- ---- one panel, one text
@@ -73,13 +74,13 @@ refusing u r = record { sheet = u; reply = 0xFF ∷ refusalBytes r }
 
 -- "Reading replies 0000, or FF and the number with nothing changed": "TextTooLong as before comes first; after AlreadyOpen come 19 BadImage .., with 20
 -- UnknownVersion checked just before it .., and 21 Unfit last". No two of these cases can meet, so each answer is given in its case and in no other. A
--- BadImage is a text that no formed sheet has; at most one has a text
+-- BadImage is a text that no well-formed image has (`Layout`, crate `layout`); any other is that of one sheet
 pub data Reading (u : Sheet) (text : List ℕ) : Answer → Type 0 where
   tooLong : textLimit < length text → Reading u text (refusing u TextTooLong)
   alreadyOpen : length text ≤ textLimit → 0 < u .panel .size → Reading u text (refusing u AlreadyOpen)
   unknownVersion : length text ≤ textLimit → u .panel .size ≡ 0 → isUnknown text ≡ true → Reading u text (refusing u UnknownVersion)
-  badImage : length text ≤ textLimit → u .panel .size ≡ 0 → isUnknown text ≡ false → ((s : Sheet) → Good text s → ⊥)
-      → Reading u text (refusing u BadImage)
+  badImage : length text ≤ textLimit → u .panel .size ≡ 0 → isUnknown text ≡ false
+      → ((x : Image) → WellFormed x → textOf x ≡ text → ⊥) → Reading u text (refusing u BadImage)
   unfit : length text ≤ textLimit → u .panel .size ≡ 0 → isUnknown text ≡ false → (s : Sheet) → Good text s → IsUnfit (s .panel)
       → Reading u text (refusing u Unfit)
   taken : length text ≤ textLimit → u .panel .size ≡ 0 → isUnknown text ≡ false → (s : Sheet) → Good text s → (IsUnfit (s .panel) → ⊥)

@@ -2,8 +2,7 @@
 -- taken back, and a text taken in is written out the same" (document 02, request 7). Assumes nothing.
 use Prim.Native.Nat.{ℕ, _≤_, _<_}
 use mathlib.Core.Path.{_≡_, refl, sym, ap, _∙_}
-use mathlib.Core.Logic.{_↔_}
-use mathlib.Core.Bool.{Bool, true, false, _&&_, false≢true}
+use mathlib.Core.Bool.{true, false, _&&_, false≢true}
 use mathlib.Core.List.{List, [], _∷_}
 use mathlib.Core.Option.{none}
 use native.Mathlib.Omega.{arith}
@@ -11,7 +10,6 @@ use lib.Dec.{eqb}
 use lib.ListN.{length, take}
 use borrow.Author.Tests.{le-ltb, eq-eqb, eqb-true, not-false}
 use Rattle.fieldset.proofs.Tests.{and-left, and-right, and-both}
-use Rattle.fieldset.proofs.Numbers.{clash}
 use Rattle.panel.specs.Answers.{isRefusal}
 use Rattle.panel.specs.Commands.{isOpen, Check, checkReply, Passes}
 use Rattle.panel.specs.Solution.{leastBlocked}
@@ -69,13 +67,6 @@ good-candidate text s G = ap candidate (sym (G .is-text)) ∙ candidate-image ve
 pub good-not-bad : (text : List ℕ) (s : Sheet) → Good text s → isBad text ≡ false
 unfolding isBad
 good-not-bad text s G = rw (good-candidate text s G, G .is-text, G .formed, same-self text)
-
-pub bad-exactly : (text : List ℕ) → (isBad text ≡ true) ↔ ((s : Sheet) → Good text s → ⊥)
-bad-exactly text = ((λ e s G. clash e (good-not-bad text s G)), (λ no-sheet. go no-sheet (isBad text) refl))
-  where
-    go : ((s : Sheet) → Good text s → ⊥) → (b : Bool) → isBad text ≡ b → b ≡ true
-    go h true e = refl
-    go h false e = absurd (h (candidate text) (not-bad text e))
 
 -- a saved text's version is known
 pub image-known : (s : Sheet) → isUnknown (imageOf version s) ≡ false

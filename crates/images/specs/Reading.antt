@@ -52,8 +52,8 @@ pub record Good (text : List ℕ) (s : Sheet) : Type 0 where
   pub formed : isFormed s ≡ true
   pub is-text : imageOf version s ≡ text
 
--- BadImage: the sheet that the text's lines enter is not formed, or its text is another one: then no formed sheet has this text
--- (`proofs/Reading.antt`, `bad-exactly`)
+-- BadImage: the sheet that the text's lines enter is not formed, or its text is another one. Which texts that are, the request's words say in crate
+-- `layout` (`ImagesExactly`)
 unfoldable pub isBad : List ℕ → Bool
 isBad text = not (isFormed (candidate text) && same (imageOf version (candidate text)) text)
 

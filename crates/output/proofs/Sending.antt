@@ -17,10 +17,11 @@ use Rattle.hex.proofs.Stores.{start-fits, start-is}
 use Rattle.lines.specs.Lines.{linesOf}
 use Rattle.lines.proofs.Lines.{lines-end}
 use Rattle.tally.specs.declared.Tally.{Tally}
-use Rattle.tally.specs.Tallies.{noTally, threeBytes, tallyBytes}
+use Rattle.tally.specs.Tallies.{noTally, tallyBytes}
 use Rattle.frames.specs.Texts.{LineAnswer, replies, tallyAfter, written, output, textLimit, isTooLong, outputOf}
 use Rattle.replies.specs.Replies.{longest}
 use Rattle.answering.specs.Runs.{Reached, Ran, Resumed}
+use Rattle.text.proofs.Whole.{tally-length}
 use Rattle.output.specs.Parts.{PartOf}
 
 -- the length of io's large buffer
@@ -110,8 +111,7 @@ module _ {S : Type 0} (answer : LineAnswer S) (Legal : S → Type 0) (s₀ : S) 
 
     -- the tally ends it
     pub tally-short : length (lineOf (tallyBytes t)) ≤ bufferLength
-    unfolding tallyBytes threeBytes
-    tally-short = omega (arith, length-line (tallyBytes t))
+    tally-short = omega (arith, tally-length t)
 
     module _ (end : length text ≤ next) where
       pub tally-last : drop sent (outputOf answer s₀ text) ≡ lineOf (tallyBytes t)

@@ -10,6 +10,7 @@ use native.Mathlib.Omega.{arith}
 use lib.ListN.{length, getD, take, drop, length-append, length-drop}
 use lib.Seq.{sets, take-all}
 use Rattle.hex.specs.Hex.{lineOf}
+use Rattle.hex.proofs.Bytes.{length-line}
 use Rattle.fieldset.proofs.Tables.{sets-append}
 use Rattle.tally.specs.declared.Tally.{Tally}
 use Rattle.tally.specs.Tallies.{threeBytes, tallyBytes}
@@ -19,12 +20,16 @@ use Rattle.frames.specs.Texts.{LineAnswer, stateAfter, replies, tallyAfter, wri
 use Rattle.replies.specs.Replies.{longest}
 use Rattle.answering.specs.Runs.{Reached, Ran, Paced}
 use Rattle.text.specs.declared.Outcome.the-variants.{Length, TextTooLong}
-use Rattle.text.specs.Outcomes.{wholeOutput, outcomeOf, bufferAfter, tallyAtEnd, Told}
+use Rattle.text.specs.Outcomes.{tallyLength, wholeOutput, outcomeOf, bufferAfter, tallyAtEnd, Told}
 
 -- the tally's bytes in the parts that are written
 pub tally-parts : (b : List ℕ) (t : Tally) → b ≡ tallyBytes t → getD b 0 0 ∷ getD b 1 0 ∷ take (length b - 2) (drop 2 b) ≡ tallyBytes t
 unfolding tallyBytes threeBytes
 tally-parts b t e = ap (λ (x : List ℕ). getD x 0 0 ∷ getD x 1 0 ∷ take (length x - 2) (drop 2 x)) e
+
+pub tally-length : (t : Tally) → length (lineOf (tallyBytes t)) ≡ tallyLength
+unfolding tallyBytes threeBytes
+tally-length t = length-line (tallyBytes t)
 
 module _ {S : Type 0} (answer : LineAnswer S) {scan : ℕ → S → List ℕ → ℕ} (Legal : S → Type 0) where
   -- with room for all of the lines none is left

@@ -1,5 +1,5 @@
 -- What a whole text is answered, whatever answers its lines; and the fields of the panel after it.
-use Prim.Native.Nat.{ℕ}
+use Prim.Native.Nat.{ℕ, _^_, _<_}
 use mathlib.Core.Path.{_≡_}
 use mathlib.Core.Bool.{cond}
 use mathlib.Core.List.{List, [], _∷_}
@@ -25,6 +25,11 @@ tallyLength = 23
 abbrev pub outcomeNumbers : Outcome → List ℕ
 outcomeNumbers (Length n) = 0x00 ∷ n ∷ []
 outcomeNumbers TextTooLong = 0xFF ∷ refusalBytes TooLong
+
+-- a length that is told is far from the greatest number
+abbrev pub Bounded : Outcome → Type 0
+Bounded (Length n) = n < 2 ^ 63
+Bounded TextTooLong = Unit {0}
 
 -- from a state and a tally on
 module _ {S : Type 0} (answer : LineAnswer S) (s : S) (t : Tally) where

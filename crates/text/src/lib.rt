@@ -23,7 +23,7 @@ ghost use Rattle.sheet.specs.Legal.{LegalSheet};
 ghost use Rattle.lines.specs.Lines.{linesOf};
 ghost use Rattle.frames.specs.Texts.{isTooLong};
 ghost use Rattle.frames.specs.Frames.{lineAnswer, sheetAfter};
-ghost use Rattle.text.specs.Outcomes.{tallyLength, Told, fieldsAfter, valuesAfter};
+ghost use Rattle.text.specs.Outcomes.{tallyLength, Bounded, Told, fieldsAfter, valuesAfter};
 
 // Room for a longest reply to each line of a text.
 const ROOM: usize = LONGEST * TEXT_LIMIT;
@@ -65,6 +65,7 @@ pub struct Ending {
 pub fn run_from(text: &[u8], s: Sheet, out: &mut [u8], t: Tally) -> Ending
     requires { ⌜ LegalSheet s ⌝ }
     ensures { λ r. ⌜ Told lineAnswer s t (now (text .entry)) (r .tally) (now (out .entry)) (now (out .exit)) (r .outcome) ⌝ }
+    ensures { λ r. ⌜ Bounded (r .outcome) ⌝ }
 {
     if is_too_long(text) {
         let outcome = Outcome::TextTooLong;

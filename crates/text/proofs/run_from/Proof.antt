@@ -11,7 +11,7 @@ use Rattle.frames.specs.Texts.{textLimit, isTooLong}
 use Rattle.frames.specs.Frames.{lineAnswer}
 use Rattle.lines.proofs.Lines.{lines-few}
 use Rattle.replies.specs.Replies.{longest}
-use Rattle.text.proofs.Whole.{too-long, whole-text}
+use Rattle.text.proofs.Whole.{tally-length, too-long, whole-text}
 use Rattle.text.proofs.run_from.Statement.{statement}
 use Rattle.text.proofs.run_from.Tie as tie
 
@@ -28,7 +28,7 @@ answered c = c .before .before .before .before .before
 returns : tie.Need-returns
 returns c =
     let s = start (c .before) .args in
-    too-long lineAnswer (s .text .now) (s .out .now) (s .s) (s .t) (sym (c .before .is-too-long .ensures) ∙ c .if1 .taken)
+    (too-long lineAnswer (s .text .now) (s .out .now) (s .s) (s .t) (sym (c .before .is-too-long .ensures) ∙ c .if1 .taken), tt)
 
 answer-lines-requires : tie.Need-answer-lines-requires
 answer-lines-requires c κs = (start (c .before .before) .pre, omega arith)
@@ -41,8 +41,9 @@ returns-2 c =
     let s = start (e .before) .args in
     let short : isTooLong (s .text .now) ≡ false = sym (e .before .is-too-long .ensures) ∙ e .if1 .left in
     let t = p .put-tally .ensures in
-    whole-text _ _ (s .text .now) (s .out .now) _ _ (s .t) _ _ _ (s .s) _ (longest * textLimit) refl (a .answer-lines .ensures .0)
-    (a .answer-lines .ensures .1) (omega (arith, lines-few (s .text .now), ltb-false textLimit (length (s .text .now)) short)) (t .0) (t .1) short
+    (whole-text _ _ (s .text .now) (s .out .now) _ _ (s .t) _ _ _ (s .s) _ (longest * textLimit) refl (a .answer-lines .ensures .0)
+    (a .answer-lines .ensures .1) (omega (arith, lines-few (s .text .now), ltb-false textLimit (length (s .text .now)) short)) (t .0) (t .1) short,
+    omega (arith, t .1, tally-length (a .answer-lines .result .tally), a .answer-lines .ensures .1 .fits))
 
 pub run-from-spec : {M : Type 1} → statement M
 run-from-spec =

@@ -13,7 +13,7 @@ returns c =
     let u = r .before .before in
     let s = u .before .before .before .args in
     subst (λ (x : Sheet). Told lineAnswer x (s .t) (s .text .now) (r .run-from .result .tally) (s .out .now) (r .run-from .last .1 .1 .0) (r .run-from .result .outcome))
-    (u .unopened .ensures .0) (r .run-from .ensures)
+    (u .unopened .ensures .0) (r .run-from .ensures .0)
 
 pub run-tallied-spec : {M : Type 1} → statement M
 run-tallied-spec = tie.close (tie.spec (λ c κs. search needs) (λ c κs. search needs) (λ c. search needs) returns)
