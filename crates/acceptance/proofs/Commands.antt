@@ -10,7 +10,8 @@ use Rattle.sheet.specs.Sheets.{unopened}
 use Rattle.sheet.specs.Commands.{Command}
 use Rattle.optimality.specs.Condition3.{Store, empty, stepped, after}
 use Rattle.exactness.specs.Values.{Exact, EnteredExactly}
-use Rattle.exactness.specs.Lists.{sheets}
+use Rattle.exactness.specs.Systems.{sheets}
+use Rattle.exactness.specs.Beginnings.{fromUnopened}
 use Rattle.exactness.proofs.Values.{refused-sheet-unchanged}
 use Rattle.exactness.proofs.Lists.{condition-3, values-right}
 use Rattle.lines.specs.Lines.{linesOf}
@@ -31,8 +32,8 @@ lines-as-commands p b (l ∷ ls) = go (commandOf (frameOf l)) (λ q d. lines-as-
 
 pub after-every-text : AfterEveryText
 after-every-text text = record {
-  optimal = condition-3 (commandsOf (linesOf text));
-  exact = values-right (commandsOf (linesOf text));
+  optimal = condition-3 fromUnopened (commandsOf (linesOf text));
+  exact = values-right fromUnopened (commandsOf (linesOf text));
   sheet = sym (lines-as-commands unopened empty (linesOf text));
 }
 
@@ -41,7 +42,7 @@ pub last-line-exact : LastLineExact
 unfolding lineAnswer
 last-line-exact text lines line f v e c ok =
     subst (λ (s : Sheet). Exact (sheetAfter unopened lines) s f v) (sym (ap (sheetAfter unopened) e ∙ state-more lineAnswer lines line unopened ∙ rw c refl))
-    (subst EnteredExactly (sym (lines-as-commands unopened empty lines)) (values-right (commandsOf lines)) f v (rw c at ok))
+    (subst EnteredExactly (sym (lines-as-commands unopened empty lines)) (values-right fromUnopened (commandsOf lines)) f v (rw c at ok))
 
 pub refused-line-unchanged : RefusedLineUnchanged
 unfolding lineAnswer

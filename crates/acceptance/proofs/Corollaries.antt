@@ -18,7 +18,7 @@ use Rattle.sheet.specs.declared.Sheet.{Sheet}
 use Rattle.sheet.specs.Sheets.{unopened}
 use Rattle.sheet.specs.Commands.{solving, performed}
 use Rattle.exactness.specs.Values.{EnteredExactly}
-use Rattle.exactness.specs.Lists.{sheets, start}
+use Rattle.exactness.specs.Systems.{sheets, start}
 use Rattle.hex.specs.Hex.{charOf, bytesOf, hexOf}
 use Rattle.hex.proofs.Bytes.{bytes-hex}
 use Rattle.lines.specs.Lines.{linesOf}

@@ -12,7 +12,7 @@ use Rattle.sheet.specs.Sheets.{unopened}
 use Rattle.sheet.specs.Commands.{Command, entering}
 use Rattle.optimality.specs.Condition3.{Store, Optimal, Run, after}
 use Rattle.exactness.specs.Values.{Exact, EnteredExactly}
-use Rattle.exactness.specs.Lists.{sheets, start}
+use Rattle.exactness.specs.Systems.{sheets, start}
 use Rattle.hex.specs.Hex.{hexOf}
 use Rattle.lines.specs.Lines.{linesOf}
 use Rattle.tally.specs.Tallies.{noTally, tallyBytes}

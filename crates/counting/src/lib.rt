@@ -1,10 +1,10 @@
 // The counts of the scans that a run over a text makes, for tests in C or Rust to call: a library of its own, so that the panel's does not export them. A
 // text and a buffer are a pointer and a length each.
 use answering::lines_from;
+use frames::is_too_long;
 use replies::LONGEST;
 use sheet::unopened;
 use tally::Tally;
-use text::is_too_long;
 use writing::store;
 ghost use mathlib.Core.Path.{_≡_};
 ghost use lib.ListN.{length};

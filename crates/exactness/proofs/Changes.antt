@@ -148,4 +148,4 @@ module _ (s : Sheet) (h : LegalSheet s) (id level : ℕ) (bytes : List ℕ) wher
       }
 
 pub changes-exactly : ChangesExactly
-changes-exactly commands id level bytes = exactly _ (legal-after commands) id level bytes
+changes-exactly x commands id level bytes = exactly _ (legal-after x commands) id level bytes

@@ -1,11 +1,11 @@
--- Lists of commands on sheets: kind 07 is a touch or leaves the sheet, kind 08 leaves the panel, so that a sound panel and store stay sound
+-- Lists of commands on sheets: every beginning is sound and legal (`Beginnings`); kind 07 is a touch or leaves the sheet, kind 08 leaves the panel, so that a sound panel and store stay sound
 -- (`sheet-sound`); a legal sheet stays legal. Assumes nothing.
 use mathlib.Core.Path.{_≡_, refl, sym, ap, subst, _∙_}
 use mathlib.Core.Bool.{Bool, true, false, cond}
 use mathlib.Core.List.{List, [], _∷_}
 use mathlib.Core.Logic.{_⊎_, inl, inr}
 use mathlib.Core.Option.{some}
-use Prim.Native.Nat.{ℕ, _<_, zero-le}
+use Prim.Native.Nat.{ℕ, _<_}
 use native.Mathlib.Decide.{ℕ-discrete}
 use borrow.Author.Tests.{ltb-false, eq-eqb, ne-eqb}
 use lib.Dec.{eqb}
@@ -20,14 +20,12 @@ use Rattle.panel.specs.declared.Refusal.the-variants.{Conflict}
 use Rattle.panel.specs.declared.Standing.the-variants.{Holding}
 use Rattle.panel.specs.Items.{link, stay, linkAt, isInForce}
 use Rattle.panel.specs.Answers.{refusalBytes, isRefusal}
-use Rattle.panel.specs.Panels.{opened}
 use Rattle.panel.specs.Solution.{planOf}
 use Rattle.panel.specs.Legal.{Legal}
 use Rattle.panel.specs.Commands as panel
 use Rattle.panel.specs.Commands.{opening, adding, removing, touching, planning, changing, coveredIn, Check, checkReply}
 use Rattle.panel.proofs.Reversed.{setter-number, setter-own}
 use Rattle.panel.proofs.InForce.{used-force}
-use Rattle.panel.proofs.Changes.{legal-opened}
 use Rattle.panel.proofs.Checks.{removable, changeable, change-removes}
 use Rattle.panel.proofs.Performed.{removed-number, changed-passes, opened-unopened}
 use Rattle.formulas.specs.declared.Formula.{Formula}
@@ -47,20 +45,23 @@ use Rattle.optimality.proofs.States.{sound-settled, optimal-best}
 use Rattle.optimality.proofs.Conflict.{sound-conflict-exactly, sound-change-conflict-exactly}
 use Rattle.optimality.proofs.Removing.{looks-alike}
 use Rattle.optimality.proofs.Loops.{command-exactly}
-use Rattle.optimality.proofs.Runs.{performed-sound, kept-after, every-system, after-sound}
+use Rattle.optimality.proofs.Runs.{performed-sound, kept-after, every-system}
 use Rattle.sheet.specs.declared.Sheet.{Sheet}
 use Rattle.sheet.specs.Sheets.{formulaAt, withFormula}
 use Rattle.sheet.specs.Commands.{Command, solving, entering, relating, Answer, formulasAfter, formulaChecks, related, performed}
 use Rattle.sheet.specs.Legal.{LegalSheet}
 use Rattle.sheet.proofs.Answers.{entering-reply}
-use Rattle.sheet.proofs.Legal.{reply-passes, Left, Stored, entering-cases, entered-formulas, legal-sheet, blank-none, legal-blank}
-use Rattle.exactness.specs.Lists.{entered, sheets, start, Condition3, EveryState, EitherReading, ConflictAndLoop, EnteringNeverConflict, FormulasFit, ValuesWithin, ValuesRight, OutOfRangeWhereNone, coveredOf, giving, gives, givenAfter, FormulasGiven, HeldRight, ZeroAtOpening, OthersKeepValues}
+use Rattle.sheet.proofs.Legal.{reply-passes, Left, Stored, entering-cases, entered-formulas, legal-sheet}
+use Rattle.exactness.specs.Systems.{entered, sheets, coveredOf, giving, gives, givenAfter}
+use Rattle.exactness.specs.Beginnings.{startOf, givenOf, AfterEveryRun}
+use Rattle.exactness.specs.Lists.{Condition3, EveryState, EitherReading, ConflictAndLoop, EnteringNeverConflict, FormulasFit, ValuesWithin, ValuesRight, OutOfRangeWhereNone, FormulasGiven, HeldRight, ZeroAtOpening, OthersKeepValues}
+use Rattle.exactness.proofs.Beginnings.{begun-sound, begun-legal, begun-given}
 use Rattle.exactness.proofs.Values.{entered-exactly}
 use Rattle.exactness.proofs.Solutions.{out-of-range-exactly, values-only}
 
 -- ---- the store
 
-abbrev SoundRun : Run sheets → Type 0
+abbrev pub SoundRun : Run sheets → Type 0
 SoundRun r = Sound (r .store) (r .state .panel)
 
 -- after an answer: the store as it was, or with the command entered
@@ -84,24 +85,20 @@ sound-kept : (r : Run sheets) (c : Command) → SoundRun r → SoundRun (stepped
 unfolding stepped
 sound-kept r c x = sheet-sound (r .store) (r .state) c x
 
-start-sound : SoundRun start
-unfolding store.after
-start-sound = after-sound []
-
 pub condition-3 : Condition3
-condition-3 = every-system sheets SoundRun sound-kept (λ r x. sound-optimal x) start start-sound
+condition-3 x = every-system sheets SoundRun sound-kept (λ r h. sound-optimal h) (startOf x) (begun-sound x)
 
-sound-after : store.AfterEveryList sheets start SoundRun
-sound-after = kept-after sheets SoundRun sound-kept start start-sound
+pub sound-after : AfterEveryRun SoundRun
+sound-after x = kept-after sheets SoundRun sound-kept (startOf x) (begun-sound x)
 
 pub every-state : EveryState
-every-state commands = let x = sound-after commands in (sound-settled x, x .unblocked, optimal-best (condition-3 commands))
+every-state x commands = let h = sound-after x commands in (sound-settled h, h .unblocked, optimal-best (condition-3 x commands))
 
 pub either-reading : EitherReading
-either-reading commands = looks-alike (sound-after commands)
+either-reading x commands = looks-alike (sound-after x commands)
 
 pub conflict-and-loop : ConflictAndLoop
-conflict-and-loop commands = let x = sound-after commands in (sound-conflict-exactly x, sound-change-conflict-exactly x, command-exactly _ (x .legal))
+conflict-and-loop x commands = let h = sound-after x commands in (sound-conflict-exactly h, sound-change-conflict-exactly h, command-exactly _ (h .legal))
 
 pub entering-never-conflict : EnteringNeverConflict
 entering-never-conflict s f v =
@@ -119,20 +116,20 @@ legal-kept : (r : Run sheets) (c : Command) → LegalRun r → LegalRun (stepped
 unfolding stepped
 legal-kept r c h = legal-sheet (r .state) h c
 
-pub legal-after : store.AfterEveryList sheets start LegalRun
-legal-after = kept-after sheets LegalRun legal-kept start (legal-blank (opened 0) (legal-opened 0 zero-le))
+pub legal-after : AfterEveryRun LegalRun
+legal-after x = kept-after sheets LegalRun legal-kept (startOf x) (begun-legal x)
 
 pub formulas-fit : FormulasFit
-formulas-fit commands = legal-after commands .fits
+formulas-fit x commands = legal-after x commands .fits
 
 pub values-within : ValuesWithin
-values-within commands = legal-after commands .within
+values-within x commands = legal-after x commands .within
 
 pub values-right : ValuesRight
-values-right commands = entered-exactly _ (legal-after commands)
+values-right x commands = entered-exactly _ (legal-after x commands)
 
 pub out-of-range-where-none : OutOfRangeWhereNone
-out-of-range-where-none commands = let h = legal-after commands in (out-of-range-exactly _ h, values-only _ h)
+out-of-range-where-none x commands = let h = legal-after x commands in (out-of-range-exactly _ h, values-only _ h)
 
 -- ---- formulas, as the commands gave them
 
@@ -202,8 +199,7 @@ given-after (c ∷ cs) r h x given same k =
     (given-step (r .state) h given same (r .store) (x .agrees) c) k
 
 pub formulas-given : FormulasGiven
-formulas-given commands =
-    given-after commands start (legal-blank (opened 0) (legal-opened 0 zero-le)) start-sound (λ i. None) (λ k. blank-none (opened 0) k)
+formulas-given x commands = given-after commands (startOf x) (begun-legal x) (begun-sound x) (givenOf x) (begun-given x)
 
 -- ---- what Plan answers
 
@@ -232,15 +228,15 @@ entry-covered {b} {p} a i e q =
     ap (λ (x : Entry). x .covered) same
 
 pub held-right : HeldRight
-held-right commands f v ok =
-    let r = store.after sheets start commands in
+held-right b commands f v ok =
+    let r = store.after sheets (startOf b) commands in
     let a = performed (r .state) (entering f v) in
-    let h = legal-after commands in
+    let h = legal-after b commands in
     let k = legal-sheet (r .state) h (entering f v) .panel in
     let x = entered-exactly (r .state) h f v ok in
-    let given : (i : ℕ) → formulaAt (a .sheet .formulas) i ≡ givenAfter start (λ n. None) commands i =
-    λ i. ap (λ (y : Formulas). formulaAt y i) (entered-formulas (r .state) f v) ∙ formulas-given commands i in
-    let agrees : Agrees (store.entered (r .store) (touching f)) (a .sheet .panel) = rw ok at (sheet-sound (r .store) (r .state) (entering f v) (sound-after commands)) .agrees in
+    let given : (i : ℕ) → formulaAt (a .sheet .formulas) i ≡ givenAfter (startOf b) (givenOf b) commands i =
+    λ i. ap (λ (y : Formulas). formulaAt y i) (entered-formulas (r .state) f v) ∙ formulas-given b commands i in
+    let agrees : Agrees (store.entered (r .store) (touching f)) (a .sheet .panel) = rw ok at (sheet-sound (r .store) (r .state) (entering f v) (sound-after b commands)) .agrees in
     record {
       stored = x .stored;
       right = λ i g e m entry.
@@ -253,9 +249,9 @@ held-right commands f v ok =
 -- ---- values
 
 pub zero-at-opening : ZeroAtOpening
-zero-at-opening commands n f e =
-    let s = store.after sheets start commands .state in
-    legal-after commands .past f (omega (arith, opened-unopened (s .panel) n e))
+zero-at-opening x commands n f e =
+    let s = store.after sheets (startOf x) commands .state in
+    legal-after x commands .past f (omega (arith, opened-unopened (s .panel) n e))
 
 pub others-keep-values : OthersKeepValues
 others-keep-values s = (λ c. refl, λ id formula. refl)

@@ -138,4 +138,4 @@ module _ (s : Sheet) (h : LegalSheet s) where
       refuses x = absurd (clash refl x)
 
 pub redraws-exactly : RedrawsExactly
-redraws-exactly commands c = exactly _ (legal-after commands) c
+redraws-exactly x commands c = exactly _ (legal-after x commands) c

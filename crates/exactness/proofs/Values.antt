@@ -114,7 +114,7 @@ entered-as-touched s f v ok = go (entering-cases s f v)
 -- ---- when kinds 07 and 08 are refused, and when they are accepted
 
 -- replies with another second byte
-differ : {a b : List ℕ} → (at a 1 ≡ at b 1 → ⊥) → a ≡ b → ⊥
+pub differ : {a b : List ℕ} → (at a 1 ≡ at b 1 → ⊥) → a ≡ b → ⊥
 differ h e = h (ap (λ (x : List ℕ). at x 1) e)
 
 -- a touch gives neither of kind 07's own refusals

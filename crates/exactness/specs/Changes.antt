@@ -13,8 +13,7 @@ use Rattle.formulas.specs.declared.Formula.the-variants.{None}
 use Rattle.sheet.specs.declared.Sheet.{Sheet}
 use Rattle.sheet.specs.Sheets.{formulaAt}
 use Rattle.sheet.specs.Commands.{Answer, solving, performed}
-use Rattle.optimality.specs.Condition3.{AfterEveryList}
-use Rattle.exactness.specs.Lists.{sheets, start}
+use Rattle.exactness.specs.Beginnings.{AfterEveryRun}
 
 module _ (s : Sheet) (id level : ℕ) (bytes : List ℕ) where
   -- the removal of the link, and its adding to what the removal leaves
@@ -58,6 +57,6 @@ module _ (s : Sheet) (id level : ℕ) (bytes : List ℕ) where
         → formulaAt (change .sheet .formulas) id ≡ None
     pub others : (k : ℕ) → k ≢ id → formulaAt (change .sheet .formulas) k ≡ formulaAt (s .formulas) k
 
--- of every sheet that commands lead to, and every change
+-- of every sheet that a run leads to, and every change
 abbrev pub ChangesExactly : Type 0
-ChangesExactly = AfterEveryList sheets start (λ r. (id level : ℕ) (bytes : List ℕ) → ChangeExactly (r .state) id level bytes)
+ChangesExactly = AfterEveryRun (λ r. (id level : ℕ) (bytes : List ℕ) → ChangeExactly (r .state) id level bytes)

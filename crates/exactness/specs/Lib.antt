@@ -1,4 +1,7 @@
 pub mod Values
+pub mod Systems
+pub mod Beginnings
 pub mod Lists
 pub mod Changes
 pub mod Redraws
+pub mod Saved

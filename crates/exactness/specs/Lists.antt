@@ -1,72 +1,53 @@
--- What holds after every list of commands, kinds 06 to 08 among them (document 02, requests 2 and 5): statements.
+-- What holds after every list of commands, kinds 06 to 08 among them (document 02, requests 2 and 5), from an unopened panel and from a saved text that
+-- was taken in (request 7): statements.
 use Prim.Native.Nat.{ℕ}
 use mathlib.Core.Path.{_≡_}
-use mathlib.Core.Bool.{false, cond}
-use mathlib.Core.List.{List, [], _∷_}
+use mathlib.Core.Bool.{false}
+use mathlib.Core.List.{List, _∷_}
 use mathlib.Core.Logic.{_≢_}
-use mathlib.Core.Option.{Option, none, some}
-use lib.Dec.{eqb}
+use mathlib.Core.Option.{some}
 use lib.IntN.{ℤ, pos}
 use Rattle.panel.specs.declared.Refusal.the-variants.{Conflict}
 use Rattle.fieldset.specs.Lists.{In}
 use Rattle.panel.specs.Items.{link, stay, linkAt}
 use Rattle.panel.specs.Answers.{refusalBytes, isRefusal}
 use Rattle.panel.specs.Commands as panel
-use Rattle.panel.specs.Commands.{opening, adding, removing, touching, planning, changing, coveredIn}
+use Rattle.panel.specs.Commands.{opening}
 use Rattle.values.specs.Limits.{valueAt, outside}
 use Rattle.formulas.specs.declared.Formula.{Formula}
 use Rattle.formulas.specs.declared.Formula.the-variants.{None}
 use Rattle.formulas.specs.Formulas.{Right}
 use Rattle.sheet.specs.declared.Sheet.{Sheet}
-use Rattle.sheet.specs.Sheets.{unopened, formulaAt}
-use Rattle.sheet.specs.Commands.{Command, solving, entering, relating, performed}
+use Rattle.sheet.specs.Sheets.{formulaAt}
+use Rattle.sheet.specs.Commands.{solving, entering, relating, performed}
 use Rattle.sheet.specs.Legal.{Fits}
-use Rattle.optimality.specs.Condition3 as store
-use Rattle.optimality.specs.Condition3.{Entry, Store, empty, held, Optimal, System, Run, stepped, after, AfterEveryList}
+use Rattle.optimality.specs.Condition3.{Entry, Store, held, Optimal}
 use Rattle.optimality.specs.States.{Settled, NothingBlocked, LooksAlike, NothingBetter}
 use Rattle.optimality.specs.Refusals.{ConflictExactly, ChangeConflictExactly, LoopExactly}
 use Rattle.exactness.specs.Values.{EnteredExactly, OutOfRangeExactly, ValuesOnly}
+use Rattle.exactness.specs.Systems.{sheets}
+use Rattle.exactness.specs.Beginnings.{AfterEveryRun, AfterEveryGiven}
 
--- what a command that is not refused changes in the store: kind 07 "touches f", kind 08 enters and strikes out nothing
-abbrev pub entered : Store → Command → Store
-entered b (solving c) = store.entered b c
-entered b (entering f v) = store.entered b (touching f)
-entered b (relating id formula) = b
-
-abbrev pub sheets : System
-sheets =
-    record {
-      State = Sheet;
-      Command = Command;
-      step = λ s c. performed s c .sheet;
-      reply = λ s c. performed s c .reply;
-      plan = λ s. performed s (solving planning) .reply;
-      entered = entered;
-    }
-
-abbrev pub start : Run sheets
-start = record { state = unopened; store = empty }
-
--- condition 3 of the tender, over lists with kinds 06 to 08
+-- condition 3 of the tender, over lists with kinds 06 to 08; "the rule that nobody can hold more now also speaks of runs from such a text" (request 7)
 abbrev pub Condition3 : Type 0
-Condition3 = AfterEveryList sheets start (λ r. Optimal (r .store) (sheets .plan (r .state)))
+Condition3 = AfterEveryRun (λ r. Optimal (r .store) (sheets .plan (r .state)))
 
 -- ---- document 01's sentences about every state, over these lists
 
 -- "each field has exactly one setter ..; every required link in force holds", nothing is blocked, and nothing is better
 abbrev pub EveryState : Type 0
 EveryState =
-    AfterEveryList sheets start (λ r.
+    AfterEveryRun (λ r.
     Settled (r .store) (sheets .plan (r .state)) × NothingBlocked (r .state .panel) × NothingBetter (r .store) (sheets .plan (r .state)))
 
 -- a removal answers the same whether one looks at what is blocked after every drop or only after that of a link that sets a field
 abbrev pub EitherReading : Type 0
-EitherReading = AfterEveryList sheets start (λ r. LooksAlike (r .state .panel))
+EitherReading = AfterEveryRun (λ r. LooksAlike (r .state .panel))
 
 -- Conflict and Loop are given exactly when document 01 says so, of a change Conflict where its removal is accepted
 abbrev pub ConflictAndLoop : Type 0
 ConflictAndLoop =
-    AfterEveryList sheets start
+    AfterEveryRun
     (λ r. ConflictExactly (r .store) (r .state .panel) × ChangeConflictExactly (r .store) (r .state .panel) × LoopExactly (r .state .panel))
 
 -- a value that is entered never meets Conflict, since "Touch and Remove never give Conflict"
@@ -75,42 +56,14 @@ EnteringNeverConflict = (s : Sheet) (f : ℕ) (v : ℤ) → performed s (enterin
 
 -- ---- formulas and values
 
--- the fields that a link of the store covers
-abbrev pub coveredOf : Option Entry → ℕ
-coveredOf none = 0
-coveredOf (some e) = e .covered
-
--- another formula at a number
-abbrev pub giving : (ℕ → Formula) → ℕ → Formula → ℕ → Formula
-giving given id formula = λ k. cond (eqb k id) formula (given k)
-
--- the formula of each number, as the commands that were not refused gave it: "A new formula replaces the old, and removal drops it"; of a change, "its
--- formula kept if the covered fields are the same, else dropped" (document 02, request 5)
-abbrev pub gives : Store → (ℕ → Formula) → Command → ℕ → Formula
-gives b given (solving (opening n)) = given
-gives b given (solving (adding id level bytes)) = given
-gives b given (solving (removing id)) = giving given id None
-gives b given (solving (touching f)) = given
-gives b given (solving planning) = given
-gives b given (solving (changing id level bytes)) = cond (eqb (coveredOf (b .links id)) (coveredIn bytes)) given (giving given id None)
-gives b given (entering f v) = given
-gives b given (relating id formula) = giving given id formula
-
--- from a run on: a refused command gives nothing
-unfoldable pub givenAfter : Run sheets → (ℕ → Formula) → List Command → ℕ → Formula
-givenAfter r given [] = given
-givenAfter r given (c ∷ cs) =
-    givenAfter (stepped sheets r c) (cond (isRefusal (sheets .reply (r .state) c)) given (gives (r .store) given c)) cs
-
--- they are the formulas of the sheet
+-- the formulas of the sheet are those given
 abbrev pub FormulasGiven : Type 0
-FormulasGiven =
-    (commands : List Command) (k : ℕ) → formulaAt (after sheets start commands .state .formulas) k ≡ givenAfter start (λ i. None) commands k
+FormulasGiven = AfterEveryGiven (λ r given. (k : ℕ) → formulaAt (r .state .formulas) k ≡ given k)
 
 -- "zero at opening"
 abbrev pub ZeroAtOpening : Type 0
 ZeroAtOpening =
-    AfterEveryList sheets start (λ r. (n f : ℕ) → let a = performed (r .state) (solving (opening n)) in
+    AfterEveryRun (λ r. (n f : ℕ) → let a = performed (r .state) (solving (opening n)) in
     isRefusal (a .reply) ≡ false → valueAt (a .sheet .values) f ≡ pos 0)
 
 -- only kind 07 changes a value
@@ -121,17 +74,17 @@ OthersKeepValues =
 
 -- a formula fits its link
 abbrev pub FormulasFit : Type 0
-FormulasFit = AfterEveryList sheets start (λ r. (k : ℕ) → Fits (formulaAt (r .state .formulas) k) (linkAt (r .state .panel .links) k))
+FormulasFit = AfterEveryRun (λ r. (k : ℕ) → Fits (formulaAt (r .state .formulas) k) (linkAt (r .state .panel .links) k))
 
 -- values are within the limits
 abbrev pub ValuesWithin : Type 0
-ValuesWithin = AfterEveryList sheets start (λ r. (f : ℕ) → outside (valueAt (r .state .values) f) ≡ false)
+ValuesWithin = AfterEveryRun (λ r. (f : ℕ) → outside (valueAt (r .state .values) f) ≡ false)
 
 -- a value that is entered then leaves each held formula right
 abbrev pub ValuesRight : Type 0
-ValuesRight = AfterEveryList sheets start (λ r. EnteredExactly (r .state))
+ValuesRight = AfterEveryRun (λ r. EnteredExactly (r .state))
 
--- The same of what Plan then answers, of the covered fields in the store b, and of the formulas that commands gave: v was entered in f, and the values
+-- The same of what Plan then answers, of the covered fields in the store b, and of the formulas given: v was entered in f, and the values
 -- before and after are these
 pub record HeldExactly (b : Store) (given : ℕ → Formula) (plan : List ℕ) (f : ℕ) (v : ℤ) (before after : ℕ → ℤ) : Type 0 where
   pub stored : after f ≡ v
@@ -143,11 +96,10 @@ pub record HeldExactly (b : Store) (given : ℕ → Formula) (plan : List ℕ) (
 
 abbrev pub HeldRight : Type 0
 HeldRight =
-    (commands : List Command) (f : ℕ) (v : ℤ) → let r = after sheets start commands in
-    let a = performed (r .state) (entering f v) in
+    AfterEveryGiven (λ r given. (f : ℕ) (v : ℤ) → let a = performed (r .state) (entering f v) in
     isRefusal (a .reply) ≡ false
-    → HeldExactly (r .store) (givenAfter start (λ i. None) commands) (sheets .plan (a .sheet)) f v (valueAt (r .state .values)) (valueAt (a .sheet .values))
+    → HeldExactly (r .store) given (sheets .plan (a .sheet)) f v (valueAt (r .state .values)) (valueAt (a .sheet .values)))
 
 -- where the touch is accepted and no link sets f, a value is refused with OutOfRange exactly where no values are right; an accepted one has the only ones
 abbrev pub OutOfRangeWhereNone : Type 0
-OutOfRangeWhereNone = AfterEveryList sheets start (λ r. OutOfRangeExactly (r .state) × ValuesOnly (r .state))
+OutOfRangeWhereNone = AfterEveryRun (λ r. OutOfRangeExactly (r .state) × ValuesOnly (r .state))

@@ -14,8 +14,7 @@ use Rattle.panel.specs.Commands.{opening, adding, removing, touching, planning,
 use Rattle.values.specs.Limits.{valueAt}
 use Rattle.sheet.specs.declared.Sheet.{Sheet}
 use Rattle.sheet.specs.Commands.{Command, solving, entering, relating, performed}
-use Rattle.optimality.specs.Condition3.{AfterEveryList}
-use Rattle.exactness.specs.Lists.{sheets, start}
+use Rattle.exactness.specs.Beginnings.{AfterEveryRun}
 
 -- ---- which fields count, from what is before a command to what is after it
 
@@ -56,8 +55,8 @@ RedrawExactly before after (relating id formula) bytes = bytes ≡ 0x00 ∷ 0x00
 -- a plan has no moved count
 RedrawExactly before after (solving planning) bytes = Unit {0}
 
--- of every sheet that commands lead to, and every command
+-- of every sheet that a run leads to, and every command
 abbrev pub RedrawsExactly : Type 0
 RedrawsExactly =
-    AfterEveryList sheets start (λ r. (c : Command) → let a = performed (r .state) c in
+    AfterEveryRun (λ r. (c : Command) → let a = performed (r .state) c in
     isRefusal (a .reply) ≡ false → RedrawExactly (r .state) (a .sheet) c (a .reply))

@@ -183,6 +183,15 @@ tabulate-below (suc n) =
     all-append (λ k. k < suc n) (tabulate (λ k. k) n) (n ∷ [])
     (all-map (λ k. k < n) (λ k. k < suc n) (λ k l. omega arith) (tabulate (λ k. k) n) (tabulate-below n)) (le-refl (suc n), tt)
 
+distinct-last : (xs : List ℕ) (x : ℕ) → Distinct xs → All (λ y. y < x) xs → Distinct (xs ++ (x ∷ []))
+distinct-last [] x d a = (tt, tt)
+distinct-last (y ∷ ys) x (h, d) (l, a) = (all-append (λ z. y ≢ z) ys (x ∷ []) h ((λ e. omega arith), tt), distinct-last ys x d a)
+
+pub tabulate-distinct : (n : ℕ) → Distinct (tabulate (λ k. k) n)
+unfolding tabulate
+tabulate-distinct zero = tt
+tabulate-distinct (suc n) = distinct-last (tabulate (λ k. k) n) n (tabulate-distinct n) (tabulate-below n)
+
 -- numbers below n, each once, are at most n
 pub below-length : (n : ℕ) (xs : List ℕ) → All (λ x. x < n) xs → Distinct xs → length xs ≤ n
 below-length n xs a d =
@@ -232,6 +241,15 @@ place-in f (x ∷ xs) (inr m) = go (ℕ-discrete x f) (place-in f xs m)
     go : Dec (x ≡ f) → place xs f < length xs → place (x ∷ xs) f < length (x ∷ xs)
     go (yes e) l = rw (place-here f x xs e) (omega arith)
     go (no e) l = rw (place-later f x xs e) (omega arith)
+
+-- and what has a place in it stands there
+pub place-found : (f : ℕ) (xs : List ℕ) → place xs f < length xs → In f xs
+place-found f [] l = absurd (omega arith)
+place-found f (x ∷ xs) l = go (ℕ-discrete x f) (place-found f xs)
+  where
+    go : Dec (x ≡ f) → (place xs f < length xs → In f xs) → In f (x ∷ xs)
+    go (yes e) h = inl (sym e)
+    go (no e) h = inr (h (omega (arith, place-later f x xs e)))
 
 -- the place of an entry that does not stand before it
 pub place-at : (f : ℕ) (xs : List ℕ) (i : ℕ) → i < length xs → ((j : ℕ) → j < i → getD xs j 0 ≢ f) → getD xs i 0 ≡ f → place xs f ≡ i

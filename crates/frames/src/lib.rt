@@ -1,4 +1,4 @@
-// Lines of hexadecimal, one frame a line.
+// Lines of hexadecimal, one frame a line; the length of a text of them.
 use formulas::Formula;
 use panel::Refusal;
 use values::of_bits;
@@ -11,7 +11,18 @@ ghost use mathlib.Core.List.{[], _∷_};
 ghost use Rattle.fieldset.specs.Tables.{at};
 ghost use Rattle.values.specs.Words.{valueOf};
 ghost use Rattle.frames.specs.Frames.{fitsFormula, fitsLink, fitsKind, hasFields, checkedFrame, pairOf, wordOf, formulaIn, formulaBytes, commandBytes, numberOf};
+ghost use Rattle.frames.specs.Texts.{isTooLong};
 ghost use Rattle.frames.specs.Reading.{tailOf, LineRead};
+
+// The greatest length of a text.
+pub const TEXT_LIMIT: usize = 65535;
+
+// Whether a text is refused with TextTooLong.
+pub fn is_too_long(text: &[u8]) -> bool
+    ensures { λ r. ⌜ r ≡ isTooLong (now (text .entry)) ⌝ }
+{
+    TEXT_LIMIT < text.len()
+}
 
 // What a line asks. What a frame has behind its third byte stands beside it, in the frame: the field bytes of a link, the rest of a value or of a
 // formula.

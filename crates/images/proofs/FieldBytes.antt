@@ -65,7 +65,7 @@ fields-append q (x ∷ a) b u l =
 
 -- ---- the bytes of two sets
 
-field-byte : (o u : ℕ) → u < 64 → fieldOf (fieldByte o u) ≡ u
+pub field-byte : (o u : ℕ) → u < 64 → fieldOf (fieldByte o u) ≡ u
 field-byte o u l = go (member o u)
   where
     go : (t : Bool) → cond t (u + 128) u % 64 ≡ u

@@ -26,12 +26,12 @@ use Rattle.formulas.proofs.Accepting.{ratio-accepted}
 use Rattle.frames.specs.Frames.{formulaBytes}
 use Rattle.sheet.specs.declared.Sheet.{Sheet}
 use Rattle.sheet.specs.Sheets.{formulaAt}
-use Rattle.sheet.specs.Legal.{Fits}
+use Rattle.sheet.specs.Legal.{Fits, LegalSheet}
 use Rattle.images.specs.Images.{gather, fieldAt, linkFrame, linkFrames, linkPiece, formulaFrames, formulaPiece, fourBytes, valuePiece, stayOrder, framesOf, imageOf}
 use Rattle.images.specs.Reading.{longest}
 use Rattle.images.specs.Forms.{isFormed}
 use Rattle.images.proofs.FieldBytes.{field-count}
-use Rattle.images.proofs.Facts.{Facts, formed-facts}
+use Rattle.images.proofs.Facts.{formed-facts}
 
 written-length : (a b : List (List ℕ)) → length (written (a ++ b)) ≡ length (written a) + length (written b)
 written-length a b = ap length (written-append a b) ∙ length-append (written a) (written b)
@@ -55,11 +55,13 @@ one-line : (b : List ℕ) (k : ℕ) → length b ≤ k → length (written (b �
 unfolding written
 one-line b k h = omega (arith, length-append (lineOf b) [], length-line b)
 
-module _ (s : Sheet) (F : Facts s) where
+module _ (s : Sheet) (few : s .panel .size ≤ 64)
+    (formed : (i : ℕ) → i < 128 → linkAt (s .panel .links) i .used ≡ true → Formed (s .panel .size) (linkAt (s .panel .links) i))
+    (fits : (i : ℕ) → i < 128 → Fits (formulaAt (s .formulas) i) (linkAt (s .panel .links) i)) where
   -- a link's line and its formula's: a link of eight fields can have a sum, one of two a ratio
   link-length : (i : ℕ) → i < 128 → length (written (linkPiece (s .panel .links) i)) + length (written (formulaPiece (s .formulas) i)) ≤ 34
   unfolding written
-  link-length i l = go (linkAt (s .panel .links) i) (F .formed i l) (formulaAt (s .formulas) i) (F .fits i l)
+  link-length i l = go (linkAt (s .panel .links) i) (formed i l) (formulaAt (s .formulas) i) (fits i l)
     where
       line : (k : Link) → length (written (linkFrame i k ∷ [])) ≡ 9 + 2 * size (k .covered)
       line k = omega (arith, length-append (lineOf (linkFrame i k)) [], length-line (linkFrame i k), field-count (k .covered) (k .outputs))
@@ -104,10 +106,14 @@ module _ (s : Sheet) (F : Facts s) where
         written-length formulas values,
         one-line first 3 (omega arith),
         one-line order (1 + s .panel .size) (omega (arith, length-tabulate (fieldAt (s .panel .place) (s .panel .size)) (s .panel .size))),
-        F .few,
+        few,
         gather-both (linkPiece (s .panel .links)) (formulaPiece (s .formulas)) 34 128 link-length,
         gather-length (valuePiece (s .values)) 13 (s .panel .size) value-length,
       )
 
 pub image-length : (version : ℕ) (s : Sheet) → isFormed s ≡ true → length (imageOf version s) ≤ longest
-image-length version s e = long s (formed-facts s e) version
+image-length version s e = let F = formed-facts s e in long s (F .few) (F .formed) (F .fits) version
+
+-- the same of a legal sheet, also of an unopened one
+pub legal-length : (version : ℕ) (s : Sheet) → LegalSheet s → length (imageOf version s) ≤ longest
+legal-length version s L = long s (L .panel .few) (L .panel .formed) (λ i l. L .fits i) version

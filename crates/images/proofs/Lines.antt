@@ -1,5 +1,5 @@
 -- A text of frames and its lines: the bytes of the lines are the frames. Assumes nothing.
-use Prim.Native.Nat.{ℕ, zero, suc, _*_, _%_, _<_}
+use Prim.Native.Nat.{ℕ, zero, suc, _+_, _*_, _/_, _%_, _<_}
 use mathlib.Core.Path.{_≡_, refl, ap, ap₂, _∙_}
 use mathlib.Core.List.{List, [], _∷_, map}
 use native.Mathlib.Omega.{arith}
@@ -10,7 +10,10 @@ use Rattle.fieldset.proofs.Lists.{all-append}
 use Rattle.hex.specs.Hex.{isHex, hexOf}
 use Rattle.hex.proofs.Bytes.{length-hex, bytes-hex, digits-hex}
 use Rattle.lines.specs.Lines.{linesOf}
+use Rattle.formulas.specs.declared.Formula.{Formula}
+use Rattle.formulas.specs.declared.Formula.the-variants.{None, Ratio, Sum}
 use Rattle.frames.specs.Texts.{written}
+use Rattle.frames.specs.Frames.{formulaIn, formulaBytes}
 use Rattle.frames.proofs.Outputs.{lines-all}
 use Rattle.images.specs.Images.{gather}
 use Rattle.images.specs.Entries.{lineBytes}
@@ -40,3 +43,12 @@ bytes-lines (f ∷ fs) (k, h) = ap₂ (λ (x : List ℕ) (y : List (List ℕ)). 
 -- the frames of a text
 pub frames-written : (fs : List (List ℕ)) → Frames fs → map lineBytes (linesOf (written fs)) ≡ fs
 frames-written fs h = ap (map lineBytes) (lines-all fs) ∙ bytes-lines fs h
+
+-- the formula of a frame
+pub formula-back : (r : Formula) → formulaIn (formulaBytes r) ≡ r
+formula-back None = refl
+formula-back (Ratio p q) = ap₂ Ratio (halves p) (halves q)
+  where
+    halves : (x : ℕ) → x / 256 * 256 + x % 256 ≡ x
+    halves x = omega arith
+formula-back (Sum f) = refl

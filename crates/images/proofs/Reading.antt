@@ -25,6 +25,7 @@ use Rattle.images.specs.Images.{imageOf, framesOf}
 use Rattle.images.specs.Entries.{candidate}
 use Rattle.images.specs.Forms.{isFormed}
 use Rattle.images.specs.Reading.{version, isUnknown, same, isBad, isUnfit, readChecks, read}
+pub use Rattle.images.specs.Reading.{Good}
 use Rattle.images.proofs.Rounds.{candidate-image}
 use Rattle.images.proofs.Lengths.{image-length}
 use Rattle.images.proofs.Legality.{legal-formed, legal-fit, formed-legal, formed-legal-sheet, unfit-loopless, unfit-short, unfit-unblocked}
@@ -51,10 +52,6 @@ pub image-once : (v : ℕ) (s t : Sheet) → v < 256 → isFormed s ≡ true →
 image-once v s t h a b e = sym (candidate-image v s h a) ∙ ap candidate e ∙ candidate-image v t h b
 
 -- ---- which texts are no BadImage: those of formed sheets
-
-pub record Good (text : List ℕ) (s : Sheet) : Type 0 where
-  pub formed : isFormed s ≡ true
-  pub is-text : imageOf version s ≡ text
 
 pub not-bad : (text : List ℕ) → isBad text ≡ false → Good text (candidate text)
 unfolding isBad

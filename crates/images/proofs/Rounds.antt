@@ -38,11 +38,12 @@ use Rattle.sheet.specs.Legal.{Fits}
 use Rattle.fieldset.proofs.Lists.{all-append}
 use Rattle.sheet.specs.declared.Sheet.{Sheet}
 use Rattle.images.specs.Images.{gather, fieldBytes, standingByte, linkFrame, linkPiece, formulaFrames, formulaPiece, fourBytes, valuePiece, fieldAt, stayOrder, framesOf, imageOf}
-use Rattle.images.specs.Entries.{standingOf, placed, entered, enteredAll, candidate}
+use Rattle.images.specs.Entries.{standingOf, placed, entered, folded, enteredAll, candidate}
 use Rattle.sheet.specs.Sheets.{unopened, formulaAt}
 use Rattle.frames.specs.Frames.{wordOf, formulaIn}
 use Rattle.images.specs.Forms.{isFormed}
-use Rattle.images.proofs.Lines.{Bytes, Frames, all-gather, frames-written}
+use Rattle.images.proofs.Lines.{Bytes, Frames, all-gather, frames-written, formula-back}
+use Rattle.images.proofs.Folds.{folded-append, folded-gather}
 use Rattle.images.proofs.FieldBytes.{covered-back, outputs-back, field-bytes, field-count}
 use Rattle.images.proofs.Cuts.{cut, cut-none, cut-all, cut-keep, cut-more, cutSetter, setter-none, setter-all, setter-keep, setter-more, places-back}
 use Rattle.images.proofs.Facts.{Facts, HoldFacts, SetFacts, zero-value, formed-facts}
@@ -51,16 +52,12 @@ use Rattle.images.proofs.Facts.{Facts, HoldFacts, SetFacts, zero-value,
 
 entered-append : (s : Sheet) (a b : List (List ℕ)) → enteredAll s (a ++ b) ≡ enteredAll (enteredAll s a) b
 unfolding enteredAll
-entered-append s [] b = refl
-entered-append s (x ∷ a) b = entered-append (entered s x) a b
+entered-append = folded-append entered
 
 entered-gather : (S : ℕ → Sheet) (f : ℕ → List (List ℕ)) (n : ℕ) → ((i : ℕ) → i < n → enteredAll (S i) (f i) ≡ S (suc i)) → enteredAll (S 0) (gather f n) ≡ S n
-unfolding enteredAll gather
-entered-gather S f zero h = refl
-entered-gather S f (suc n) h =
-    entered-append (S 0) (gather f n) (f n)
-    ∙ ap (λ (s : Sheet). enteredAll s (f n)) (entered-gather S f n (λ i l. h i (omega arith)))
-    ∙ h n (omega arith)
+unfolding enteredAll
+entered-gather S f n h =
+    folded-gather entered (λ i s. s ≡ S i) f n (λ i l s e. ap (λ (x : Sheet). folded entered x (f i)) e ∙ h i l) (S 0) refl
 
 abbrev stage : ℕ → List Link → List ℕ → List ℕ → List Rule → List ℤ → Sheet
 stage n links place setter rules values = record {
@@ -153,14 +150,11 @@ module _ (s : Sheet) (F : Facts s) where
           ap (λ (y : List Rule). stage n L place set′ y v)
           (ap (λ (y : Formula). set (cut none rules 128 i) i (record { formula = y })) same ∙ cut-more none rules 128 i l)
 
-      halves : (p : ℕ) → p / 256 * 256 + p % 256 ≡ p
-      halves p = omega arith
-
       go : (r : Formula) → formulaAt (s .formulas) i ≡ r
           → enteredAll (stage n L place set′ (cut none rules 128 i) v) (formulaFrames i r) ≡ stage n L place set′ (cut none rules 128 (suc i)) v
       go None t = ap (λ (y : List Rule). stage n L place set′ y v) (cut-keep none rules 128 i (ap (λ (y : Formula). record { formula = y }) t))
-      go (Ratio p q) t = done _ (Ratio p q) (ap₂ Ratio (halves p) (halves q)) t
-      go (Sum f) t = done _ (Sum f) refl t
+      go (Ratio p q) t = done _ (Ratio p q) (formula-back (Ratio p q)) t
+      go (Sum f) t = done _ (Sum f) (formula-back (Sum f)) t
 
   -- ---- values
 

@@ -54,9 +54,13 @@ entered s b =
     (cond (eqb (at b 0) 0x0D) (sheetOf (s .panel) (s .formulas) (set (s .values) (at b 1) (valueOf (wordOf (drop 2 b)))))
     s))))
 
+-- lines one after the other, whatever each of them does
+abbrev pub folded : {S : Type 0} → (S → List ℕ → S) → S → List (List ℕ) → S
+folded step s [] = s
+folded step s (b ∷ bs) = folded step (step s b) bs
+
 unfoldable pub enteredAll : Sheet → List (List ℕ) → Sheet
-enteredAll s [] = s
-enteredAll s (b ∷ bs) = enteredAll (entered s b) bs
+enteredAll = folded entered
 
 -- the bytes of a line; of one that is not hexadecimal there are none
 unfoldable pub lineBytes : List ℕ → List ℕ

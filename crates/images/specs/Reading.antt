@@ -1,5 +1,6 @@
 -- Reading a saved text into a panel (document 02, request 7). Quotations are of that request.
 use Prim.Native.Nat.{ℕ}
+use mathlib.Core.Path.{_≡_}
 use mathlib.Core.Bool.{Bool, true, false, not, _&&_, _||_, cond}
 use mathlib.Core.List.{List, [], _∷_}
 use mathlib.Core.Option.{Option, none, some}
@@ -45,6 +46,11 @@ same [] [] = true
 same [] (b ∷ bs) = false
 same (a ∷ s) [] = false
 same (a ∷ s) (b ∷ t) = eqb a b && same s t
+
+-- a formed sheet that has this text
+pub record Good (text : List ℕ) (s : Sheet) : Type 0 where
+  pub formed : isFormed s ≡ true
+  pub is-text : imageOf version s ≡ text
 
 -- BadImage: the sheet that the text's lines enter is not formed, or its text is another one: then no formed sheet has this text
 -- (`proofs/Reading.antt`, `bad-exactly`)

@@ -10,6 +10,7 @@ use native.Mathlib.Nat.{le-refl, le-trans, add-suc}
 use native.Mathlib.Omega.{arith}
 use borrow.Author.Tests.{leb-true, leb-false, ltb-true}
 use lib.Dec.{leb}
+use lib.ListN.{length}
 use Rattle.fieldset.specs.Lists.{In, All}
 use Rattle.fieldset.proofs.Lists.{all-in, all-map, all-append, in-left, in-right, in-map, in-tabulate}
 use Rattle.fieldset.specs.Tables.{tabulate}
@@ -25,12 +26,12 @@ use Rattle.panel.proofs.Reversal.{blocking}
 -- ---- all items
 
 -- every item in force stands in the list of all items
-item-listed : (p : Panel) → Legal p → (c : Item) → inForce (p .size) (p .links) c ≡ true → In c (itemsOf (p .size))
+item-listed : (p : Panel) → length (p .links) ≡ 128 → (c : Item) → inForce (p .size) (p .links) c ≡ true → In c (itemsOf (p .size))
 unfolding itemsOf
-item-listed p h (link i) u =
+item-listed p long (link i) u =
     in-left (link i) (map link (tabulate (λ i. i) 128)) (map stay (tabulate (λ f. f) (p .size)))
-    (in-map link i (tabulate (λ i. i) 128) (in-tabulate 128 i (force-small (p .links) i (h .links-length) u)))
-item-listed p h (stay f) u =
+    (in-map link i (tabulate (λ i. i) 128) (in-tabulate 128 i (force-small (p .links) i long u)))
+item-listed p long (stay f) u =
     in-right (stay f) (map link (tabulate (λ i. i) 128)) (map stay (tabulate (λ f. f) (p .size)))
     (in-map stay f (tabulate (λ f. f) (p .size)) (in-tabulate (p .size) f (ltb-true f (p .size) u)))
 
@@ -118,19 +119,19 @@ least-passes q lev cs d e = subst (Least q lev cs) e (least-is q lev cs) .0
 pub blocked-force : (p : Panel) (c : Item) → isBlocked p c ≡ true → inForce (p .size) (p .links) c ≡ true
 blocked-force p c b = waits-force (p .size) (p .links) (p .setter) c (blocking p c b .waits-now)
 
--- the same among all items
+-- the same among all items, of any panel whose table of links is whole
 abbrev pub LeastBlocked : Panel → Option Item → Type 0
 LeastBlocked p none = (c : Item) → isBlocked p c ≡ false
 LeastBlocked p (some d) =
     (isBlocked p d ≡ true) × ((c : Item) → isBlocked p c ≡ true → level p d ≤ level p c)
     × ((c : Item) → isBlocked p c ≡ true → positionOf c < positionOf d → level p d < level p c)
 
-pub least-blocked : (p : Panel) → Legal p → LeastBlocked p (leastBlocked p)
+pub least-whole : (p : Panel) → length (p .links) ≡ 128 → LeastBlocked p (leastBlocked p)
 unfolding leastBlocked
-least-blocked p h = go (leastBlocked p) (least-is (isBlocked p) (level p) (itemsOf (p .size)))
+least-whole p long = go (leastBlocked p) (least-is (isBlocked p) (level p) (itemsOf (p .size)))
   where
     listed : (P : Item → Type 0) → All P (itemsOf (p .size)) → (c : Item) → isBlocked p c ≡ true → P c
-    listed P a c b = all-in P (itemsOf (p .size)) c a (item-listed p h c (blocked-force p c b))
+    listed P a c b = all-in P (itemsOf (p .size)) c a (item-listed p long c (blocked-force p c b))
 
     go : (o : Option Item) → Least (isBlocked p) (level p) (itemsOf (p .size)) o → LeastBlocked p o
     go none a = λ c. not-eq-not .0 (λ b. clash b (listed (λ c. isBlocked p c ≡ false) a c b))
@@ -139,6 +140,9 @@ least-blocked p h = go (leastBlocked p) (least-is (isBlocked p) (level p) (items
       λ c k. listed (λ c. isBlocked p c ≡ true → level p d ≤ level p c) low c k k,
       λ c k. listed (λ c. isBlocked p c ≡ true → positionOf c < positionOf d → level p d < level p c) (first (items-rise (p .size))) c k k,
     )
+
+pub least-blocked : (p : Panel) → Legal p → LeastBlocked p (leastBlocked p)
+least-blocked p h = least-whole p (h .links-length)
 
 -- where nothing is blocked nothing is found
 pub none-least : (p : Panel) (o : Option Item) → LeastBlocked p o → ((c : Item) → isBlocked p c ≡ false) → o ≡ none

@@ -1,65 +1,15 @@
 // The program: reads a text on standard input, and writes one reply a line, then the tally.
-use libc::STDOUT_FILENO;
-use tally::Tally;
+use output::Output;
 ghost use mathlib.Core.Path.{_≡_};
 ghost use mathlib.Core.Bool.{true};
-ghost use Prim.Native.Nat.{_+_, _^_, _<_};
 ghost use lib.ListN.{length};
 ghost use Rattle.frames.specs.Frames.{panelOutput};
-ghost use Rattle.run.specs.Parts.{PartOf};
 
-// How many bytes of an output were passed on, and whether all of them were written.
-struct Output {
-    len: usize,
-    whole: bool,
-}
-
-// Passes on a part of a text's output: what stands there behind the first `sent` bytes.
-fn send(text: &[u8], sent: usize, part: &[u8]) -> Output
-    requires { ⌜ PartOf (panelOutput (now text)) sent (now part) × (sent + length (now part) < 2 ^ 64) ⌝ }
-    ensures { λ r. ⌜ r .len ≡ sent + length (now (part .entry)) ⌝ }
-{
-    let whole = io::write_all(STDOUT_FILENO, part);
-    Output {
-        len: sent + part.len(),
-        whole: whole,
-    }
-}
-
-// Passes on the output for a text, a buffer at a time. It stops where it cannot be written.
-// The contract rules out, for instance, another line for a text that is too long and a part in the wrong place (must-fail: line_of_another_refusal,
-// tally_at_the_start).
+// Passes on the output for a text.
 fn answer(text: &[u8]) -> Output
     ensures { λ r. ⌜ (r .whole ≡ true → r .len ≡ length (panelOutput (now (text .entry)))) ⌝ }
 {
-    let mut out = io::large_buffer();
-    if text::is_too_long(text) {
-        let n = text::put_too_long(&mut out);
-        return send(text, 0, &out[..n]);
-    }
-    let mut sent = 0;
-    let mut next = 0;
-    let mut s = sheet::unopened();
-    let mut t = Tally {
-        lines: 0,
-        accepted: 0,
-        refused: 0,
-        last: 0,
-    };
-    while next < text.len() {
-        let r = answering::lines_from(text, next, s, t, &mut out);
-        next = r.next;
-        s = r.sheet;
-        t = r.tally;
-        let n = r.written;
-        let part = send(text, sent, &out[..n]);
-        if !part.whole {
-            return part;
-        }
-        sent = part.len;
-    }
-    let n = text::put_tally(&mut out, 0, t);
-    send(text, sent, &out[..n])
+    output::answer_from(text, sheet::unopened())
 }
 
 // Where a read fails nothing is written. Of a text that is too long only as much is read as shows it.

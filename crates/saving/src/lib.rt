@@ -24,7 +24,7 @@ ghost use Rattle.saving.specs.Wrote.{Wrote};
 ghost use Rattle.saving.specs.Saves.{SavedAs};
 
 // The version that is written.
-const VERSION: u8 = 1;
+pub const VERSION: u8 = 1;
 
 // What saving answers: that the panel is not open, or the length of the whole text.
 pub enum Saved {

@@ -1,11 +1,15 @@
 // The operations on a whole text.
 use answering::answer_lines;
+use frames::TEXT_LIMIT;
+use frames::is_too_long;
 use panel::Refusal;
 use replies::LONGEST;
 use replies::put_refusal;
+use sheet::Sheet;
 use sheet::unopened;
 use tally::Tally;
 ghost use mathlib.Core.Path.{_≡_};
+ghost use mathlib.Core.Bool.{false};
 ghost use Prim.Native.Nat.{_+_, _^_, _<_};
 ghost use lib.ListN.{length};
 ghost use lib.Seq.{sets};
@@ -14,13 +18,12 @@ ghost use Rattle.panel.specs.declared.Refusal.the-variants.{TextTooLong as TooL
 ghost use Rattle.panel.specs.Answers.{refusalBytes};
 ghost use Rattle.hex.specs.Hex.{lineOf};
 ghost use Rattle.tally.specs.Tallies.{tallyBytes};
-ghost use Rattle.frames.specs.Texts.{isTooLong};
 ghost use Rattle.sheet.specs.Sheets.{unopened};
-ghost use Rattle.frames.specs.Frames.{lineAnswer};
+ghost use Rattle.sheet.specs.Legal.{LegalSheet};
+ghost use Rattle.lines.specs.Lines.{linesOf};
+ghost use Rattle.frames.specs.Texts.{isTooLong};
+ghost use Rattle.frames.specs.Frames.{lineAnswer, sheetAfter};
 ghost use Rattle.text.specs.Outcomes.{tallyLength, Told, fieldsAfter, valuesAfter};
-
-// The greatest length of a text.
-const TEXT_LIMIT: usize = 65535;
 
 // Room for a longest reply to each line of a text.
 const ROOM: usize = LONGEST * TEXT_LIMIT;
@@ -29,13 +32,6 @@ const ROOM: usize = LONGEST * TEXT_LIMIT;
 pub enum Outcome {
     Length(usize),
     TextTooLong,
-}
-
-// Whether a text is refused with TextTooLong.
-pub fn is_too_long(text: &[u8]) -> bool
-    ensures { λ r. ⌜ r ≡ isTooLong (now (text .entry)) ⌝ }
-{
-    TEXT_LIMIT < text.len()
 }
 
 // The line of a text that is too long, FF and the refusal's number, at the start of a buffer, as far as it fits; the position behind it.
@@ -65,9 +61,10 @@ pub struct Ending {
     pub tally: Tally,
 }
 
-// The length of a text's whole output, from an unopened panel and a tally on, and as many of its first bytes as fit the buffer.
-pub fn run_tallied(text: &[u8], out: &mut [u8], t: Tally) -> Ending
-    ensures { λ r. ⌜ Told lineAnswer unopened t (now (text .entry)) (r .tally) (now (out .entry)) (now (out .exit)) (r .outcome) ⌝ }
+// The length of a text's whole output, from a sheet and a tally on, and as many of its first bytes as fit the buffer.
+pub fn run_from(text: &[u8], s: Sheet, out: &mut [u8], t: Tally) -> Ending
+    requires { ⌜ LegalSheet s ⌝ }
+    ensures { λ r. ⌜ Told lineAnswer s t (now (text .entry)) (r .tally) (now (out .entry)) (now (out .exit)) (r .outcome) ⌝ }
 {
     if is_too_long(text) {
         let outcome = Outcome::TextTooLong;
@@ -76,7 +73,7 @@ pub fn run_tallied(text: &[u8], out: &mut [u8], t: Tally) -> Ending
             tally: t,
         };
     }
-    let r = answer_lines(text, 0, unopened(), t, out, ROOM);
+    let r = answer_lines(text, 0, s, t, out, ROOM);
     let u = r.tally;
     let n = put_tally(out, r.written, u);
     let outcome = Outcome::Length(n);
@@ -84,6 +81,13 @@ pub fn run_tallied(text: &[u8], out: &mut [u8], t: Tally) -> Ending
         outcome: outcome,
         tally: u,
     }
+}
+
+// The same, from an unopened panel on.
+pub fn run_tallied(text: &[u8], out: &mut [u8], t: Tally) -> Ending
+    ensures { λ r. ⌜ Told lineAnswer unopened t (now (text .entry)) (r .tally) (now (out .entry)) (now (out .exit)) (r .outcome) ⌝ }
+{
+    run_from(text, unopened(), out, t)
 }
 
 // The same, from a panel that is not opened and the tally that the caller lends.
@@ -96,6 +100,22 @@ pub fn run_text(text: &[u8], out: &mut [u8], t: &mut Tally) -> Outcome
     a.outcome
 }
 
+// The sheet after the lines of a text, from an unopened panel on. The replies are not wanted.
+pub fn sheet_after(text: &[u8]) -> Sheet
+    requires { ⌜ isTooLong (now text) ≡ false ⌝ }
+    ensures { λ r. ⌜ (r ≡ sheetAfter unopened (linesOf (now (text .entry)))) × LegalSheet r ⌝ }
+{
+    let t = Tally {
+        lines: 0,
+        accepted: 0,
+        refused: 0,
+        last: 0,
+    };
+    let mut out = [0u8; 1];
+    let r = answer_lines(text, 0, unopened(), t, &mut out, ROOM);
+    r.sheet
+}
+
 // The values of the fields after a text, from an unopened panel on; the answer is how many fields there are. Where the text is too long the buffer is
 // as it was, and the answer 0.
 pub fn values_after(text: &[u8], values: &mut [i32; 64]) -> usize
@@ -105,16 +125,7 @@ pub fn values_after(text: &[u8], values: &mut [i32; 64]) -> usize
     if is_too_long(text) {
         return 0;
     }
-    let t = Tally {
-        lines: 0,
-        accepted: 0,
-        refused: 0,
-        last: 0,
-    };
-    // the replies are not wanted
-    let mut out = [0u8; 1];
-    let r = answer_lines(text, 0, unopened(), t, &mut out, ROOM);
-    let s = r.sheet;
+    let s = sheet_after(text);
     let last = s.values;
     *values = last;
     let p = s.panel;

@@ -21,6 +21,7 @@ use Rattle.formulas.specs.declared.Formulas.{Formulas}
 use Rattle.sheet.specs.declared.Sheet.{Sheet}
 use Rattle.sheet.specs.Sheets.{sheetOf, formulaAt, withFormula}
 use Rattle.sheet.specs.Legal.{LegalSheet}
+use Rattle.tables.proofs.Settings.{places}
 use Rattle.tables.specs.Tables.{Tabled}
 use Rattle.taking.proofs.Taking.{Taken, places-taken, taken-reversed, tabled-altered, taken-unmoved}
 use Rattle.keeping.specs.Keeping.{Kept}

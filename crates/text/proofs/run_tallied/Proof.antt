@@ -1,61 +1,19 @@
--- `text::run_tallied` meets its contract: a text that is too long changes nothing (`too-long`); of any other all lines are answered, since there is
--- room for a longest reply to each, and the tally's line stands behind their replies (`whole-text`).
-use mathlib.Core.Path.{_≡_, sym, _∙_}
-use mathlib.Core.Bool.{false}
+-- `text::run_tallied` meets its contract: `run_from`'s, from the sheet of an unopened panel.
+use mathlib.Core.Path.{subst}
 use borrow.Author.Needs.{needs}
-use borrow.Author.Tests.{ltb-false}
-use lib.ListN.{length}
-use native.Mathlib.Omega.{arith}
-use Prim.Native.Nat.{_*_}
-use Rattle.sheet.specs.Sheets.{unopened}
-use Rattle.frames.specs.Texts.{textLimit, isTooLong}
+use Rattle.sheet.specs.declared.Sheet.{Sheet}
 use Rattle.frames.specs.Frames.{lineAnswer}
-use Rattle.lines.proofs.Lines.{lines-few}
-use Rattle.replies.specs.Replies.{longest}
-use Rattle.text.proofs.Whole.{too-long, whole-text}
+use Rattle.text.specs.Outcomes.{Told}
 use Rattle.text.proofs.run_tallied.Statement.{statement}
 use Rattle.text.proofs.run_tallied.Tie as tie
 
--- ---- the places: the text's length is seen, and the lines are answered
-
-abbrev start : tie.After-is-too-long → tie.Start
-start c = c .before .before .before
-
-abbrev opens : tie.After-answer-lines → tie.After-unopened
-opens c = c .before .before
-
-abbrev answered : tie.After-put-tally → tie.After-answer-lines
-answered c = c .before .before .before .before .before
-
--- ---- the needs
-
 returns : tie.Need-returns
 returns c =
-    let s = start (c .before) .args in
-    too-long lineAnswer (s .text .now) (s .out .now) unopened (s .t) (sym (c .before .is-too-long .ensures) ∙ c .if1 .taken)
-
-answer-lines-requires : tie.Need-answer-lines-requires
-answer-lines-requires c κs = (c .before .unopened .ensures .1, omega arith)
-
-returns-2 : tie.Need-returns-2
-returns-2 c =
-    let p = c .before .before in
-    let a = answered p in
-    let o = opens a in
-    let s = start (o .before .before) .args in
-    let short : isTooLong (s .text .now) ≡ false = sym (o .before .before .is-too-long .ensures) ∙ o .before .if1 .left in
-    let t = p .put-tally .ensures in
-    whole-text _ _ (s .text .now) (s .out .now) _ _ (s .t) _ _ _ unopened _ (longest * textLimit) (o .unopened .ensures .0) (a .answer-lines .ensures .0)
-    (a .answer-lines .ensures .1) (omega (arith, lines-few (s .text .now), ltb-false textLimit (length (s .text .now)) short)) (t .0) (t .1) short
+    let r = c .before .before in
+    let u = r .before .before in
+    let s = u .before .before .before .args in
+    subst (λ (x : Sheet). Told lineAnswer x (s .t) (s .text .now) (r .run-from .result .tally) (s .out .now) (r .run-from .last .1 .1 .0) (r .run-from .result .outcome))
+    (u .unopened .ensures .0) (r .run-from .ensures)
 
 pub run-tallied-spec : {M : Type 1} → statement M
-run-tallied-spec =
-    tie.close
-    (tie.spec
-    (λ c κs. search needs)
-    returns
-    (λ c κs. search needs)
-    answer-lines-requires
-    (λ c κs. search needs)
-    (λ c. search needs)
-    returns-2)
+run-tallied-spec = tie.close (tie.spec (λ c κs. search needs) (λ c κs. search needs) (λ c. search needs) returns)

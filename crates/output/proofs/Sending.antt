@@ -21,7 +21,7 @@ use Rattle.tally.specs.Tallies.{noTally, threeBytes, tallyBytes}
 use Rattle.frames.specs.Texts.{LineAnswer, replies, tallyAfter, written, output, textLimit, isTooLong, outputOf}
 use Rattle.replies.specs.Replies.{longest}
 use Rattle.answering.specs.Runs.{Reached, Ran, Resumed}
-use Rattle.run.specs.Parts.{PartOf}
+use Rattle.output.specs.Parts.{PartOf}
 
 -- the length of io's large buffer
 abbrev bufferLength : ℕ
