@@ -5,11 +5,12 @@
 mod support;
 
 use harness::generate::{self, Mix, Rng, MIXES};
-use harness::plain::{hex, Formula, Run, Standing, Tally};
+use harness::plain::{hex, Formula, Run, Standing};
 use support::book::{link, Book, Member, Name};
 use support::choices::{all_can_hold, best_counts, best_counts_by_paths, counts, end_of_levels};
 use support::held::{bytes, closed_walk, held, of_field, reads, waiting, Held};
 use support::redraws::redrawn;
+use support::state::state;
 use support::values::{is_right, rule_of, run_plan, Rule};
 
 /// One line with what stood before and after it.
@@ -72,15 +73,6 @@ impl Step {
         let there = link.covered.iter().all(|&f| f < self.book_before.fields());
         let sound = numbers && rising && there && self.book_before.has_link(id) == in_use;
         sound.then_some(link)
-    }
-}
-
-/// A run without its tally and without the scans that it needed.
-fn state(run: &Run) -> Run {
-    Run {
-        tally: Tally::default(),
-        scans: Vec::new(),
-        ..run.clone()
     }
 }
 
