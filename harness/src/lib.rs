@@ -9,8 +9,9 @@
 //! - [`header`]: headers of the European Data Format, for the import.
 //! - [`shrink`]: the search for a shorter text, `shrink::shorten`.
 //! - [`worked`]: texts with their whole outputs, worked out by hand.
-//! - [`program`]: the run program, `PANEL.run` for a whole text, and the import
-//!   program, `IMPORT.run` for a whole file.
+//! - [`program`]: the run program, `PANEL.run` for a whole text, the saving and the
+//!   resuming program, `SAVE` and `RESUME`, and the import program, `IMPORT.run` for a
+//!   whole file.
 //! - [`compare`]: a program beside the plain solver, `compare::compared`.
 //! - [`standin`]: the plain solver or importer as a program, `standin::answer`.
 
