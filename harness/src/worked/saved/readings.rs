@@ -214,6 +214,7 @@ fn sizes_and_stays() -> Vec<Reading> {
             // Too few, too many, one that there is not, one twice.
             "0A0101\n0B\n",
             "0A0101\n0B0000\n",
+            "0A0101\n0B0001\n",
             "0A0101\n0B01\n",
             "0A0101\n0B80\n",
             "0A0101\n0BFF\n",
