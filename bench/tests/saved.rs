@@ -311,6 +311,29 @@ fn every_byte_changed() {
     check_met(&met, &[("FF15", 600)]);
 }
 
+/// Saved texts with one or two characters left out, doubled or put in at every place.
+#[test]
+fn lengths_changed() {
+    let mut met = Met::new();
+    for panel in short_panels(100, 400) {
+        for place in 0..panel.len() {
+            let (before, behind) = panel.split_at(place);
+            for count in 1..=behind.len().min(2) {
+                let (piece, rest) = behind.split_at(count);
+                note(&mut met, &check_resumed(&[before, rest].concat(), b"05\n"));
+                let doubled = [before, piece, behind].concat();
+                note(&mut met, &check_resumed(&doubled, b"05\n"));
+            }
+            for piece in [&b"\n"[..], b"0", b"00", b"0D", b"FF", b"\r", b" "] {
+                let more = [before, piece, behind].concat();
+                note(&mut met, &check_resumed(&more, b"05\n"));
+            }
+        }
+    }
+    println!("{met:?}");
+    check_met(&met, &[("FF13", 50_000), ("FF14", 150)]);
+}
+
 /// Saved texts with lines exchanged, doubled and left out.
 #[test]
 fn lines_changed() {

@@ -14,7 +14,7 @@ pub fn image(seed: u64) -> Vec<u8> {
 }
 
 /// A saved text of one mix. Every line has digits and its LF. In about every third text
-/// one byte of one line is another one; else there is little that a reading refuses as a
+/// one byte of one line is another one, one too many or left out; else there is little that a reading refuses as a
 /// BadImage, and standings are drawn so that a good part is fit.
 pub fn image_of(rng: &mut Rng, mix: &Mix) -> Vec<u8> {
     let fields = rng.between(mix.fields.0, mix.fields.1);
@@ -89,17 +89,29 @@ fn formulas(rng: &mut Rng, links: &[Vec<u8>], fields: usize) -> Vec<Vec<u8>> {
     lines
 }
 
-/// Puts another byte in place of one, any or one at an edge.
+/// Puts another byte in place of one; or doubles it, or drops it where its line has more.
 fn change_byte(rng: &mut Rng, frames: &mut [Vec<u8>]) {
     let line = rng.below(frames.len());
-    let place = rng.below(frames[line].len());
-    let byte = &mut frames[line][place];
-    *byte = match rng.below(4) {
+    let frame = &mut frames[line];
+    let place = rng.below(frame.len());
+    let byte = frame[place];
+    match rng.below(10) {
+        0 => frame.insert(place, byte),
+        1 if frame.len() > 1 => {
+            frame.remove(place);
+        }
+        _ => frame[place] = other_byte(rng, byte),
+    }
+}
+
+/// Another byte: any, a neighbour or one at an edge.
+fn other_byte(rng: &mut Rng, byte: u8) -> u8 {
+    match rng.below(4) {
         0 => rng.byte(),
         1 => byte.wrapping_add(1),
         2 => byte.wrapping_sub(1),
         _ => *rng.pick(&[0, 1, 2, 3, 15, 16, 63, 64, 65, 127, 128, 129, 254, 255]),
-    };
+    }
 }
 
 /// A text with every two lines exchanged, every line doubled and every line left out, in

@@ -32,7 +32,7 @@ pub fn all() -> Vec<Resumed> {
     RESUMED.iter().map(resumed).collect()
 }
 
-const RESUMED: [Small; 8] = [
+const RESUMED: [Small; 9] = [
     ("no line", &["0A0101", "0B00"], &[]),
     (
         "one field",
@@ -105,6 +105,25 @@ const RESUMED: [Small; 8] = [
             "0D0000000005",
         ],
         &[("070000000005", "0001"), ("070000000005", "0000")],
+    ),
+    // Field 2 is field 0 less field 1: 5 less 2, then 1 less 2. A value of field 2 turns
+    // the link to field 1, which would be 2,147,483,649.
+    (
+        "a sum",
+        &[
+            "0A0103",
+            "0B000102",
+            "0C0A0302808182",
+            "080A0200",
+            "0D0000000005",
+            "0D0200000005",
+        ],
+        &[
+            ("070100000002", "0002"),
+            ("070100000002", "0000"),
+            ("070000000001", "0002"),
+            ("070280000000", "FF0D"),
+        ],
     ),
     (
         "negative values",
