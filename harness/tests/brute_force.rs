@@ -173,7 +173,7 @@ fn for_each_line_from(
     }
 }
 
-/// Shows every line of 1,200 texts for small panels, about 55,000 lines, every fourth
+/// Shows every line of 1,200 texts for small panels, about 56,000 lines, every fourth
 /// text from a saved one, and gives the number of lines that were accepted.
 fn for_each_small_line(mut see: impl FnMut(&Step)) -> usize {
     let mut accepted = 0;
