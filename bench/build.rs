@@ -6,8 +6,8 @@
 use std::env;
 use std::path::Path;
 
-/// The Rattle crate whose static library has the functions `panel_run_text` and
-/// `panel_values`.
+/// The Rattle crate whose static library has the functions `panel_run_text`,
+/// `panel_values`, `panel_saved` and `panel_resumed`.
 const LIBRARY: &str = "panel_c";
 
 /// The Rattle crate whose static library has the function `panel_scans`.

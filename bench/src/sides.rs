@@ -96,10 +96,38 @@ pub fn values_proved(text: &[u8], values: &mut [i32; 64]) -> usize {
     unsafe { panel_values(text.as_ptr(), text.len(), values) }
 }
 
+/// Runs the proved solver on a text, from an unopened panel, and writes the saved panel
+/// after it, or the line of a refusal. The answer is the length of what is written, of
+/// which `out` gets as many first bytes as fit.
+pub fn saved_proved(text: &[u8], out: &mut [u8]) -> usize {
+    // SAFETY: each pair is the pointer and the length of a live slice, and `out` is
+    // borrowed by this function alone; the function called asks no more.
+    unsafe { panel_saved(text.as_ptr(), text.len(), out.as_mut_ptr(), out.len()) }
+}
+
+/// Reads a saved panel with the proved solver, and writes the reply and, where it is
+/// taken in, the output of a text from there. The answer is the length of what is
+/// written, of which `out` gets as many first bytes as fit.
+pub fn resumed_proved(saved: &[u8], text: &[u8], out: &mut [u8]) -> usize {
+    // SAFETY: each pair is the pointer and the length of a live slice, and `out` is
+    // borrowed by this function alone; the function called asks no more.
+    unsafe {
+        panel_resumed(
+            saved.as_ptr(),
+            saved.len(),
+            text.as_ptr(),
+            text.len(),
+            out.as_mut_ptr(),
+            out.len(),
+        )
+    }
+}
+
 // In Rattle: `#[no_mangle] pub extern "C" fn panel_run_text(text: &[u8], out:
-// &mut [u8], tally: &mut Tally) -> usize` and `panel_values(text: &[u8], values:
-// &mut [i32; 64]) -> usize` (crates/panel_c). A slice is passed as its pointer and
-// then its length.
+// &mut [u8], tally: &mut Tally) -> usize`, `panel_values(text: &[u8], values:
+// &mut [i32; 64]) -> usize`, `panel_saved(text: &[u8], out: &mut [u8]) -> usize` and
+// `panel_resumed(saved: &[u8], text: &[u8], out: &mut [u8]) -> usize`
+// (crates/panel_c). A slice is passed as its pointer and then its length.
 extern "C" {
     fn panel_run_text(
         text: *const u8,
@@ -110,4 +138,15 @@ extern "C" {
     ) -> usize;
 
     fn panel_values(text: *const u8, text_len: usize, values: *mut [i32; 64]) -> usize;
+
+    fn panel_saved(text: *const u8, text_len: usize, out: *mut u8, out_len: usize) -> usize;
+
+    fn panel_resumed(
+        saved: *const u8,
+        saved_len: usize,
+        text: *const u8,
+        text_len: usize,
+        out: *mut u8,
+        out_len: usize,
+    ) -> usize;
 }

@@ -34,12 +34,18 @@ pub unsafe extern "C" fn panel_run_text(
         ..Run::default()
     };
     let output = plain::run_text_with(&mut run, text);
+    let length = written(&output, out);
     *tally = Tally {
         lines: run.tally.lines,
         accepted: run.tally.accepted,
         refused: run.tally.refused,
         last: run.tally.last,
     };
+    length
+}
+
+/// Writes as many first bytes of an output as fit, and answers its length.
+fn written(output: &[u8], out: &mut [u8]) -> usize {
     let fits = output.len().min(out.len());
     out[..fits].copy_from_slice(&output[..fits]);
     output.len()
@@ -83,8 +89,44 @@ pub unsafe extern "C" fn panel_scans(
 ) -> usize {
     let text = unsafe { std::slice::from_raw_parts(text, text_len) };
     let counts = unsafe { std::slice::from_raw_parts_mut(counts, counts_len) };
-    let scans = plain::scans_after(text);
-    let fits = scans.len().min(counts.len());
-    counts[..fits].copy_from_slice(&scans[..fits]);
-    scans.len()
+    written(&plain::scans_after(text), counts)
+}
+
+/// See `sides`.
+///
+/// # Safety
+///
+/// Each pair is the pointer and the length of a live slice, and nothing else uses
+/// `out` meanwhile.
+#[no_mangle]
+pub unsafe extern "C" fn panel_saved(
+    text: *const u8,
+    text_len: usize,
+    out: *mut u8,
+    out_len: usize,
+) -> usize {
+    let text = unsafe { std::slice::from_raw_parts(text, text_len) };
+    let out = unsafe { std::slice::from_raw_parts_mut(out, out_len) };
+    written(&plain::save_text(text), out)
+}
+
+/// See `sides`.
+///
+/// # Safety
+///
+/// Each pair is the pointer and the length of a live slice, and nothing else uses
+/// `out` meanwhile.
+#[no_mangle]
+pub unsafe extern "C" fn panel_resumed(
+    saved: *const u8,
+    saved_len: usize,
+    text: *const u8,
+    text_len: usize,
+    out: *mut u8,
+    out_len: usize,
+) -> usize {
+    let saved = unsafe { std::slice::from_raw_parts(saved, saved_len) };
+    let text = unsafe { std::slice::from_raw_parts(text, text_len) };
+    let out = unsafe { std::slice::from_raw_parts_mut(out, out_len) };
+    written(&plain::resume_text(saved, text), out)
 }

@@ -19,12 +19,21 @@ pub type Given = Result<Vec<u8>, String>;
 /// of their difference on the shortest text that the search finds. A program that
 /// does not end well differs.
 pub fn compared(text: &[u8], program: impl Fn(&[u8]) -> Given) -> Result<Vec<u8>, String> {
-    let output = run_text(text);
+    compared_with(text, program, run_text)
+}
+
+/// The same of a program that gives a text another output.
+pub fn compared_with(
+    text: &[u8],
+    program: impl Fn(&[u8]) -> Given,
+    plain: impl Fn(&[u8]) -> Vec<u8>,
+) -> Result<Vec<u8>, String> {
+    let output = plain(text);
     if program(text).as_ref() == Ok(&output) {
         return Ok(output);
     }
-    let short = shortest(text, &program);
-    let (given, expected) = (program(&short), run_text(&short));
+    let short = shortest(text, &program, &plain);
+    let (given, expected) = (program(&short), plain(&short));
     let difference = match &given {
         Ok(given) => first_difference(given, &expected),
         Err(end) => Some(end.clone()),
@@ -43,13 +52,17 @@ pub fn compared(text: &[u8], program: impl Fn(&[u8]) -> Given) -> Result<Vec<u8>
 }
 
 /// The shortest text found on which a program and the plain solver differ.
-fn shortest(text: &[u8], program: impl Fn(&[u8]) -> Given) -> Vec<u8> {
+fn shortest(
+    text: &[u8],
+    program: impl Fn(&[u8]) -> Given,
+    plain: impl Fn(&[u8]) -> Vec<u8>,
+) -> Vec<u8> {
     let mut left = SEARCHED;
     shorten(text, |text| {
         if left == 0 {
             return false;
         }
-        let expected = run_text(text);
+        let expected = plain(text);
         left = left.saturating_sub(expected.len());
         program(text) != Ok(expected)
     })

@@ -1,15 +1,17 @@
-//! Random texts and headers, the same ones for the same seed.
+//! Random texts, headers and saved panels, the same ones for the same seed.
 
 mod changes;
 mod damage;
 mod frames;
 mod headers;
+mod images;
 mod long;
 mod rng;
 mod values;
 
 pub use frames::{frames, Mix, MIXES};
 pub use headers::header_file;
+pub use images::{image, image_of, with_lines_changed};
 pub use long::long_text;
 pub use rng::Rng;
 

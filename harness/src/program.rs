@@ -1,11 +1,13 @@
-//! The programs of `target/bin`, started on an input: the run program on a text,
-//! the import program on a file. The environment can name another program in
-//! place of each (`.ci/wrong-programs`).
+//! The programs of `target/bin`, started on an input: the run program and the saving
+//! program on a text, the import program on a file, the resuming program on a saved
+//! panel, which its argument names, and a text. The environment can name another
+//! program in place of each (`.ci/wrong-programs`).
 //!
 //! Where a program is missing the tests fail; none of them is left out. A run
 //! counts only if it ends well: by itself with exit status 0, or by SIGPIPE where
 //! the output was closed before its end.
 
+use std::ffi::OsString;
 use std::fs::File;
 use std::io::{ErrorKind, Read, Write};
 use std::os::fd::OwnedFd;
@@ -25,19 +27,21 @@ pub struct Program {
     pub name: &'static str,
     /// The environment's name for the path of a program to test in its place.
     pub other: &'static str,
+    /// Its arguments.
+    pub arguments: Vec<OsString>,
 }
 
 /// The run program.
-pub const PANEL: Program = Program {
-    name: "run",
-    other: "PANEL_PROGRAM",
-};
+pub const PANEL: Program = Program::new("run", "PANEL_PROGRAM");
 
 /// The import program.
-pub const IMPORT: Program = Program {
-    name: "edf_import",
-    other: "IMPORT_PROGRAM",
-};
+pub const IMPORT: Program = Program::new("edf_import", "IMPORT_PROGRAM");
+
+/// The saving program.
+pub const SAVE: Program = Program::new("panel_save", "SAVE_PROGRAM");
+
+/// The resuming program, with no argument.
+pub const RESUME: Program = Program::new("panel_resume", "RESUME_PROGRAM");
 
 /// The number of SIGPIPE, which a write to a closed pipe gives.
 const SIGPIPE: i32 = 13;
@@ -56,6 +60,21 @@ pub struct Seen {
 }
 
 impl Program {
+    /// A program with no argument.
+    pub const fn new(name: &'static str, other: &'static str) -> Program {
+        Program {
+            name,
+            other,
+            arguments: Vec::new(),
+        }
+    }
+
+    /// The program with one argument more.
+    pub fn with(mut self, argument: impl Into<OsString>) -> Program {
+        self.arguments.push(argument.into());
+        self
+    }
+
     /// The whole output on an input, or how the program ended if not well.
     pub fn outcome(&self, input: &[u8]) -> Result<Vec<u8>, String> {
         outcome_of(self.command(), input)
@@ -110,13 +129,17 @@ impl Program {
 
     /// The program as a command.
     pub fn command(&self) -> Command {
-        Command::new(self.path())
+        let mut command = Command::new(self.path());
+        command.args(&self.arguments);
+        command
     }
 
-    /// A line of the shell as a command, where `"$0"` is the program.
+    /// A line of the shell as a command, where `"$0"` is the program and `"$@"` are its
+    /// arguments.
     pub fn through_shell(&self, line: &str) -> Command {
         let mut command = Command::new("/bin/sh");
         command.args(["-c", line, &self.path()]);
+        command.args(&self.arguments);
         command
     }
 

@@ -1,7 +1,9 @@
-//! A program that reads and writes as the run program and the import program do,
-//! for the examples that stand in for them (`.ci/wrong-programs`).
+//! A program that reads and writes as the programs of `target/bin` do, for the
+//! examples that stand in for them (`.ci/wrong-programs`).
 
 use crate::plain::TEXT_LIMIT;
+use std::env::args_os;
+use std::fs::File;
 use std::io::{stdin, stdout, Read, Write};
 
 /// How much is read or written at a time: less than the longest output of either
@@ -13,6 +15,18 @@ const PIECE: usize = 512;
 pub fn answer(output: impl Fn(&[u8]) -> Vec<u8>) {
     if let Some(input) = read_input(stdin().lock()) {
         write_output(&output(&input));
+    }
+}
+
+/// The same with a file that is read before the input, named by the one argument.
+/// Nothing comes of another number of arguments, and of a file that cannot be read.
+pub fn answer_with_file(output: impl Fn(&[u8], &[u8]) -> Vec<u8>) {
+    let mut arguments = args_os().skip(1);
+    let (Some(path), None) = (arguments.next(), arguments.next()) else {
+        return;
+    };
+    if let Some(file) = File::open(path).ok().and_then(read_input) {
+        answer(|input| output(&file, input));
     }
 }
 

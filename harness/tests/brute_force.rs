@@ -4,12 +4,13 @@
 
 mod support;
 
-use harness::generate::{self, Mix, Rng, MIXES};
-use harness::plain::{hex, Formula, Run, Standing, Tally};
+use harness::generate::{self, image_of, Mix, Rng, MIXES};
+use harness::plain::{hex, Formula, Run, Standing};
 use support::book::{link, Book, Member, Name};
-use support::choices::{all_can_hold, best_counts, best_counts_by_paths, counts, end_of_levels};
-use support::held::{bytes, closed_walk, held, of_field, reads, waiting, Held};
+use support::choices::{all_can_hold, best_counts, best_counts_by_paths};
+use support::held::{bytes, closed_walk, held, held_counts, of_field, reads, waiting, Held};
 use support::redraws::redrawn;
+use support::state::state;
 use support::values::{is_right, rule_of, run_plan, Rule};
 
 /// One line with what stood before and after it.
@@ -75,15 +76,6 @@ impl Step {
     }
 }
 
-/// A run without its tally and without the scans that it needed.
-fn state(run: &Run) -> Run {
-    Run {
-        tally: Tally::default(),
-        scans: Vec::new(),
-        ..run.clone()
-    }
-}
-
 /// "A line refused with 1 or 2 gives no command."
 fn holds_a_command(reply: &str) -> bool {
     !reply.starts_with("FF01") && reply != "FF02"
@@ -141,8 +133,37 @@ const SMALL_MIXES: [Mix; 5] = [
 /// Shows every line of the text of a seed. Lines with damaged numbers that
 /// would give more fields or links than the mix has are left out.
 fn for_each_line(mix: &Mix, seed: u64, see: &mut impl FnMut(&Step)) {
-    let (mut run, mut book) = (Run::default(), Book::default());
-    for line in generate::lines(&mut Rng::new(seed), mix) {
+    for_each_line_from((Run::default(), Book::default()), mix, seed, see);
+}
+
+/// The same from a panel that was read from a saved text (document 02, request 7): "the
+/// rule that nobody can hold more now also speaks of runs from such a text".
+fn for_each_resumed_line(mix: &Mix, seed: u64, see: &mut impl FnMut(&Step)) {
+    for_each_line_from(resumed(mix, seed), mix, seed, see);
+}
+
+/// The panel of the first saved text of a seed that is taken in, and the book that a run
+/// from it starts with.
+fn resumed(mix: &Mix, seed: u64) -> (Run, Book) {
+    let mut rng = Rng::new(seed);
+    loop {
+        let (text, mut run) = (image_of(&mut rng, mix), Run::default());
+        if run.read_saved(&text).is_ok() {
+            return (run, Book::of_saved(&text));
+        }
+    }
+}
+
+/// The same from a panel and its book. A plan comes first, which changes nothing, so that
+/// what holds before any other line is seen too.
+fn for_each_line_from(
+    (mut run, mut book): (Run, Book),
+    mix: &Mix,
+    seed: u64,
+    see: &mut impl FnMut(&Step),
+) {
+    let lines = generate::lines(&mut Rng::new(seed), mix).into_iter();
+    for line in std::iter::once(b"05".to_vec()).chain(lines) {
         let step = Step::new(&line, &run, &book);
         if step.book.fields() as usize > mix.fields.1 || step.book.links().len() > mix.ids {
             continue;
@@ -152,32 +173,29 @@ fn for_each_line(mix: &Mix, seed: u64, see: &mut impl FnMut(&Step)) {
     }
 }
 
-/// Shows every line of 900 texts for small panels, about 40,000 lines, and
-/// gives the number of lines that were accepted.
+/// Shows every line of 1,200 texts for small panels, about 56,000 lines, every fourth
+/// text from a saved one, and gives the number of lines that were accepted.
 fn for_each_small_line(mut see: impl FnMut(&Step)) -> usize {
     let mut accepted = 0;
+    let mut count = |step: &Step| {
+        see(step);
+        accepted += !step.refused() as usize;
+    };
     for seed in 0..900 {
         let mix = &SMALL_MIXES[seed as usize % SMALL_MIXES.len()];
-        for_each_line(mix, seed, &mut |step| {
-            see(step);
-            accepted += !step.refused() as usize;
-        });
+        for_each_line(mix, seed, &mut count);
+        if seed % 3 == 0 {
+            for_each_resumed_line(mix, seed, &mut count);
+        }
     }
     accepted
-}
-
-/// The counts of what the panel holds, for every level.
-fn held_counts(step: &Step) -> Vec<usize> {
-    let setters = step.held.iter().map(|entry| entry.setter);
-    let levels: Vec<u8> = setters.map(|name| step.book.member(name).level).collect();
-    counts(&levels, end_of_levels(&step.book.members()))
 }
 
 #[test]
 fn no_choice_holds_more_up_to_any_level() {
     let accepted = for_each_small_line(|step| {
         let best = best_counts(&step.book.members());
-        assert_eq!(held_counts(step), best, "{:?}", step.book);
+        assert_eq!(held_counts(&step.book, &step.held), best, "{:?}", step.book);
     });
     assert!(accepted > 15_000, "{accepted}");
 }
@@ -539,13 +557,15 @@ fn no_choice_holds_more_on_large_panels() {
     let mut lines = 0;
     for seed in 0..24 {
         let mix = &MIXES[6 + seed as usize % 3];
-        for_each_line(mix, seed, &mut |step| {
+        let mut check = |step: &Step| {
             let best = best_counts_by_paths(&step.book.members());
-            assert_eq!(held_counts(step), best, "{:?}", step.book);
+            assert_eq!(held_counts(&step.book, &step.held), best, "{:?}", step.book);
             lines += 1;
-        });
+        };
+        for_each_line(mix, seed, &mut check);
+        for_each_resumed_line(mix, seed, &mut check);
     }
-    assert!(lines > 4_000, "{lines}");
+    assert!(lines > 8_000, "{lines}");
 }
 
 /// The adds of link `id` over two fields: every covered set, every set of
@@ -571,7 +591,10 @@ fn check_lists(run: &Run, book: &Book, length: u8) -> usize {
     for frame in frames {
         let line = hex(&frame).into_bytes();
         let step = Step::new(&line, run, book);
-        assert_eq!(held_counts(&step), best_counts(&step.book.members()));
+        assert_eq!(
+            held_counts(&step.book, &step.held),
+            best_counts(&step.book.members())
+        );
         check_moved(&step);
         lists += check_lists(&step.after, &step.book, length - 1);
     }

@@ -34,11 +34,7 @@ fn one_run() -> Worked {
 #[test]
 #[should_panic(expected = "target/bin/no_such is missing; build it: rt check no_such")]
 fn missing_program_fails() {
-    let program = Program {
-        name: "no_such",
-        other: "NO_SUCH_PROGRAM",
-    };
-    program.run(b"");
+    Program::new("no_such", "NO_SUCH_PROGRAM").run(b"");
 }
 
 #[test]

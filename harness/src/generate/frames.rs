@@ -319,8 +319,8 @@ pub(super) fn draw_outputs(rng: &mut Rng, mix: &Mix, field_bytes: &mut [u8]) {
     }
 }
 
-/// So many different fields, rising.
-fn some_fields(rng: &mut Rng, fields: usize, count: usize) -> Vec<u8> {
+/// So many different fields, rising; or link numbers.
+pub(super) fn some_fields(rng: &mut Rng, fields: usize, count: usize) -> Vec<u8> {
     let mut chosen: Vec<u8> = Vec::new();
     while chosen.len() < count {
         let field = rng.below(fields) as u8;

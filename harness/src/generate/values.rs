@@ -16,7 +16,7 @@ pub fn store(rng: &mut Rng, mix: &Mix, fields: usize) -> Vec<u8> {
 
 /// A value: small, near a limit or a part of it, or any. Small ones are in the
 /// majority, since a large one can stand in the way of all that follow.
-fn value(rng: &mut Rng) -> i32 {
+pub fn value(rng: &mut Rng) -> i32 {
     let small = rng.below(200) as i32 - 100;
     let part = *rng.pick(&[2, 3, 4, 7, 60, 65_535]);
     match rng.below(12) {

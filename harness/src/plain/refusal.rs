@@ -2,7 +2,8 @@
 
 /// The refusals in the order of their numbers; 1 to 11 are "also the order of
 /// checks for a line", "after Loop come" 13 to 15, of which 14 is "checked before
-/// 13"; 16 to 18 are answers of the import, checked "in that order".
+/// 13"; 16 to 18 are answers of the import, checked "in that order"; 19 to 21 are those
+/// of the reading of a saved text, 20 "checked just before" 19.
 #[derive(Clone, Copy, Debug, PartialEq, Eq)]
 pub enum Refusal {
     /// With the offset in the line that its reply tells.
@@ -24,6 +25,9 @@ pub enum Refusal {
     BadHeader,
     UnclearUnit,
     FlowCount,
+    BadImage,
+    UnknownVersion,
+    Unfit,
 }
 
 impl Refusal {
@@ -48,6 +52,9 @@ impl Refusal {
             Refusal::BadHeader => 16,
             Refusal::UnclearUnit => 17,
             Refusal::FlowCount => 18,
+            Refusal::BadImage => 19,
+            Refusal::UnknownVersion => 20,
+            Refusal::Unfit => 21,
         }
     }
 }

@@ -43,7 +43,12 @@ impl Panel {
     }
 
     /// The waiting link of an add or a change, after the checks of its numbers.
-    fn sound_link(&self, id: u8, level: u8, field_bytes: &[u8]) -> Result<Link, Refusal> {
+    pub(super) fn sound_link(
+        &self,
+        id: u8,
+        level: u8,
+        field_bytes: &[u8],
+    ) -> Result<Link, Refusal> {
         self.must_be_open()?;
         let link = new_link(id, level, field_bytes).ok_or(Refusal::BadLink)?;
         for &field in &link.covered {

@@ -93,7 +93,7 @@ impl Run {
 /// "Replies: 00 m; for a plan 00 n, then n times field, setter, strength; for
 /// a refusal FF and its number", for BadHex "FF 01 and two bytes (most
 /// significant first ..), the offset".
-fn reply_line(result: &Result<Reply, Refusal>) -> String {
+pub(super) fn reply_line(result: &Result<Reply, Refusal>) -> String {
     match result {
         Ok(Reply::Moved(moved)) => hex(&[0, *moved]),
         Ok(Reply::Plan(entries)) => {

@@ -2,11 +2,13 @@
 //! each, whether it was refused; nothing in it comes from the panel's own
 //! record."
 
+use super::held::bytes;
 use super::values::{rule, Rule};
+use harness::plain::lines;
 use std::collections::BTreeMap;
 
 /// A link by its number, or the stay of a field.
-#[derive(Clone, Copy, Debug, PartialEq, Eq)]
+#[derive(Clone, Copy, Debug, PartialEq, Eq, PartialOrd, Ord)]
 pub enum Name {
     Link(u8),
     Stay(u8),
@@ -30,6 +32,32 @@ pub struct Book {
 }
 
 impl Book {
+    /// The book of a run from a saved text, which "starts not empty but with the stays in
+    /// the order of the text's 0B line and the links of its 0C lines, their standings left
+    /// out". Beside it stand the formulas of its 08 lines.
+    pub fn of_saved(text: &[u8]) -> Book {
+        let mut book = Book::default();
+        for line in lines(text) {
+            let frame = bytes(std::str::from_utf8(line).expect("digits"));
+            match frame[..] {
+                [0x0B, ref stays @ ..] => book.stays = stays.to_vec(),
+                [0x0C, id, level, _, ref field_bytes @ ..] => {
+                    let add = [&[2, id, level], field_bytes].concat();
+                    book.links.push(link(&add));
+                }
+                [8, id, ..] => drop(book.rules.insert(id, rule(&frame))),
+                _ => {}
+            }
+        }
+        book
+    }
+
+    /// The same book with its links by number, not as they were entered.
+    pub fn by_number(mut self) -> Book {
+        self.links.sort_by_key(|link| link.name);
+        self
+    }
+
     /// "A refused command and a plan change nothing in it. Opening enters the
     /// stays of fields 0 to n - 1, in that order. Add enters the link. Remove
     /// strikes out the link of that number. Touch f moves f's stay to the

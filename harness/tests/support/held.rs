@@ -2,6 +2,7 @@
 //! each setter with its field; while unopened it holds nothing."
 
 use super::book::{Book, Member, Name};
+use super::choices::{counts, end_of_levels};
 use harness::plain::Run;
 
 /// One field of a plan.
@@ -65,6 +66,13 @@ pub fn closed_walk(book: &Book, held: &[Held], field: u8, way: &mut Vec<u8>) -> 
     let closed = reads.iter().any(|&read| closed_walk(book, held, read, way));
     way.pop();
     closed
+}
+
+/// The counts of what is held, for every level.
+pub fn held_counts(book: &Book, held: &[Held]) -> Vec<usize> {
+    let setters = held.iter().map(|entry| entry.setter);
+    let levels: Vec<u8> = setters.map(|name| book.member(name).level).collect();
+    counts(&levels, end_of_levels(&book.members()))
 }
 
 /// The members in force that hold no field.

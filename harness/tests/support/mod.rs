@@ -7,4 +7,5 @@ pub mod book;
 pub mod choices;
 pub mod held;
 pub mod redraws;
+pub mod state;
 pub mod values;
