@@ -18,6 +18,7 @@ use Rattle.images.specs.Entries.{candidate}
 use Rattle.images.specs.Forms.{isFormed}
 use Rattle.images.specs.Reading.{version, longest, isUnknown, same, isBad, isUnfit, read}
 use Rattle.images.proofs.Lengths.{image-length}
+use Rattle.images.proofs.Reading.{not-bad}
 use Rattle.images.proofs.Facts.{formed-facts}
 
 -- ---- BadImage
@@ -51,9 +52,9 @@ module _ (s : Sheet) (text : List ℕ) where
   too-long e = rw e
 
   module _ (short : isTooLong text ≡ false) where
-    pub open : 0 < s .panel .size → refused s AlreadyOpen ≡ read s text
+    pub already-open : 0 < s .panel .size → refused s AlreadyOpen ≡ read s text
     unfolding read checkReply
-    open l = rw (short, lt-ltb 0 (s .panel .size) l)
+    already-open l = rw (short, lt-ltb 0 (s .panel .size) l)
 
     module _ (closed : s .panel .size ≤ 0) where
       shut : isOpen (s .panel) ≡ false
@@ -69,6 +70,9 @@ module _ (s : Sheet) (text : List ℕ) where
         bad e = rw (short, shut, known, e)
 
         module _ (good : isBad text ≡ false) (c : Sheet) (is : c ≡ candidate text) where
+          pub taken-formed : isFormed c ≡ true
+          taken-formed = ap isFormed is ∙ not-bad text good .formed
+
           pub unfit : isUnfit (c .panel) ≡ true → refused s Unfit ≡ read s text
           unfolding read checkReply
           unfit e = let f : isUnfit (candidate text .panel) ≡ true = ap (λ (x : Sheet). isUnfit (x .panel)) (sym is) ∙ e in rw (short, shut, known, good, f)
