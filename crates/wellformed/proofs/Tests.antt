@@ -142,9 +142,20 @@ formed-all s a b r low high F place setter values ea eb er =
     let C : ℕ → Bool = isValue n (s .values) in
     let D : ℕ → Bool = λ i. isLink n (s .panel .setter) i (linkAt (s .panel .links) i) in
     let E : ℕ → Bool = λ i. isRule (linkAt (s .panel .links) i) (formulaAt (s .formulas) i) in
-    er ∙ rw (ea, eb, le-leb 1 n low, le-leb n 64 high, eq-eqb (length (s .panel .links)) 128 (F .links), eq-eqb (length (s .panel .place)) 64 place,
-      eq-eqb (length (s .panel .setter)) 64 setter, eq-eqb (length (s .formulas .of)) 128 (F .formulas), eq-eqb (length (s .values)) 64 values,
-      every-both A (λ f. B f && C f) 64, every-both B C 64, every-both D E 128)
+    er ∙ rw (
+      ea,
+      eb,
+      le-leb 1 n low,
+      le-leb n 64 high,
+      eq-eqb (length (s .panel .links)) 128 (F .links),
+      eq-eqb (length (s .panel .place)) 64 place,
+      eq-eqb (length (s .panel .setter)) 64 setter,
+      eq-eqb (length (s .formulas .of)) 128 (F .formulas),
+      eq-eqb (length (s .values)) 64 values,
+      every-both A (λ f. B f && C f) 64,
+      every-both B C 64,
+      every-both D E 128,
+    )
     (and-swap (every A 64) (every B 64 && every C 64) (every D 128) (every E 128)
     ∙ ap (λ (x : Bool). (every A 64 && every D 128) && x) (last (every B 64) (every C 64) (every E 128)))
   where

@@ -91,7 +91,10 @@ fn is_unused(l: Link) -> bool
     ensures { λ r. ⌜ r ≡ unusedTest l ⌝ }
 {
     let s = l.standing;
-    both(both(l.covered == 0, l.outputs == 0), both(l.level == 0, is_waiting(s)))
+    both(
+        both(l.covered == 0, l.outputs == 0),
+        both(l.level == 0, is_waiting(s)),
+    )
 }
 
 // Whether the link of a number is well formed.

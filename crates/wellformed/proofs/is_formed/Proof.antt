@@ -23,7 +23,7 @@ returns-2 : tie.Need-returns-2
 returns-2 c = formed-high _ (c .if2 .taken)
 
 returns-3 : tie.Need-returns-3
-returns-3 c = 
+returns-3 c =
     let l = c .before in
     let f = l .before in
     let e = f .before .before .before in

@@ -5,14 +5,14 @@ use Rattle.wellformed.proofs.is_link.Statement.{statement}
 use Rattle.wellformed.proofs.is_link.Tie as tie
 
 returns : tie.Need-returns
-returns c = 
+returns c =
     let u = c .before in
     let s = u .before .before in
     let a = s .before .args in
     link-used (a .n) _ (a .i) (a .l) (s .is-standing .ensures) (u .before .if1 .taken) (search needs) (search needs) (u .is-used .ensures) (c .both .ensures)
 
 returns-2 : tie.Need-returns-2
-returns-2 c = 
+returns-2 c =
     let u = c .before in
     let s = u .before .before in
     let a = s .before .args in

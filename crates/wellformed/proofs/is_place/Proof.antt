@@ -6,7 +6,7 @@ use Rattle.wellformed.proofs.is_place.Statement.{statement}
 use Rattle.wellformed.proofs.is_place.Tie as tie
 
 returns : tie.Need-returns
-returns c = 
+returns c =
     let g = c .before in
     let t = g .before .before in
     place-in _ _ _ _ _ _ (t .if1 .taken) (t .before .wide .ensures) (g .wide2 .ensures ∙ g .before .field-at .ensures) (c .both .ensures)

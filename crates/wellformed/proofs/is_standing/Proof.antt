@@ -5,7 +5,7 @@ use Rattle.wellformed.proofs.is_standing.Statement.{statement}
 use Rattle.wellformed.proofs.is_standing.Tie as tie
 
 returns-2 : tie.Need-returns-2
-returns-2 c = 
+returns-2 c =
     let a = c .before in
     let m = a .before .before in
     let t = m .before in

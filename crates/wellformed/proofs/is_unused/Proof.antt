@@ -4,7 +4,7 @@ use Rattle.wellformed.proofs.is_unused.Statement.{statement}
 use Rattle.wellformed.proofs.is_unused.Tie as tie
 
 returns : tie.Need-returns
-returns c = 
+returns c =
     let w = c .before .before in
     rw (c .both3 .ensures, c .before .both2 .ensures, w .is-waiting .ensures, w .before .before .both .ensures)
 

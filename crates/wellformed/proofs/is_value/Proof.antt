@@ -6,7 +6,7 @@ use Rattle.wellformed.proofs.is_value.Statement.{statement}
 use Rattle.wellformed.proofs.is_value.Tie as tie
 
 returns : tie.Need-returns
-returns c = 
+returns c =
     let b = c .before in
     let s = b .before in
     value-in (s .args .n) (s .args .f) _ _ _ (s .fits .x) (rw (toZ-ofZ (s .fits .x)) at (b .bits-of .ensures)) (c .either .ensures)
