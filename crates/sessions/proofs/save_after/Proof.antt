@@ -1,0 +1,87 @@
+-- `sessions::save_after` meets its contract: by cases on the text's length and on what saving answers.
+use mathlib.Core.Path.{_≡_, sym, ap, subst, _∙_}
+use mathlib.Core.Bool.{false}
+use mathlib.Core.List.{List, _∷_}
+use native.Mathlib.Omega.{arith}
+use borrow.Author.Needs.{needs}
+use lib.ListN.{length}
+use lib.Seq.{sets}
+use Rattle.hex.specs.Hex.{lineOf}
+use Rattle.hex.proofs.Bytes.{length-line}
+use Rattle.panel.specs.declared.Refusal.the-variants.{NotOpen}
+use Rattle.panel.specs.Answers.{refusalBytes}
+use Rattle.frames.specs.Texts.{isTooLong}
+use Rattle.saving.specs.declared.Saved.{Saved}
+use Rattle.saving.specs.Saves.{SavedAs}
+use Rattle.sessions.proofs.Saving.{too-long-saved, length-saved, not-open-written}
+use Rattle.sessions.proofs.save_after.Statement.{statement}
+use Rattle.sessions.proofs.save_after.Tie as tie
+
+-- ---- the places: the text's length is seen, its lines are answered, the panel is saved
+
+abbrev begin : tie.After-is-too-long → tie.Start
+begin c = c .before .before .before
+
+abbrev measured : tie.After-save → tie.Else1
+measured c = c .before .before .before
+
+abbrev answered : tie.After-save → tie.After-sheet-after
+answered c = c .before .before
+
+short : (c : tie.Else1) → isTooLong (begin (c .before) .args .text .now) ≡ false
+short c = sym (c .before .is-too-long .ensures) ∙ c .if1 .left
+
+-- ---- the needs
+
+returns : tie.Need-returns
+returns c =
+    let p = c .before .before in
+    let t = p .before .before in
+    let e = too-long-saved (begin (t .before) .args .text .now) (sym (t .before .is-too-long .ensures) ∙ t .if1 .taken) in
+    (p .put-too-long .ensures .0 ∙ ap (sets _ 0) (sym e), p .put-too-long .ensures .1 ∙ ap length (sym e))
+
+sheet-after-requires : tie.Need-sheet-after-requires
+sheet-after-requires c κs = short c
+
+save-requires : tie.Need-save-requires
+save-requires c κs = c .before .sheet-after .ensures .1 .panel .few
+
+put-refusal-requires : tie.Need-put-refusal-requires
+put-refusal-requires c κs = omega (arith, length-line (0xFF ∷ refusalBytes NotOpen))
+
+returns-2 : tie.Need-returns-2
+returns-2 c =
+    let p = c .before .before in
+    let t = p .before .before in
+    let v = t .before .before .before .before in
+    let m = measured v in
+    let s = begin (m .before) .args in
+    not-open-written (s .text .now) (short m) _ (answered v .sheet-after .ensures .0) _ _
+    (subst (SavedAs (answered v .sheet-after .result) (s .out .now) _) (t .enum-told .given .1) (v .save .ensures)) _ _ (p .put-refusal .ensures .0) (p .put-refusal .ensures .1)
+
+returns-3 : tie.Need-returns-3
+returns-3 c =
+    let k = c .before in
+    let v = k .before .before .before .before in
+    let m = measured v in
+    let s = begin (m .before) .args in
+    length-saved (s .text .now) (short m) _ (answered v .sheet-after .ensures .0) _ _ (k .saved .given .0 .0)
+    (subst (SavedAs (answered v .sheet-after .result) (s .out .now) _) (k .saved .given .1) (v .save .ensures))
+
+pub save-after-spec : {M : Type 1} → statement M
+save-after-spec =
+    tie.close
+    (tie.spec
+    (λ c κs. search needs)
+    (λ c κs. search needs)
+    (λ c. search needs)
+    returns
+    sheet-after-requires
+    save-requires
+    (λ c. search needs)
+    put-refusal-requires
+    (λ c. search needs)
+    (λ c. search needs)
+    returns-2
+    (λ c. search needs)
+    returns-3)
