@@ -1,5 +1,5 @@
--- What the lines of a text enter, by the code's steps. The buffer has a line's first bytes and zeros behind them (`frame-at`), so that what is read from
--- it is what the line says; `Placing` and `Entering` are what the two loops keep. Assumes nothing.
+-- What the lines of a text enter, by the code's steps. The buffer has a line's first bytes and zeros behind them (`frame-at`), so that what is read
+-- from it is what the line says; `Placing` and `Entering` are what the two loops keep. Assumes nothing.
 use Prim.Native.Nat.{ℕ, zero, suc, _+_, _-_, _*_, _/_, _%_, _≤_, _<_, min}
 use mathlib.Core.Path.{_≡_, refl, sym, ap, ap₂, _∙_}
 use mathlib.Core.Bool.{Bool, true, false, _&&_, cond}
@@ -31,38 +31,29 @@ use Rattle.hex.specs.declared.Decoded.{Decoded}
 use Rattle.hex.specs.declared.Decoded.the-variants.{BadHex, Frame}
 use Rattle.hex.proofs.Bytes.{length-bytes, byte-at}
 use Rattle.lines.specs.Lines.{linesOf, lineLength, behindOf}
-use Rattle.lines.proofs.Lines.{end-within, behind-within, behind-on, lines-on, lines-end}
+use Rattle.lines.proofs.Lines.{behind-within, behind-on, lines-on, lines-end}
 use Rattle.frames.specs.Frames.{pairOf, wordOf, formulaIn}
 use Rattle.frames.proofs.Reading.{bad-told, frame-told}
 use Rattle.images.specs.Entries.{withSize, placed, withOrder, standingOf, withLinkLine, entered, enteredAll, lineBytes, candidate}
-use Rattle.parsing.specs.Parsing.{Framed, fieldsEnd}
+use Rattle.parsing.specs.Parsing.{Framed, fieldsEnd, fieldsIn, linkIn, withLinks, withSetters, setterIn}
 
 -- ---- stores, and what is past the end
 
 pub set-past {ℓ} : {A : Type ℓ} (l : List A) (i : ℕ) (a : A) → length l ≤ i → l ≡ set l i a
 set-past l i a h = sym (set-out l i a h)
 
-abbrev pub setterOf : List ℕ → ℕ → ℕ → List ℕ
-setterOf l f i = cond (eqb f 0xFF) l (set l f i)
-
-pub setter-in : (l : List ℕ) (f i : ℕ) → f < 64 → set l f i ≡ setterOf l f i
+pub setter-in : (l : List ℕ) (f i : ℕ) → f < 64 → set l f i ≡ setterIn l f i
 setter-in l f i h = rw (ne-eqb f 255 (λ e. omega arith))
 
-pub setter-past : (l : List ℕ) (f i : ℕ) → length l ≡ 64 → 64 ≤ f → l ≡ setterOf l f i
+pub setter-past : (l : List ℕ) (f i : ℕ) → length l ≡ 64 → 64 ≤ f → l ≡ setterIn l f i
 setter-past l f i e h = go (eqb f 255)
   where
     go : (b : Bool) → l ≡ cond b l (set l f i)
     go true = refl
     go false = set-past l f i (omega arith)
 
-abbrev pub withLinks : Panel → List Link → Panel
-withLinks p l = record { size = p .size; links = l; place = p .place; setter = p .setter }
-
 abbrev pub withPlaces : Panel → List ℕ → Panel
 withPlaces p l = record { size = p .size; links = p .links; place = l; setter = p .setter }
-
-abbrev pub withSetters : Panel → List ℕ → Panel
-withSetters p l = record { size = p .size; links = p .links; place = p .place; setter = l }
 
 -- ---- the stays' order
 
@@ -122,17 +113,14 @@ standing-waits b e = rw (eq-eqb b 255 e)
 pub standing-holds : (b : ℕ) → (b ≡ 0xFF → ⊥) → Holding b ≡ standingOf b
 standing-holds b n = rw (ne-eqb b 255 n)
 
-abbrev pub linkFrom : List ℕ → List ℕ → Link
-linkFrom frame fields =
-    record { covered = coveredIn fields; outputs = outputsIn fields; level = at frame 2; used = true; standing = standingOf (at frame 3) }
-
-pub link-from : (frame : List ℕ) (end n c o : ℕ) (st : Standing) → end ≡ fieldsEnd n
+pub link-in : (frame : List ℕ) (end n c o : ℕ) (st : Standing) → end ≡ fieldsEnd n
     → c ≡ coveredIn (take (end - 4) (drop 4 frame)) → o ≡ outputsIn (take (end - 4) (drop 4 frame)) → st ≡ standingOf (at frame 3)
-    → record { covered = c; outputs = o; level = at frame 2; used = true; standing = st } ≡ linkFrom frame (take (fieldsEnd n - 4) (drop 4 frame))
-link-from frame end n c o st k ec eo es = rw (ec, eo, es, k)
+    → record { covered = c; outputs = o; level = at frame 2; used = true; standing = st } ≡ linkIn frame (fieldsIn frame n)
+link-in frame end n c o st k ec eo es = rw (ec, eo, es, k)
 
-pub linked : (p q r : Panel) (l : Link) (frame fields : List ℕ) (i f : ℕ) → l ≡ linkFrom frame fields → i ≡ at frame 1 → q ≡ withLinks p (set (p .links) i l)
-    → f ≡ at frame 3 → r ≡ withSetters q (setterOf (q .setter) f (at frame 1)) → r ≡ withLinkLine p (at frame 1) (at frame 2) (at frame 3) fields
+pub linked : (p q r : Panel) (l : Link) (frame fields : List ℕ) (i f : ℕ) → l ≡ linkIn frame fields → i ≡ at frame 1
+    → q ≡ withLinks p (set (p .links) i l) → f ≡ at frame 3 → r ≡ withSetters q (setterIn (q .setter) f (at frame 1))
+    → r ≡ withLinkLine p (at frame 1) (at frame 2) (at frame 3) fields
 linked p q r l frame fields i f el ei eq ef er = er ∙ rw (eq, el, ei, ef)
 
 -- ---- formulas and values
@@ -144,7 +132,8 @@ formulaOf b = cond (eqb (at b 2) 0x01) (Ratio (at b 3 * 256 + at b 4) (at b 5 * 
 formula-is : (b : List ℕ) → formulaOf b ≡ formulaIn (drop 2 b)
 formula-is b = simp getD-drop
 
-pub formula-ratio : (b : List ℕ) (p q : ℕ) → at b 2 ≡ 0x01 → p ≡ pairOf (at b 3 ∷ at b 4 ∷ []) → q ≡ pairOf (at b 5 ∷ at b 6 ∷ []) → Ratio p q ≡ formulaIn (drop 2 b)
+pub formula-ratio : (b : List ℕ) (p q : ℕ) → at b 2 ≡ 0x01 → p ≡ pairOf (at b 3 ∷ at b 4 ∷ []) → q ≡ pairOf (at b 5 ∷ at b 6 ∷ [])
+    → Ratio p q ≡ formulaIn (drop 2 b)
 formula-ratio b p q e ep eq = sym (rw (eq-eqb (at b 2) 1 e, ← ep, ← eq)) ∙ formula-is b
 
 pub formula-sum : (b : List ℕ) → at b 2 ≡ 0x02 → Sum (at b 3) ≡ formulaIn (drop 2 b)
@@ -184,11 +173,12 @@ module _ (line frame : List ℕ) (n : ℕ) (F : Framed line frame n) where
   frame-at k l = ap (λ (x : List ℕ). at x k) (F .bytes) ∙ at-start b frameRoom k l
 
   -- the field bytes of a link, at most 8
-  fields-at : take (fieldsEnd n - 4) (drop 4 frame) ≡ take 8 (drop 4 b)
+  fields-at : fieldsIn frame n ≡ take 8 (drop 4 b)
   fields-at =
-      let left : length (take (fieldsEnd n - 4) (drop 4 frame)) ≡ fieldsEnd n - 4 = length-take (fieldsEnd n - 4) (drop 4 frame) ∙ omega (arith, length-drop 4 frame, frame-long) in
+      let left : length (fieldsIn frame n) ≡ fieldsEnd n - 4 =
+      length-take (fieldsEnd n - 4) (drop 4 frame) ∙ omega (arith, length-drop 4 frame, frame-long) in
       let right : length (take 8 (drop 4 b)) ≡ fieldsEnd n - 4 = length-take 8 (drop 4 b) ∙ omega (arith, length-drop 4 b, F .count) in
-      ext-getD 0 (take (fieldsEnd n - 4) (drop 4 frame)) (take 8 (drop 4 b)) (left ∙ sym right)
+      ext-getD 0 (fieldsIn frame n) (take 8 (drop 4 b)) (left ∙ sym right)
       (λ i h. let k : i < fieldsEnd n - 4 = omega (arith, left) in
       getD-take (fieldsEnd n - 4) (drop 4 frame) i 0 k ∙ getD-drop 4 frame i 0 ∙ frame-at (4 + i) (omega arith)
       ∙ sym (getD-take 8 (drop 4 b) i 0 (omega arith) ∙ getD-drop 4 b i 0))
@@ -196,7 +186,8 @@ module _ (line frame : List ℕ) (n : ℕ) (F : Framed line frame n) where
   formula-same : formulaIn (drop 2 frame) ≡ formulaIn (drop 2 b)
   formula-same =
       sym (formula-is frame)
-      ∙ rw (frame-at 2 (omega arith), frame-at 3 (omega arith), frame-at 4 (omega arith), frame-at 5 (omega arith), frame-at 6 (omega arith)) (formula-is b)
+      ∙ rw (frame-at 2 (omega arith), frame-at 3 (omega arith), frame-at 4 (omega arith), frame-at 5 (omega arith), frame-at 6 (omega arith))
+      (formula-is b)
 
   word-same : wordOf (at frame 2 ∷ at frame 3 ∷ at frame 4 ∷ at frame 5 ∷ []) ≡ wordOf (drop 2 b)
   word-same = rw (frame-at 2 (omega arith), frame-at 3 (omega arith), frame-at 4 (omega arith), frame-at 5 (omega arith)) (word-is b)
@@ -211,12 +202,13 @@ module _ (line frame : List ℕ) (n : ℕ) (F : Framed line frame n) where
     unfolding entered
     enters-size p e ep er = er ∙ rw (kind 0x0A e, ep, frame-at 2 (omega arith))
 
-    pub enters-order : (p : Panel) → at frame 0 ≡ 0x0B → p ≡ withOrder (s .panel) (orderOf line) → r ≡ sheetOf p (s .formulas) (s .values) → r ≡ entered s b
+    pub enters-order : (p : Panel) → at frame 0 ≡ 0x0B → p ≡ withOrder (s .panel) (orderOf line)
+        → r ≡ sheetOf p (s .formulas) (s .values) → r ≡ entered s b
     unfolding entered
     enters-order p e ep er = er ∙ rw (kind 0x0B e, ep)
 
     pub enters-link : (p : Panel) → at frame 0 ≡ 0x0C
-        → p ≡ withLinkLine (s .panel) (at frame 1) (at frame 2) (at frame 3) (take (fieldsEnd n - 4) (drop 4 frame)) → r ≡ sheetOf p (s .formulas) (s .values)
+        → p ≡ withLinkLine (s .panel) (at frame 1) (at frame 2) (at frame 3) (fieldsIn frame n) → r ≡ sheetOf p (s .formulas) (s .values)
         → r ≡ entered s b
     unfolding entered
     enters-link p e ep er =
@@ -226,13 +218,16 @@ module _ (line frame : List ℕ) (n : ℕ) (F : Framed line frame n) where
         → r ≡ sheetOf (s .panel) (withFormula (s .formulas) i x) (s .values) → r ≡ entered s b
     unfolding entered
     enters-formula i x e ei ex er =
-        er ∙ rw (kind 0x08 e, ei, frame-at 1 (omega arith)) (ap (λ (y : Formula). sheetOf (s .panel) (withFormula (s .formulas) (at b 1) y) (s .values)) (ex ∙ formula-same))
+        er ∙ rw (kind 0x08 e, ei, frame-at 1 (omega arith))
+        (ap (λ (y : Formula). sheetOf (s .panel) (withFormula (s .formulas) (at b 1) y) (s .values)) (ex ∙ formula-same))
 
-    pub enters-value : (f w : ℕ) (x : ℤ) → at frame 0 ≡ 0x0D → f ≡ at frame 1 → w ≡ wordOf (at frame 2 ∷ at frame 3 ∷ at frame 4 ∷ at frame 5 ∷ []) → x ≡ valueOf w
+    pub enters-value : (f w : ℕ) (x : ℤ) → at frame 0 ≡ 0x0D → f ≡ at frame 1
+        → w ≡ wordOf (at frame 2 ∷ at frame 3 ∷ at frame 4 ∷ at frame 5 ∷ []) → x ≡ valueOf w
         → r ≡ sheetOf (s .panel) (s .formulas) (set (s .values) f x) → r ≡ entered s b
     unfolding entered
     enters-value f w x e ef ew ex er =
-        er ∙ rw (kind 0x0D e, ef, frame-at 1 (omega arith)) (ap (λ (y : ℤ). sheetOf (s .panel) (s .formulas) (set (s .values) (at b 1) y)) (ex ∙ ap valueOf (ew ∙ word-same)))
+        er ∙ rw (kind 0x0D e, ef, frame-at 1 (omega arith))
+        (ap (λ (y : ℤ). sheetOf (s .panel) (s .formulas) (set (s .values) (at b 1) y)) (ex ∙ ap valueOf (ew ∙ word-same)))
 
   pub enters-none : (s : Sheet)
       → ((((Unit {0} × (at frame 0 ≡ 0x0A → ⊥)) × (at frame 0 ≡ 0x0B → ⊥)) × (at frame 0 ≡ 0x0C → ⊥)) × (at frame 0 ≡ 0x08 → ⊥)) × (at frame 0 ≡ 0x0D → ⊥)
@@ -256,7 +251,8 @@ pub bad-enters : (s : Sheet) (line : List ℕ) (d : Decoded) (n : ℕ) → decod
 unfolding lineBytes entered
 bad-enters s line d n v e = rw (bad-told line n (ap decodedValues (sym e) ∙ v) .0)
 
-module _ (line after : List ℕ) (d : Decoded) (n : ℕ) (v : decodedValues d ≡ decoded line) (a : after ≡ frameAfter line (replicate frameRoom 0)) (e : d ≡ Frame n) where
+module _ (line after : List ℕ) (d : Decoded) (n : ℕ) (v : decodedValues d ≡ decoded line)
+    (a : after ≡ frameAfter line (replicate frameRoom 0)) (e : d ≡ Frame n) where
   pub good-framed : Framed line after n
   unfolding frameAfter isHex
   good-framed =
@@ -303,7 +299,8 @@ pub entering-none : (text : List ℕ) (s : Sheet) → s ≡ unopened → Enterin
 unfolding candidate
 entering-none text s e = rw e (record { within = omega arith; full = full-unopened; rest = refl })
 
-module _ (text : List ℕ) (from end next : ℕ) (h : from < length text) (e : end ≡ from + lineLength (drop from text)) (n : next ≡ behindOf end (length text)) where
+module _ (text : List ℕ) (from end next : ℕ) (h : from < length text) (e : end ≡ from + lineLength (drop from text))
+    (n : next ≡ behindOf end (length text)) where
   pub next-less : from < next
   next-less = rw n (behind-on text from end h e)
 

@@ -18,17 +18,15 @@ use sheet::Sheet;
 use values::of_bits;
 use writing::store;
 ghost use mathlib.Core.Path.{_≡_};
-ghost use mathlib.Core.Bool.{true, cond};
+ghost use mathlib.Core.Bool.{true};
 ghost use Prim.Native.Nat.{_-_, min};
-ghost use lib.Dec.{eqb};
 ghost use lib.ListN.{length, take, drop, set};
 ghost use Rattle.fieldset.specs.Tables.{at};
-ghost use Rattle.panel.specs.Commands.{coveredIn, outputsIn};
 ghost use Rattle.hex.specs.Hex.{areDigits, bytesOf};
 ghost use Rattle.frames.specs.Frames.{formulaIn};
 ghost use Rattle.sheet.specs.Sheets.{sheetOf, withFormula, Full};
 ghost use Rattle.images.specs.Entries.{withSize, placed, withOrder, standingOf, withLinkLine, entered, lineBytes, candidate};
-ghost use Rattle.parsing.specs.Parsing.{Framed, fieldsEnd};
+ghost use Rattle.parsing.specs.Parsing.{Framed, fieldsEnd, fieldsIn, linkIn, withLinks, withSetters, setterIn};
 
 // The line 0A enters the number of fields.
 fn with_size(mut p: Panel, n: u8) -> Panel
@@ -108,7 +106,7 @@ fn fields_end(n: usize) -> usize
 
 // The link of a line 0C of n bytes.
 fn link_of(frame: [u8; FRAME_ROOM], n: usize) -> Link
-    ensures { λ r. ⌜ r ≡ record { covered = coveredIn (take (fieldsEnd n - 4) (drop 4 frame)); outputs = outputsIn (take (fieldsEnd n - 4) (drop 4 frame)); level = at frame 2; used = true; standing = standingOf (at frame 3) } ⌝ }
+    ensures { λ r. ⌜ r ≡ linkIn frame (fieldsIn frame n) ⌝ }
 {
     let end = fields_end(n);
     let fields = read_fields(&frame[4..end]);
@@ -125,7 +123,7 @@ fn link_of(frame: [u8; FRAME_ROOM], n: usize) -> Link
 // The panel with a link of this number, where there is such a number.
 fn put_link(mut p: Panel, id: usize, l: Link) -> Panel
     requires { ⌜ length (p .links) ≡ 128 ⌝ }
-    ensures { λ r. ⌜ r ≡ record { size = p .size; links = set (p .links) id l; place = p .place; setter = p .setter } ⌝ }
+    ensures { λ r. ⌜ r ≡ withLinks p (set (p .links) id l) ⌝ }
 {
     if id < 128 {
         p.links[id] = l;
@@ -135,7 +133,7 @@ fn put_link(mut p: Panel, id: usize, l: Link) -> Panel
 
 // The panel with a link as the setter of the field that it holds, where there is such a field.
 fn put_setter(mut p: Panel, f: usize, id: u8) -> Panel
-    ensures { λ r. ⌜ r ≡ record { size = p .size; links = p .links; place = p .place; setter = cond (eqb f 0xFF) (p .setter) (set (p .setter) f id) } ⌝ }
+    ensures { λ r. ⌜ r ≡ withSetters p (setterIn (p .setter) f id) ⌝ }
 {
     if f < 64 {
         p.setter[f] = id;
@@ -146,7 +144,7 @@ fn put_setter(mut p: Panel, f: usize, id: u8) -> Panel
 // The line 0C of n bytes enters a link.
 fn with_link(p: Panel, frame: [u8; FRAME_ROOM], n: usize) -> Panel
     requires { ⌜ length (p .links) ≡ 128 ⌝ }
-    ensures { λ r. ⌜ r ≡ withLinkLine p (at frame 1) (at frame 2) (at frame 3) (take (fieldsEnd n - 4) (drop 4 frame)) ⌝ }
+    ensures { λ r. ⌜ r ≡ withLinkLine p (at frame 1) (at frame 2) (at frame 3) (fieldsIn frame n) ⌝ }
 {
     let id = frame[1];
     let l = link_of(frame, n);

@@ -1,6 +1,6 @@
 -- Texts written one behind the other (`wrote-more`), and `Growing`, what every loop keeps: of a text that grows by a piece at each number, the part of
 -- the numbers below i is written. Assumes nothing.
-use Prim.Native.Nat.{ℕ, zero, suc, _+_, _-_, _*_, _≤_, _<_}
+use Prim.Native.Nat.{ℕ, zero, suc, _+_, _*_, _≤_, _<_}
 use mathlib.Core.Path.{_≡_, refl, sym, ap, ap₂, _∙_}
 use mathlib.Core.Bool.{Bool, true, false, cond}
 use mathlib.Core.List.{List, [], _∷_, _++_, append-nil}
@@ -197,7 +197,8 @@ piece-short c o f = go (member c f)
 pub fields-short : (c o : ℕ) → length (hexOf (fieldBytes c o)) ≤ 128
 unfolding fieldBytes
 fields-short c o =
-    growing-length (digitsTo (fieldPiece c o)) 2 (λ f. hexOf (fieldPiece c o f)) (digits-none (fieldPiece c o)) (digits-more (fieldPiece c o)) (piece-short c o) 64
+    growing-length (digitsTo (fieldPiece c o)) 2 (λ f. hexOf (fieldPiece c o f))
+    (digits-none (fieldPiece c o)) (digits-more (fieldPiece c o)) (piece-short c o) 64
 
 pub link-unused : (i : ℕ) (l : Link) (o : List ℕ) (p : ℕ) → l .used ≡ false → Wrote o p o p (written (linkFrames i l))
 unfolding written
@@ -208,7 +209,9 @@ pub link-written : (i : ℕ) (l : Link) (b : ℕ) (o o₁ o₂ o₃ : List ℕ) 
     → Wrote o₂ q o₃ r (lf ∷ []) → Wrote o p o₃ r (written (linkFrames i l))
 unfolding hexOf
 link-written i l b o o₁ o₂ o₃ p q r u e h F W =
-    rw (u, ← e) (wrote-ended (0x0C ∷ i ∷ l .level ∷ b ∷ fieldBytes (l .covered) (l .outputs)) (wrote-more (wrote-bytes o o₁ p (0x0C ∷ i ∷ l .level ∷ b ∷ []) h) F) W)
+    rw (u, ← e)
+    (wrote-ended (0x0C ∷ i ∷ l .level ∷ b ∷ fieldBytes (l .covered) (l .outputs))
+    (wrote-more (wrote-bytes o o₁ p (0x0C ∷ i ∷ l .level ∷ b ∷ []) h) F) W)
 
 line-length : (b : List ℕ) → length (written (b ∷ [])) ≡ 2 * length b + 1
 line-length b = ap length (sym (written-one b)) ∙ length-line b

@@ -2,7 +2,7 @@
 -- `every-both`. Assumes nothing.
 use Prim.Native.Nat.{ℕ, zero, suc, _+_, _^_, _≤_, _<_}
 use mathlib.Core.Path.{_≡_, refl, sym, ap, ap₂, _∙_}
-use mathlib.Core.Bool.{Bool, true, false, not, _&&_, _||_, cond, and-false}
+use mathlib.Core.Bool.{Bool, true, false, _&&_, _||_, cond, and-false}
 use mathlib.Core.List.{List}
 use native.Mathlib.Numerals.{add-one}
 use native.Mathlib.Omega.{arith}
@@ -19,7 +19,7 @@ use Rattle.panel.specs.declared.Standing.the-variants.{Holding}
 use Rattle.panel.specs.declared.Link.{Link}
 use Rattle.panel.specs.declared.Panel.{Panel}
 use Rattle.panel.specs.Items.{linkAt}
-use Rattle.values.specs.Limits.{valueAt, outside}
+use Rattle.values.specs.Limits.{valueAt}
 use Rattle.values.specs.Words.{bitsOf}
 use Rattle.formulas.specs.declared.Formulas.{Formulas}
 use Rattle.sheet.specs.declared.Sheet.{Sheet}

@@ -10,26 +10,30 @@ returns : tie.Need-returns
 returns c =
     let p = c .before in
     let s = p .before .before .before in
-    enters-size (s .args .line .now) (s .args .t3) (s .args .n) (s .pre .0) (s .args .s) _ _ (p .before .match .keys1) (p .with-size .ensures) (c .with-panel .ensures)
+    enters-size (s .args .line .now) (s .args .t3) (s .args .n) (s .pre .0) (s .args .s)
+    _ _ (p .before .match .keys1) (p .with-size .ensures) (c .with-panel .ensures)
 
 returns-2 : tie.Need-returns-2
 returns-2 c =
     let p = c .before in
     let s = p .before .before .before in
-    enters-order (s .args .line .now) (s .args .t3) (s .args .n) (s .pre .0) (s .args .s) _ _ (p .before .match .keys2) (p .with-order .ensures) (c .with-panel2 .ensures)
+    enters-order (s .args .line .now) (s .args .t3) (s .args .n) (s .pre .0) (s .args .s)
+    _ _ (p .before .match .keys2) (p .with-order .ensures) (c .with-panel2 .ensures)
 
 returns-3 : tie.Need-returns-3
 returns-3 c =
     let p = c .before in
     let s = p .before .before .before in
-    enters-link (s .args .line .now) (s .args .t3) (s .args .n) (s .pre .0) (s .args .s) _ _ (p .before .match .keys3) (p .with-link .ensures) (c .with-panel3 .ensures)
+    enters-link (s .args .line .now) (s .args .t3) (s .args .n) (s .pre .0) (s .args .s)
+    _ _ (p .before .match .keys3) (p .with-link .ensures) (c .with-panel3 .ensures)
 
 returns-4 : tie.Need-returns-4
 returns-4 c =
     let f = c .before in
     let w = f .before in
     let s = w .before .before .before in
-    enters-formula (s .args .line .now) (s .args .t3) (s .args .n) (s .pre .0) (s .args .s) _ _ _ (w .before .match .keys4) (w .wide .ensures) (f .formula-in .ensures)
+    enters-formula (s .args .line .now) (s .args .t3) (s .args .n) (s .pre .0) (s .args .s)
+    _ _ _ (w .before .match .keys4) (w .wide .ensures) (f .formula-in .ensures)
     (c .with-formula .ensures)
 
 returns-5 : tie.Need-returns-5
@@ -38,7 +42,8 @@ returns-5 c =
     let f = v .before in
     let w = f .before in
     let s = w .before .before .before in
-    enters-value (s .args .line .now) (s .args .t3) (s .args .n) (s .pre .0) (s .args .s) _ _ _ _ (w .before .match .keys5) (f .wide2 .ensures) (w .word .ensures)
+    enters-value (s .args .line .now) (s .args .t3) (s .args .n) (s .pre .0) (s .args .s)
+    _ _ _ _ (w .before .match .keys5) (f .wide2 .ensures) (w .word .ensures)
     (toZ-ofZ (record { sfits = v .of-bits .ok }) ∙ v .of-bits .ensures) (c .with-value .ensures)
 
 returns-6 : tie.Need-returns-6

@@ -1,5 +1,5 @@
 -- `parsing::link_of` meets its contract. Assumes nothing.
-use Rattle.parsing.proofs.Entries.{link-from}
+use Rattle.parsing.proofs.Entries.{link-in}
 use borrow.Author.Needs.{needs}
 use Rattle.parsing.proofs.link_of.Statement.{statement}
 use Rattle.parsing.proofs.link_of.Tie as tie
@@ -8,7 +8,8 @@ returns : tie.Need-returns
 returns c =
     let f = c .before in
     let e = f .before .before .before in
-    link-from (e .before .args .t1) _ _ _ _ _ (e .fields-end .ensures) (f .read-fields .ensures .covered) (f .read-fields .ensures .outputs) (c .standing-of .ensures)
+    link-in (e .before .args .t1) _ _ _ _ _ (e .fields-end .ensures) (f .read-fields .ensures .covered)
+    (f .read-fields .ensures .outputs) (c .standing-of .ensures)
 
 pub link-of-spec : {M : Type 1} → statement M
 link-of-spec =

@@ -1,7 +1,8 @@
 -- `parsing::put_link` meets its contract: past the last number nothing is stored. Assumes nothing.
 use mathlib.Core.Path.{ap}
 use native.Mathlib.Omega.{arith}
-use Rattle.parsing.proofs.Entries.{set-past, withLinks}
+use Rattle.parsing.specs.Parsing.{withLinks}
+use Rattle.parsing.proofs.Entries.{set-past}
 use borrow.Author.Needs.{needs}
 use Rattle.parsing.proofs.put_link.Statement.{statement}
 use Rattle.parsing.proofs.put_link.Tie as tie

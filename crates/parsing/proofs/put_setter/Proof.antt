@@ -1,6 +1,7 @@
 -- `parsing::put_setter` meets its contract: past the last field nothing is stored. Assumes nothing.
 use mathlib.Core.Path.{ap}
-use Rattle.parsing.proofs.Entries.{withSetters, setter-in, setter-past}
+use Rattle.parsing.specs.Parsing.{withSetters}
+use Rattle.parsing.proofs.Entries.{setter-in, setter-past}
 use borrow.Author.Needs.{needs}
 use Rattle.parsing.proofs.put_setter.Statement.{statement}
 use Rattle.parsing.proofs.put_setter.Tie as tie

@@ -15,7 +15,8 @@ abbrev μ-loop : tie.MeasureT-loop
 μ-loop text s₀ from₀ s from = length text - from
 
 -- the line that ends here is in the text
-line-within : (c : tie.After-line-end Inv-loop μ-loop) → (c .before .before .loop .from ≤ c .line-end .result) × (c .line-end .result ≤ length (c .before .before .before .before .before .args .text .now))
+line-within : (c : tie.After-line-end Inv-loop μ-loop)
+    → (c .before .before .loop .from ≤ c .line-end .result) × (c .line-end .result ≤ length (c .before .before .before .before .before .args .text .now))
 line-within c = (omega (arith, c .line-end .ensures), end-within _ _ _ (search needs) (c .line-end .ensures))
 
 loop-holds : tie.Need-loop-holds Inv-loop μ-loop

@@ -1,6 +1,5 @@
 -- `parsing::standing_of` meets its contract. Assumes nothing.
 use Rattle.parsing.proofs.Entries.{standing-waits, standing-holds}
-use borrow.Author.Needs.{needs}
 use Rattle.parsing.proofs.standing_of.Statement.{statement}
 use Rattle.parsing.proofs.standing_of.Tie as tie
 

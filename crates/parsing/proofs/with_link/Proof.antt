@@ -1,7 +1,5 @@
 -- `parsing::with_link` meets its contract: the link, then the setter of the field that it holds. Assumes nothing.
-use Prim.Native.Nat.{_-_}
-use lib.ListN.{take, drop}
-use Rattle.parsing.specs.Parsing.{fieldsEnd}
+use Rattle.parsing.specs.Parsing.{fieldsIn}
 use Rattle.parsing.proofs.Entries.{linked}
 use borrow.Author.Needs.{needs}
 use Rattle.parsing.proofs.with_link.Statement.{statement}
@@ -14,7 +12,8 @@ returns c =
     let i = p .before in
     let l = i .before in
     let a = l .before .args in
-    linked (a .p) _ _ _ (a .t2) (take (fieldsEnd (a .n) - 4) (drop 4 (a .t2))) _ _ (l .link-of .ensures) (i .wide .ensures) (p .put-link .ensures) (w .wide2 .ensures) (c .put-setter .ensures)
+    linked (a .p) _ _ _ (a .t2) (fieldsIn (a .t2) (a .n)) _ _
+    (l .link-of .ensures) (i .wide .ensures) (p .put-link .ensures) (w .wide2 .ensures) (c .put-setter .ensures)
 
 pub with-link-spec : {M : Type 1} → statement M
 with-link-spec =

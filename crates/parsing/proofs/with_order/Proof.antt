@@ -1,7 +1,5 @@
 -- `parsing::with_order` meets its contract. Assumes nothing.
 use mathlib.Core.Path.{ap}
-use mathlib.Core.List.{List}
-use Prim.Native.Nat.{ℕ}
 use Rattle.parsing.proofs.Entries.{withPlaces}
 use borrow.Author.Needs.{needs}
 use Rattle.parsing.proofs.with_order.Statement.{statement}

@@ -1,7 +1,7 @@
 -- `saving::put_formulas` meets its contract: the lines of the links below `i` are written. Assumes nothing.
 use Prim.Native.Nat.{_-_}
 use Rattle.images.specs.Images.{formulaPiece}
-use Rattle.saving.proofs.Writing.{Growing, growing-none, growing-on, growing-all, wrote-length, linesTo, lines-none, lines-on, formula-short}
+use Rattle.saving.proofs.Writing.{Growing, growing-none, growing-all, wrote-length, linesTo, lines-none, lines-on, formula-short}
 use borrow.Author.Needs.{needs}
 use Rattle.saving.proofs.put_formulas.Statement.{statement}
 use Rattle.saving.proofs.put_formulas.Tie as tie

@@ -2,10 +2,9 @@
 use Prim.Native.Nat.{ℕ, _-_}
 use mathlib.Core.Path.{ap}
 use mir.Facts.{toZ-ofZ}
-use mir.Val.{SFits}
 use Rattle.frames.specs.Texts.{written}
 use Rattle.images.specs.Images.{valueFrames, valuePiece}
-use Rattle.saving.proofs.Writing.{Growing, growing-none, growing-on, growing-all, wrote-as, wrote-length, linesTo, lines-none, lines-on, value-short}
+use Rattle.saving.proofs.Writing.{Growing, growing-none, growing-all, wrote-as, wrote-length, linesTo, lines-none, lines-on, value-short}
 use borrow.Author.Needs.{needs}
 use Rattle.saving.proofs.put_values.Statement.{statement}
 use Rattle.saving.proofs.put_values.Tie as tie

@@ -66,7 +66,8 @@ returns c =
     let z = sized o in
     let a = start z .args in
     let image =
-    image-written (a .version) (a .s) (z .put-line .ensures) (o .put-order .ensures) (l .put-links .ensures) (f .put-formulas .ensures) (w .put-values .ensures) in
+    image-written (a .version) (a .s) (z .put-line .ensures) (o .put-order .ensures) (l .put-links .ensures)
+    (f .put-formulas .ensures) (w .put-values .ensures) in
     (image .buffer, omega (arith, image .position))
 
 pub write-spec : {M : Type 1} → statement M

@@ -22,7 +22,8 @@ loop-again c =
     let k = r .before in
     let l = k .before .before .before .before .before in
     let a = l .before .before .args in
-    passed-on (search needs) (l .loop .inv) (number-is (a .t1) (a .t2) (l .loop .i) (k .is-link .ensures) (r .is-rule .ensures) (b .both .ensures)) (c .both2 .ensures)
+    passed-on (search needs) (l .loop .inv)
+    (number-is (a .t1) (a .t2) (l .loop .i) (k .is-link .ensures) (r .is-rule .ensures) (b .both .ensures)) (c .both2 .ensures)
 
 returns : tie.Need-returns Inv-loop μ-loop
 returns c = passed-all (search needs) (c .before .loop .inv)
