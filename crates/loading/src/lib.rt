@@ -6,6 +6,7 @@ use hex::FRAME_ROOM;
 use panel::Refusal;
 use panel::Reply;
 use parsing::read_lines;
+use saving::LONGEST;
 use saving::VERSION;
 use saving::write;
 use sheet::Sheet;
@@ -18,9 +19,6 @@ ghost use Rattle.sheet.specs.Commands.{refused};
 ghost use Rattle.images.specs.Entries.{candidate};
 ghost use Rattle.images.specs.Reading.{isUnknown, same, isBad, read};
 ghost use Rattle.loading.specs.Loaded.{answerOf};
-
-// Room for the longest text of a sheet.
-const ROOM: usize = 5322;
 
 // Whether a text begins with the byte 0A and a version that is not known.
 fn is_unknown(text: &[u8]) -> bool
@@ -63,7 +61,7 @@ fn is_bad(text: &[u8], c: Sheet) -> bool
     if !is_formed(c) {
         return true;
     }
-    let mut buffer = [0u8; ROOM];
+    let mut buffer = [0u8; LONGEST];
     let n = write(&mut buffer, VERSION, c);
     !is_same(&buffer, n, text)
 }

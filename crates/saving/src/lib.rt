@@ -23,6 +23,9 @@ ghost use Rattle.images.specs.Images.{gather, fieldAt, stayOrder, fieldByte, fi
 ghost use Rattle.saving.specs.Wrote.{Wrote};
 ghost use Rattle.saving.specs.Saves.{SavedAs};
 
+// The length of the longest text of a sheet.
+pub const LONGEST: usize = 5322;
+
 // The version that is written.
 pub const VERSION: u8 = 1;
 

@@ -1,14 +1,17 @@
 -- What is written of a reading and of a text that goes on from it. Assumes nothing.
-use Prim.Native.Nat.{ℕ, zero, suc, _+_, _^_, _≤_, _<_}
+use Prim.Native.Nat.{ℕ, zero, suc, _+_, _-_, _^_, _≤_, _<_}
 use mathlib.Core.Path.{_≡_, refl, sym, ap, ap₂, subst, _∙_}
 use mathlib.Core.Bool.{Bool, true, false, cond}
 use mathlib.Core.List.{List, [], _∷_, _++_, append-nil}
 use native.Mathlib.Omega.{arith}
 use native.Mathlib.Nat.{not-suc-le-zero}
-use lib.ListN.{length, take, drop, set, length-append}
-use lib.Seq.{sets}
+use lib.ListN.{length, take, drop, set, length-append, length-drop}
+use lib.Seq.{sets, take-all, drop-length}
+use borrow.Rule.Slice.PartMut.{putMid, postOf, post-is}
 use Rattle.fieldset.proofs.Tables.{sets-append}
 use Rattle.panel.specs.declared.Reply.{Reply}
+use Rattle.panel.specs.declared.Reply.the-variants.{Accepted, Refused}
+use Rattle.panel.proofs.Answers.{refusal-length}
 use Rattle.panel.specs.declared.Refusal.the-variants.{TextTooLong as TooLong}
 use Rattle.panel.specs.Answers.{refusalBytes, replyBytes, isRefusal}
 use Rattle.hex.specs.Hex.{lineOf}
@@ -38,6 +41,10 @@ pub reply-line : (reply : Reply) (bytes before after : List ℕ) (n : ℕ) → r
     → (after ≡ sets before 0 (lineOf (replyBytes reply))) × (n ≡ length (lineOf (replyBytes reply)))
 reply-line reply bytes before after n e put size = (put ∙ ap (λ (b : List ℕ). sets before 0 (lineOf b)) (sym e), omega (arith, size, ap (λ (b : List ℕ). length (lineOf b)) e))
 
+pub reply-short : (reply : Reply) → length (lineOf (replyBytes reply)) ≤ 9
+reply-short (Accepted m) = omega (arith, length-line (replyBytes (Accepted m)))
+reply-short (Refused r) = omega (arith, length-line (replyBytes (Refused r)), refusal-length r .1)
+
 -- ---- the output of a text from a sheet on
 
 module _ (s : Sheet) (text before after : List ℕ) (u : Tally) (r : Outcome) (told : Told lineAnswer s noTally text u before after r) where
@@ -50,9 +57,10 @@ module _ (s : Sheet) (text before after : List ℕ) (u : Tally) (r : Outcome) (t
   pub too-long-told : r ≡ TextTooLong → (last : List ℕ) (n : ℕ) → last ≡ sets after 0 (lineOf (0xFF ∷ refusalBytes TooLong)) → n ≡ length (lineOf (0xFF ∷ refusalBytes TooLong))
       → (last ≡ sets before 0 (outputOf lineAnswer s text)) × ((n ≡ length (outputOf lineAnswer s text)) × (n < 2 ^ 63))
   too-long-told e last n put size =
-      let w = subst (AsWritten lineAnswer s text before after) e (told-output lineAnswer s text u before after r told) in
-      (put ∙ ap₂ (λ (l v : List ℕ). sets l 0 v) (w .1) (sym (w .0)),
-      (size ∙ ap length (sym (w .0)), omega (arith, size, length-line (0xFF ∷ refusalBytes TooLong))))
+      let w = subst (AsWritten lineAnswer s text before after) e (told-output lineAnswer s text u before after r told) in (
+        put ∙ ap₂ (λ (l v : List ℕ). sets l 0 v) (w .1) (sym (w .0)),
+        (size ∙ ap length (sym (w .0)), omega (arith, size, length-line (0xFF ∷ refusalBytes TooLong))),
+      )
 
 -- ---- a store behind the start of a buffer
 
@@ -101,9 +109,13 @@ module _ (saved text : List ℕ) (r : Loaded) (is : answerOf r ≡ read unopened
       resumed-length =
           omega (arith, size, count, ap length taken-resumed, length-append (lineOf (replyBytes (r .reply))) (outputOf lineAnswer (r .sheet) text))
 
-      pub resumed-behind : n ≤ length middle → (rest : List ℕ) → rest ≡ sets (drop n middle) 0 (outputOf lineAnswer (r .sheet) text)
-          → take n middle ++ rest ≡ sets before 0 (resumedOutput saved text)
-      resumed-behind h rest f = ap (λ (x : List ℕ). take n middle ++ x) f ∙ sets-behind n middle (outputOf lineAnswer (r .sheet) text) h ∙ whole
+      pub resumed-behind : n ≤ length middle → (rest : List ℕ) → rest ≡ sets (take (length middle - n) (drop n middle)) 0 (outputOf lineAnswer (r .sheet) text)
+          → putMid n (length middle - n) middle rest ≡ sets before 0 (resumedOutput saved text)
+      resumed-behind h rest f =
+          let part : take (length middle - n) (drop n middle) ≡ drop n middle = take-all (length middle - n) (drop n middle) (omega (arith, length-drop n middle)) in
+          let end : postOf n (length middle - n) middle ≡ [] = post-is n (length middle) middle h ∙ drop-length middle in
+          ap (λ (x : List ℕ). take n middle ++ (rest ++ x)) end ∙ ap (λ (x : List ℕ). take n middle ++ x) (append-nil rest ∙ f ∙ ap (λ (x : List ℕ). sets x 0 (outputOf lineAnswer (r .sheet) text)) part)
+          ∙ sets-behind n middle (outputOf lineAnswer (r .sheet) text) h ∙ whole
 
       pub resumed-full : length middle < n → middle ≡ sets before 0 (resumedOutput saved text)
       resumed-full h = sym (sets-out middle n (outputOf lineAnswer (r .sheet) text) (omega arith)) ∙ whole

@@ -14,7 +14,7 @@ use text::put_too_long;
 use text::run_from;
 use text::sheet_after;
 ghost use mathlib.Core.Path.{_≡_};
-ghost use Prim.Native.Nat.{_^_, _<_};
+ghost use Prim.Native.Nat.{_^_, _≤_, _<_};
 ghost use lib.ListN.{length};
 ghost use lib.Seq.{sets};
 ghost use Rattle.panel.specs.Answers.{replyBytes, isRefusal};
@@ -22,6 +22,7 @@ ghost use Rattle.sheet.specs.Legal.{LegalSheet};
 ghost use Rattle.hex.specs.Hex.{lineOf};
 ghost use Rattle.frames.specs.Texts.{outputOf};
 ghost use Rattle.frames.specs.Frames.{lineAnswer};
+ghost use Rattle.images.specs.Reading.{longest};
 ghost use Rattle.sessions.specs.Sessions.{savedOutput, resumedOutput};
 
 // The saved panel after the lines of a text, from an unopened panel on, or the line of a refusal: its length, and as many of its first bytes as fit the
@@ -30,7 +31,7 @@ ghost use Rattle.sessions.specs.Sessions.{savedOutput, resumedOutput};
 // not_open_not_told, too_long_counted_as_nothing).
 pub fn save_after(text: &[u8], out: &mut [u8]) -> usize
     ensures { λ r. ⌜ now (out .exit) ≡ sets (now (out .entry)) 0 (savedOutput (now (text .entry))) ⌝ }
-    ensures { λ r. ⌜ r ≡ length (savedOutput (now (text .entry))) ⌝ }
+    ensures { λ r. ⌜ (r ≡ length (savedOutput (now (text .entry)))) × (r ≤ longest) ⌝ }
 {
     if is_too_long(text) {
         return put_too_long(out);

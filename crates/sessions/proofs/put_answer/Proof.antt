@@ -20,13 +20,13 @@ returns : tie.Need-returns
 returns c =
     let p = c .before .before in
     let k = p .before .before .before .before in
-    reply-line _ _ _ _ _ (ap replyBytes (k .reply .given .1)) (p .put-line .ensures .0) (p .put-line .ensures .1)
+    reply-line (k .before .before .before .args .reply) _ _ _ _ (ap replyBytes (k .reply .given .1)) (p .put-line .ensures .0) (p .put-line .ensures .1)
 
 returns-2 : tie.Need-returns-2
 returns-2 c =
     let p = c .before .before in
     let k = p .before .before .before in
-    reply-line _ _ _ _ _ (ap replyBytes (k .reply2 .given .1)) (p .put-refusal .ensures .0) (p .put-refusal .ensures .1)
+    reply-line (k .before .before .before .args .reply) _ _ _ _ (ap replyBytes (k .reply2 .given .1)) (p .put-refusal .ensures .0) (p .put-refusal .ensures .1)
 
 pub put-answer-spec : {M : Type 1} → statement M
 put-answer-spec =

@@ -37,8 +37,7 @@ returns : tie.Need-returns
 returns c =
     let p = c .before .before in
     let t = p .before .before in
-    let e = too-long-saved (begin (t .before) .args .text .now) (sym (t .before .is-too-long .ensures) ∙ t .if1 .taken) in
-    (p .put-too-long .ensures .0 ∙ ap (sets _ 0) (sym e), p .put-too-long .ensures .1 ∙ ap length (sym e))
+    too-long-saved (begin (t .before) .args .text .now) (sym (t .before .is-too-long .ensures) ∙ t .if1 .taken) _ _ _ (p .put-too-long .ensures .0) (p .put-too-long .ensures .1)
 
 sheet-after-requires : tie.Need-sheet-after-requires
 sheet-after-requires c κs = short c
@@ -56,7 +55,7 @@ returns-2 c =
     let v = t .before .before .before .before in
     let m = measured v in
     let s = begin (m .before) .args in
-    not-open-written (s .text .now) (short m) _ (answered v .sheet-after .ensures .0) _ _
+    not-open-written (s .text .now) (short m) _ (answered v .sheet-after .ensures .0) (answered v .sheet-after .ensures .1) _ _
     (subst (SavedAs (answered v .sheet-after .result) (s .out .now) _) (t .enum-told .given .1) (v .save .ensures)) _ _ (p .put-refusal .ensures .0) (p .put-refusal .ensures .1)
 
 returns-3 : tie.Need-returns-3
@@ -65,7 +64,7 @@ returns-3 c =
     let v = k .before .before .before .before in
     let m = measured v in
     let s = begin (m .before) .args in
-    length-saved (s .text .now) (short m) _ (answered v .sheet-after .ensures .0) _ _ (k .saved .given .0 .0)
+    length-saved (s .text .now) (short m) _ (answered v .sheet-after .ensures .0) (answered v .sheet-after .ensures .1) _ _ (k .saved .given .0 .0)
     (subst (SavedAs (answered v .sheet-after .result) (s .out .now) _) (k .saved .given .1) (v .save .ensures))
 
 pub save-after-spec : {M : Type 1} → statement M

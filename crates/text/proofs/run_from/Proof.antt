@@ -40,10 +40,11 @@ returns-2 c =
     let e = a .before .before in
     let s = start (e .before) .args in
     let short : isTooLong (s .text .now) ≡ false = sym (e .before .is-too-long .ensures) ∙ e .if1 .left in
-    let t = p .put-tally .ensures in
-    (whole-text _ _ (s .text .now) (s .out .now) _ _ (s .t) _ _ _ (s .s) _ (longest * textLimit) refl (a .answer-lines .ensures .0)
-    (a .answer-lines .ensures .1) (omega (arith, lines-few (s .text .now), ltb-false textLimit (length (s .text .now)) short)) (t .0) (t .1) short,
-    omega (arith, t .1, tally-length (a .answer-lines .result .tally), a .answer-lines .ensures .1 .fits))
+    let t = p .put-tally .ensures in (
+      whole-text _ _ (s .text .now) (s .out .now) _ _ (s .t) _ _ _ (s .s) _ (longest * textLimit) refl (a .answer-lines .ensures .0)
+          (a .answer-lines .ensures .1) (omega (arith, lines-few (s .text .now), ltb-false textLimit (length (s .text .now)) short)) (t .0) (t .1) short,
+      omega (arith, t .1, tally-length (a .answer-lines .result .tally), a .answer-lines .ensures .1 .fits),
+    )
 
 pub run-from-spec : {M : Type 1} → statement M
 run-from-spec =
