@@ -1,7 +1,7 @@
 -- What each way through the test says: of a link, of the links so far, of the plan over the tables, and of the scan. Assumes nothing.
-use Prim.Native.Nat.{ℕ, _+_, _≤_, _<_}
+use Prim.Native.Nat.{ℕ, _+_, _<_}
 use mathlib.Core.Path.{_≡_, refl, sym, ap, fun-ext, _∙_}
-use mathlib.Core.Bool.{Bool, true, false, not, _&&_, _||_, cond, and-false, or-true, or-false}
+use mathlib.Core.Bool.{Bool, true, false, not, _&&_, _||_, and-false, or-true, or-false}
 use mathlib.Core.List.{List}
 use mathlib.Core.Logic.{_≢_}
 use native.Mathlib.Numerals.{add-one}
@@ -12,7 +12,7 @@ use lib.ListN.{length}
 use borrow.Author.Tests.{eq-eqb, ne-eqb}
 use Rattle.fieldset.specs.Numbers.{any}
 use Rattle.fieldset.specs.Tables.{at}
-use Rattle.fieldset.specs.Fields.{member, without}
+use Rattle.fieldset.specs.Fields.{member}
 use Rattle.fieldset.proofs.Numbers.{clash, any-here}
 use Rattle.fieldset.proofs.Fields.{member-empty, without-cases}
 use Rattle.fieldset.proofs.Maps.{tableOf}
@@ -23,16 +23,16 @@ use Rattle.strength.specs.Strength.{strength}
 use Rattle.panel.specs.declared.Standing.the-variants.{Waiting, Holding}
 use Rattle.panel.specs.declared.Link.{Link}
 use Rattle.panel.specs.declared.Panel.{Panel}
-use Rattle.panel.specs.Items.{Item, link, linkAt, isInForce, isWaiting, waits, itemsOf, itemOf, setterOf, readsOf}
-use Rattle.panel.specs.Solution.{level, setterReads, isBlocked, least, leastBlocked, isLooped}
+use Rattle.panel.specs.Items.{Item, linkAt, isInForce, isWaiting, itemsOf}
+use Rattle.panel.specs.Solution.{level, setterReads, least, leastBlocked, isLooped}
 use Rattle.panel.specs.Legal.{Legal}
 use Rattle.panel.proofs.Reversed.{setter-link, setter-stay}
 use Rattle.panel.proofs.InForce.{waiting-force, unused-off}
 use Rattle.tables.specs.Tables.{Tabled, Places}
 use Rattle.tables.proofs.Tables.{panel-table, table-strengths}
 use Rattle.scanning.specs.declared.Blocked.{Blocked}
-use Rattle.scanning.specs.declared.Blocked.the-variants.{Nothing, Link as ALink, Stay as AStay}
-use Rattle.scanning.specs.Scan.{isBlockedBy, leastBlockedBy, foundOf, Names}
+use Rattle.scanning.specs.declared.Blocked.the-variants.{Nothing}
+use Rattle.scanning.specs.Scan.{leastBlockedBy, foundOf, Names}
 use Rattle.scanning.proofs.Over.{strengths-block}
 use Rattle.sheet.specs.declared.Sheet.{Sheet}
 use Rattle.images.specs.Forms.{isFormed}

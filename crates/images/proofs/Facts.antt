@@ -1,9 +1,9 @@
 -- What the tests of a formed panel say, each way. Assumes nothing.
-use Prim.Native.Nat.{ℕ, zero, suc, _+_, _-_, _^_, _≤_, _<_}
-use mathlib.Core.Path.{_≡_, refl, sym, ap, ap₂, _∙_, subst}
-use mathlib.Core.Bool.{Bool, true, false, not, _&&_, _||_, cond, or-true, or-false, false≢true}
+use Prim.Native.Nat.{ℕ, zero, suc, _-_, _^_, _≤_, _<_}
+use mathlib.Core.Path.{_≡_, refl, sym, ap, _∙_, subst}
+use mathlib.Core.Bool.{Bool, true, false, not, _&&_, _||_, cond, or-true, false≢true}
 use mathlib.Core.Logic.{inl, inr}
-use mathlib.Core.List.{List, [], _∷_, _++_}
+use mathlib.Core.List.{List}
 use native.Mathlib.Nat.{not-suc-le-zero}
 use native.Mathlib.Decide.{decLt}
 use native.Mathlib.Omega.{arith}
@@ -12,7 +12,7 @@ use lib.IntN.{ℤ, pos, negsuc}
 use lib.ListN.{length}
 use mir.Syntax.{w32}
 use mir.Val.{SFits}
-use borrow.Author.Tests.{lt-ltb, le-ltb, le-leb, ltb-true, ltb-false, leb-true, eq-eqb, ne-eqb, eqb-true, eqb-false, not-true}
+use borrow.Author.Tests.{lt-ltb, le-ltb, le-leb, ltb-true, ltb-false, leb-true, eq-eqb, ne-eqb, eqb-true, not-true}
 use Rattle.fieldset.specs.Tables.{at}
 use Rattle.fieldset.specs.Fields.{member, size, within, below}
 use Rattle.fieldset.proofs.Tests.{and-left, and-right, and-both, or-left}
@@ -32,7 +32,7 @@ use Rattle.sheet.specs.declared.Sheet.{Sheet}
 use Rattle.sheet.specs.Sheets.{formulaAt}
 use Rattle.sheet.specs.Legal.{Fits}
 use Rattle.images.specs.Images.{fieldAt}
-use Rattle.images.specs.Forms.{every, isWhole, isSize, isPlace, holds, isStanding, usedTest, fitsTest, unusedTest, isLink, isSetter, isNone, isRule, isValue, isFormed}
+use Rattle.images.specs.Forms.{every, isWhole, isSize, isPlace, holds, isStanding, usedTest, fitsTest, isLink, isSetter, isNone, isRule, isValue, isFormed}
 
 pub record HoldFacts (setter : List ℕ) (i outputs f : ℕ) : Type 0 where
   pub field : f < 64

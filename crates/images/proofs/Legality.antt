@@ -1,7 +1,7 @@
 -- A legal panel with formulas and values that fit is formed, and a formed panel that is not unfit is legal. Assumes nothing.
 use Prim.Native.Nat.{ℕ, _≤_, _<_}
 use mathlib.Core.Path.{_≡_, refl, sym, ap, _∙_}
-use mathlib.Core.Logic.{_≢_, inl, inr}
+use mathlib.Core.Logic.{inl, inr}
 use mathlib.Core.Bool.{Bool, true, false, not, _&&_, _||_}
 use mathlib.Core.Option.{Option, none, some}
 use mathlib.Core.List.{List}
@@ -9,12 +9,9 @@ use native.Mathlib.Decide.{decLt}
 use native.Mathlib.Omega.{arith}
 use lib.Dec.{eqb}
 use lib.IntN.{pos}
-use lib.ListN.{length, List·getD-eq-default}
-use mir.Syntax.{w32}
-use mir.Val.{SFits}
+use lib.ListN.{List·getD-eq-default}
 use borrow.Author.Tests.{eq-eqb, eqb-true, not-true}
 use Rattle.fieldset.specs.Tables.{at}
-use Rattle.fieldset.specs.Fields.{member}
 use Rattle.fieldset.proofs.Tests.{or-left, or-right}
 use Rattle.fieldset.proofs.Numbers.{clash, lowest-is, Lowest, any-false, any-none}
 use Rattle.panel.specs.declared.Standing.{Standing}

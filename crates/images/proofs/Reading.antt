@@ -7,11 +7,11 @@ use mathlib.Core.List.{List, [], _∷_}
 use mathlib.Core.Option.{none}
 use native.Mathlib.Omega.{arith}
 use lib.Dec.{eqb}
-use lib.ListN.{length, take}
+use lib.ListN.{length}
 use borrow.Author.Tests.{le-ltb, eq-eqb, eqb-true, not-false}
 use Rattle.fieldset.proofs.Tests.{and-left, and-right, and-both}
 use Rattle.panel.specs.Answers.{isRefusal}
-use Rattle.panel.specs.Commands.{isOpen, Check, checkReply, Passes}
+use Rattle.panel.specs.Commands.{isOpen, checkReply, Passes}
 use Rattle.panel.specs.Solution.{leastBlocked}
 use Rattle.hex.specs.Hex.{isHex, isDigit, areDigits, digitOf, bytesOf, hexOf, lineOf, charOf}
 use Rattle.frames.specs.Texts.{isTooLong, written}

@@ -1,32 +1,25 @@
 -- The lines of a formed panel's text enter that panel. Assumes nothing.
-use Prim.Native.Nat.{ℕ, zero, suc, _+_, _*_, _/_, _%_, _^_, _≤_, _<_}
+use Prim.Native.Nat.{ℕ, zero, suc, _+_, _≤_, _<_}
 use mathlib.Core.Path.{_≡_, refl, sym, ap, ap₂, _∙_}
 use mathlib.Core.Logic.{_≢_, inl, inr}
-use mathlib.Core.Bool.{Bool, true, false, _&&_, cond}
-use mathlib.Core.List.{List, [], _∷_, _++_, map}
+use mathlib.Core.Bool.{Bool, true, false, cond}
+use mathlib.Core.List.{List, [], _∷_, _++_}
 use native.Mathlib.Omega.{arith}
-use lib.Dec.{eqb, ltb}
+use lib.Dec.{eqb}
 use lib.IntN.{ℤ, pos}
-use lib.ListN.{length, getD, take, set, replicate}
+use lib.ListN.{take, set, replicate}
 use lib.Seq.{take-all}
-use mir.Syntax.{w32}
-use mir.Val.{SFits}
-use borrow.Author.Tests.{ltb-true, eq-eqb, ne-eqb, eqb-true}
+use borrow.Author.Tests.{ne-eqb, eqb-true}
 use Rattle.fieldset.specs.Tables.{at, tabulate}
-use Rattle.fieldset.specs.Fields.{member, size}
+use Rattle.fieldset.specs.Fields.{size}
 use Rattle.fieldset.proofs.Tables.{length-tabulate}
-use Rattle.fieldset.proofs.Tests.{and-left, and-right}
 use Rattle.fieldset.proofs.Numbers.{clash, Lowest, lowest-is}
 use Rattle.panel.specs.declared.Standing.{Standing}
 use Rattle.panel.specs.declared.Standing.the-variants.{Waiting, Holding}
 use Rattle.panel.specs.declared.Link.{Link}
-use Rattle.panel.specs.declared.Panel.{Panel}
 use Rattle.panel.specs.Items.{noLink, linkAt}
 use Rattle.panel.specs.Panels.{opened}
 use Rattle.panel.specs.Commands.{coveredIn, outputsIn}
-use Rattle.hex.specs.Hex.{bytesOf}
-use Rattle.frames.specs.Texts.{written}
-use Rattle.lines.specs.Lines.{linesOf}
 use Rattle.values.specs.Limits.{valueAt}
 use Rattle.values.specs.Words.{valueOf, bitsOf}
 use Rattle.values.proofs.Words.{value-bits, bits-small}
@@ -40,13 +33,13 @@ use Rattle.sheet.specs.declared.Sheet.{Sheet}
 use Rattle.images.specs.Images.{gather, fieldBytes, standingByte, linkFrame, linkPiece, formulaFrames, formulaPiece, fourBytes, valuePiece, fieldAt, stayOrder, framesOf, imageOf}
 use Rattle.images.specs.Entries.{standingOf, placed, entered, folded, enteredAll, candidate}
 use Rattle.sheet.specs.Sheets.{unopened, formulaAt}
-use Rattle.frames.specs.Frames.{wordOf, formulaIn}
+use Rattle.frames.specs.Frames.{wordOf}
 use Rattle.images.specs.Forms.{isFormed}
 use Rattle.images.proofs.Lines.{Bytes, Frames, all-gather, frames-written, formula-back}
 use Rattle.images.proofs.Folds.{folded-append, folded-gather}
 use Rattle.images.proofs.FieldBytes.{covered-back, outputs-back, field-bytes, field-count}
 use Rattle.images.proofs.Cuts.{cut, cut-none, cut-all, cut-keep, cut-more, cutSetter, setter-none, setter-all, setter-keep, setter-more, places-back}
-use Rattle.images.proofs.Facts.{Facts, HoldFacts, SetFacts, zero-value, formed-facts}
+use Rattle.images.proofs.Facts.{Facts, zero-value, formed-facts}
 
 -- ---- entering many lines
 

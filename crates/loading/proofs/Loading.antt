@@ -1,18 +1,18 @@
 -- What each way through the reading answers, and BadImage by the sheet's own text in a buffer. Assumes nothing.
 use Prim.Native.Nat.{ℕ, _≤_, _<_}
-use mathlib.Core.Path.{_≡_, refl, sym, ap, _∙_}
-use mathlib.Core.Bool.{Bool, true, false, not, _&&_}
+use mathlib.Core.Path.{_≡_, sym, ap, _∙_}
+use mathlib.Core.Bool.{Bool, true, false, not}
 use mathlib.Core.List.{List, [], _∷_}
 use native.Mathlib.Omega.{arith}
 use borrow.Author.Tests.{lt-ltb, le-ltb}
 use lib.ListN.{length, take}
-use lib.Seq.{sets, length-sets}
+use lib.Seq.{sets}
 use Rattle.panel.specs.declared.Refusal.the-variants.{TextTooLong, AlreadyOpen, UnknownVersion, BadImage, Unfit}
 use Rattle.panel.specs.Commands.{isOpen, checkReply}
 use Rattle.hex.proofs.Stores.{start-fits, start-is}
 use Rattle.frames.specs.Texts.{isTooLong}
 use Rattle.sheet.specs.declared.Sheet.{Sheet}
-use Rattle.sheet.specs.Commands.{Answer, refused}
+use Rattle.sheet.specs.Commands.{refused}
 use Rattle.images.specs.Images.{imageOf}
 use Rattle.images.specs.Entries.{candidate}
 use Rattle.images.specs.Forms.{isFormed}

@@ -1,16 +1,14 @@
 -- The first four characters of a text: each way through the test of the version. Assumes nothing.
 use Prim.Native.Nat.{ℕ, _+_, _≤_, _<_}
 use mathlib.Core.Path.{_≡_, refl, sym, ap, _∙_}
-use mathlib.Core.Bool.{Bool, true, false, not, _&&_, cond, and-false}
+use mathlib.Core.Bool.{Bool, true, false, not, cond, and-false}
 use mathlib.Core.List.{List, [], _∷_, _++_}
-use mathlib.Core.Logic.{_≢_}
 use native.Mathlib.Omega.{arith}
 use lib.Dec.{eqb}
 use lib.ListN.{length, getD, take, drop, List·getD-append}
 use lib.Seq.{sets-eq, length-take-le, take-all}
 use borrow.Author.Tests.{eq-eqb, ne-eqb}
 use Rattle.fieldset.specs.Tables.{at}
-use Rattle.fieldset.proofs.Numbers.{clash}
 use Rattle.hex.specs.Hex.{isHex, offsetOf, bytesOf}
 use Rattle.hex.specs.Answers.{decodedValues, decoded, frameAfter}
 use Rattle.hex.specs.declared.Decoded.{Decoded}

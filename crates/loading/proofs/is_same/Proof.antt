@@ -1,7 +1,6 @@
 -- `loading::is_same` meets its contract. Assumes nothing.
 use borrow.Author.Needs.{needs}
-use mathlib.Core.Path.{_≡_, refl, sym, ap, _∙_}
-use Prim.Native.Nat.{ℕ, _-_, _≤_, _<_, _^_}
+use Prim.Native.Nat.{_-_}
 use native.Mathlib.Omega.{arith}
 use Rattle.loading.proofs.Comparing.{same-longer, Alike, alike-none, alike-on, alike-not, alike-all}
 use Rattle.loading.proofs.is_same.Statement.{statement}

@@ -1,6 +1,6 @@
 -- `panel_resume::tell` is safe, and passes on the line of the reply: it fits the buffer, so what is passed on is all of it (`start-is`). Assumes nothing.
 use Prim.Native.Nat.{ℕ}
-use mathlib.Core.Path.{_≡_, refl, sym, ap, _∙_}
+use mathlib.Core.Path.{_≡_, sym, ap, _∙_}
 use mathlib.Core.List.{List}
 use native.Mathlib.Omega.{arith}
 use borrow.Author.Needs.{needs}

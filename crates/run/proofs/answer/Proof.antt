@@ -1,5 +1,5 @@
 -- `run::answer` meets its contract: what is passed on starts from the sheet of an unopened panel.
-use mathlib.Core.Path.{_≡_, ap, _∙_}
+use mathlib.Core.Path.{ap, _∙_}
 use borrow.Author.Needs.{needs}
 use lib.ListN.{length}
 use Rattle.frames.specs.Texts.{outputOf}

@@ -1,5 +1,5 @@
 -- `sessions::is_refusal` meets its contract: a reply's first byte is 00, and a refusal's FF.
-use mathlib.Core.Path.{_≡_, sym, ap}
+use mathlib.Core.Path.{sym, ap}
 use borrow.Author.Needs.{needs}
 use Rattle.panel.specs.declared.Reply.{Reply}
 use Rattle.panel.specs.Answers.{replyBytes, isRefusal}

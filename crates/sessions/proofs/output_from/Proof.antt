@@ -1,5 +1,4 @@
 -- `sessions::output_from` meets its contract: what is told of a text is what the program writes for it.
-use mathlib.Core.Path.{_≡_}
 use borrow.Author.Needs.{needs}
 use Rattle.sessions.proofs.Resuming.{length-told, too-long-told}
 use Rattle.sessions.proofs.output_from.Statement.{statement}

@@ -1,10 +1,9 @@
 -- `sessions::put_answer` meets its contract: by cases on the reply.
-use mathlib.Core.Path.{_≡_, ap}
+use mathlib.Core.Path.{ap}
 use mathlib.Core.List.{_∷_}
 use native.Mathlib.Omega.{arith}
 use borrow.Author.Needs.{needs}
 use Rattle.hex.proofs.Bytes.{length-line}
-use Rattle.panel.specs.declared.Reply.{Reply}
 use Rattle.panel.specs.Answers.{refusalBytes, replyBytes}
 use Rattle.panel.proofs.Answers.{refusal-length}
 use Rattle.sessions.proofs.Resuming.{reply-line}

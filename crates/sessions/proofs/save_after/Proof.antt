@@ -1,17 +1,13 @@
 -- `sessions::save_after` meets its contract: by cases on the text's length and on what saving answers.
-use mathlib.Core.Path.{_≡_, sym, ap, subst, _∙_}
+use mathlib.Core.Path.{_≡_, sym, subst, _∙_}
 use mathlib.Core.Bool.{false}
-use mathlib.Core.List.{List, _∷_}
+use mathlib.Core.List.{_∷_}
 use native.Mathlib.Omega.{arith}
 use borrow.Author.Needs.{needs}
-use lib.ListN.{length}
-use lib.Seq.{sets}
-use Rattle.hex.specs.Hex.{lineOf}
 use Rattle.hex.proofs.Bytes.{length-line}
 use Rattle.panel.specs.declared.Refusal.the-variants.{NotOpen}
 use Rattle.panel.specs.Answers.{refusalBytes}
 use Rattle.frames.specs.Texts.{isTooLong}
-use Rattle.saving.specs.declared.Saved.{Saved}
 use Rattle.saving.specs.Saves.{SavedAs}
 use Rattle.sessions.proofs.Saving.{too-long-saved, length-saved, not-open-written}
 use Rattle.sessions.proofs.save_after.Statement.{statement}
