@@ -31,6 +31,8 @@ fn tell(saved: &[u8], r: Loaded) -> bool
 }
 
 // Answers the text on standard input from a saved panel on. Where a read fails nothing is written.
+// The contracts of what it calls rule out, for instance, another line for the reply and a text answered after a refused reading (must-fail:
+// another_reply_told, answered_where_refused).
 fn resume(saved: &[u8]) {
     let r = load(saved, unopened());
     let reply = r.reply;

@@ -27,8 +27,8 @@ ghost use Rattle.sessions.specs.Sessions.{savedOutput, resumedOutput};
 
 // The saved panel after the lines of a text, from an unopened panel on, or the line of a refusal: its length, and as many of its first bytes as fit the
 // buffer.
-// The contract rules out, for instance, nothing written where no panel is open and another length for a text that is too long (must-fail:
-// not_open_not_told, too_long_counted_as_nothing).
+// The contract rules out, for instance, a line of NotOpen that is not at the start and another line for a text that is too long (must-fail:
+// not_open_not_told, too_long_told_as_not_open).
 pub fn save_after(text: &[u8], out: &mut [u8]) -> usize
     ensures { λ r. ⌜ now (out .exit) ≡ sets (now (out .entry)) 0 (savedOutput (now (text .entry))) ⌝ }
     ensures { λ r. ⌜ (r ≡ length (savedOutput (now (text .entry)))) × (r ≤ longest) ⌝ }
