@@ -1,6 +1,7 @@
 // Standard input, or the file that a program's argument names, read into a buffer.
 use libc::STDIN_FILENO;
 ghost use mathlib.Core.Path.{_≡_};
+ghost use mathlib.Core.Bool.{false};
 ghost use Prim.Native.Nat.{_≤_};
 ghost use lib.ListN.{length};
 
@@ -42,7 +43,7 @@ pub fn read_input(buffer: &mut [u8]) -> Input
 
 // Nothing was read, and that is not the end of an input.
 fn unread() -> Input
-    ensures { λ r. ⌜ r .len ≡ 0 ⌝ }
+    ensures { λ r. ⌜ (r .len ≡ 0) × (r .whole ≡ false) ⌝ }
 {
     Input {
         len: 0,

@@ -75,7 +75,7 @@ pub enum Refusal {
     BadImage,
     // a saved text of a version that is not known
     UnknownVersion,
-    // a saved panel that no commands lead to
+    // a saved panel that has a loop, a blocked link or stay, or a required link that waits
     Unfit,
 }
 

@@ -9,7 +9,7 @@ ghost use Rattle.frames.specs.Texts.{isTooLong};
 ghost use Rattle.sheet.specs.Sheets.{unopened};
 ghost use Rattle.frames.specs.Frames.{lineAnswer};
 ghost use Rattle.text.specs.Outcomes.{wholeOutput, bufferAfter, tallyAtEnd, fieldsAfter, valuesAfter};
-ghost use Rattle.sessions.specs.Sessions.{savedOutput, resumedOutput};
+ghost use Rattle.sessions.specs.Sessions.{savedText, resumedOutput};
 ghost use Rattle.panel_c.specs.Lengths.{lengthOf};
 
 // The number that stands for a text's outcome: the length of the whole output, 0 where the text is too long.
@@ -44,13 +44,14 @@ pub extern "C" fn panel_values(text: &[u8], values: &mut [i32; 64]) -> usize
     text::values_after(text, values)
 }
 
-// The saved panel that the lines of a text leave, or the line of a refusal: the length of it, of which the buffer holds as many first bytes as fit.
+// The saved panel that the lines of a text leave: the length of it, of which the buffer holds as many first bytes as fit. Where the text is too long, or no
+// panel is open after it, the answer is 0, and the buffer as it was.
 #[no_mangle]
 pub extern "C" fn panel_saved(text: &[u8], out: &mut [u8]) -> usize
-    ensures { λ r. ⌜ r ≡ length (savedOutput (now (text .entry))) ⌝ }
-    ensures { λ r. ⌜ now (out .exit) ≡ sets (now (out .entry)) 0 (savedOutput (now (text .entry))) ⌝ }
+    ensures { λ r. ⌜ r ≡ length (savedText (now (text .entry))) ⌝ }
+    ensures { λ r. ⌜ now (out .exit) ≡ sets (now (out .entry)) 0 (savedText (now (text .entry))) ⌝ }
 {
-    sessions::save_after(text, out)
+    sessions::save_text(text, out)
 }
 
 // The reply to the reading of a saved text as a line, and, where it is taken in, the output of a text from there on: the length of it, of which the buffer

@@ -1,4 +1,4 @@
--- Saving (document 02, request 7): "A text is written only from an open one (else NotOpen, the lent buffer unchanged)".
+-- Saving (document 02, request 7): a text is "written only from an open one (else NotOpen, the lent buffer unchanged)".
 use Prim.Native.Nat.{ℕ}
 use mathlib.Core.Path.{_≡_}
 use mathlib.Core.Bool.{cond}

@@ -2,7 +2,7 @@
 use Prim.Native.Nat.{ℕ, _+_, _≤_}
 use mathlib.Core.Path.{_≡_, refl, sym, ap, ap₂, _∙_}
 use mathlib.Core.Bool.{Bool, true, false, cond}
-use mathlib.Core.List.{List, _∷_}
+use mathlib.Core.List.{List, [], _∷_}
 use native.Mathlib.Omega.{arith}
 use lib.ListN.{length}
 use lib.Seq.{sets}
@@ -21,9 +21,10 @@ use Rattle.frames.specs.Frames.{sheetAfter}
 use Rattle.images.specs.Images.{imageOf}
 use Rattle.images.specs.Reading.{version, longest}
 use Rattle.images.proofs.Lengths.{legal-length}
+use Rattle.saving.specs.declared.Saved.{Saved}
 use Rattle.saving.specs.declared.Saved.the-variants.{NotOpen, Length}
 use Rattle.saving.specs.Saves.{SavedAs, lengthBytes, notOpen}
-use Rattle.sessions.specs.Sessions.{savedOf, savedOutput}
+use Rattle.sessions.specs.Sessions.{Short, textOf, savedText, savedOf, savedOutput}
 
 -- what is written for a text into a buffer, and how many bytes it has
 abbrev Written : List ℕ → List ℕ → List ℕ → ℕ → Type 0
@@ -39,34 +40,68 @@ too-long-saved text e before after n put size =
     let whole : savedOutput text ≡ lineOf tooLong = rw e in
     (put ∙ ap (sets before 0) (sym whole), (size ∙ ap length (sym whole), omega (arith, size, length-line tooLong)))
 
-module _ (text : List ℕ) (short : isTooLong text ≡ false) (s : Sheet) (is : s ≡ sheetAfter unopened (linesOf text)) (legal : LegalSheet s) (before after : List ℕ) where
-  output : savedOutput text ≡ savedOf s
+module _ (text before after : List ℕ) (short : isTooLong text ≡ false) where
+  -- the sheet after the text's lines
+  abbrev sheet : Sheet
+  sheet = sheetAfter unopened (linesOf text)
+
+  output : savedOutput text ≡ savedOf sheet
   unfolding savedOutput
-  output = rw (short, ← is)
+  output = rw short
+
+  image : savedText text ≡ textOf sheet
+  unfolding savedText
+  image = rw short
 
   -- by what saving answers it is known whether the panel is open
-  pub length-saved : (n : ℕ) → SavedAs s before after (Length n) → Written text before after n
-  length-saved n a = go (isOpen (s .panel)) refl (a .answer) (a .buffer)
-    where
-      go : (b : Bool) → isOpen (s .panel) ≡ b → lengthBytes n ≡ cond b (lengthBytes (length (imageOf version s))) notOpen → after ≡ cond b (sets before 0 (imageOf version s)) before
-          → Written text before after n
-      go true o e f =
-          let whole : savedOutput text ≡ imageOf version s = output ∙ rw o refl in
-          let size : n ≡ length (imageOf version s) = ap (λ (x : List ℕ). at x 1) e in
-          (f ∙ ap (sets before 0) (sym whole), (size ∙ ap length (sym whole), omega (arith, size, legal-length version s legal)))
-      go false o e f = absurd (let z : _≡_ {A = ℕ} 0x00 0xFF = ap (λ (x : List ℕ). at x 0) e in omega arith)
+  module _ (n : ℕ) (a : SavedAs sheet before after (Length n)) where
+    opened : (isOpen (sheet .panel) ≡ true) × ((n ≡ length (imageOf version sheet)) × (after ≡ sets before 0 (imageOf version sheet)))
+    opened = go (isOpen (sheet .panel)) refl (a .answer) (a .buffer)
+      where
+        go : (b : Bool) → isOpen (sheet .panel) ≡ b → lengthBytes n ≡ cond b (lengthBytes (length (imageOf version sheet))) notOpen
+            → after ≡ cond b (sets before 0 (imageOf version sheet)) before
+            → (isOpen (sheet .panel) ≡ true) × ((n ≡ length (imageOf version sheet)) × (after ≡ sets before 0 (imageOf version sheet)))
+        go true o e f = (o, (ap (λ (x : List ℕ). at x 1) e, f))
+        go false o e f = absurd (let z : _≡_ {A = ℕ} 0x00 0xFF = ap (λ (x : List ℕ). at x 0) e in omega arith)
 
-  not-open-saved : SavedAs s before after NotOpen → (after ≡ before) × (savedOutput text ≡ lineOf notOpen)
-  not-open-saved a = go (isOpen (s .panel)) refl (a .answer) (a .buffer)
-    where
-      go : (b : Bool) → isOpen (s .panel) ≡ b → notOpen ≡ cond b (lengthBytes (length (imageOf version s))) notOpen → after ≡ cond b (sets before 0 (imageOf version s)) before
-          → (after ≡ before) × (savedOutput text ≡ lineOf notOpen)
-      go true o e f = absurd (let z : _≡_ {A = ℕ} 0xFF 0x00 = ap (λ (x : List ℕ). at x 0) e in omega arith)
-      go false o e f = (f, output ∙ rw o refl)
+    length-short : LegalSheet sheet → n ≤ longest
+    length-short legal = omega (arith, opened .1 .0, legal-length version sheet legal)
 
-  -- and then its line is written
-  pub not-open-written : SavedAs s before after NotOpen → (last : List ℕ) (n : ℕ) → last ≡ sets after 0 (lineOf notOpen) → n ≡ 0 + length (lineOf notOpen)
-      → Written text before last n
-  not-open-written a last n put size =
-      let (kept, whole) = not-open-saved a in
-      (put ∙ ap₂ (λ (l v : List ℕ). sets l 0 v) kept (sym whole), (omega (arith, size, ap length whole), omega (arith, size, length-line notOpen)))
+    pub length-saved : n ≤ longest → Written text before after n
+    length-saved few =
+        let whole : savedOutput text ≡ imageOf version sheet = output ∙ rw (opened .0) refl in
+        (opened .1 .1 ∙ ap (sets before 0) (sym whole), (opened .1 .0 ∙ ap length (sym whole), few))
+
+    pub length-text : (after ≡ sets before 0 (savedText text)) × (n ≡ length (savedText text))
+    length-text =
+        let whole : savedText text ≡ imageOf version sheet = image ∙ rw (opened .0) refl in
+        (opened .1 .1 ∙ ap (sets before 0) (sym whole), opened .1 .0 ∙ ap length (sym whole))
+
+  module _ (a : SavedAs sheet before after NotOpen) where
+    closed : (isOpen (sheet .panel) ≡ false) × (after ≡ before)
+    closed = go (isOpen (sheet .panel)) refl (a .answer) (a .buffer)
+      where
+        go : (b : Bool) → isOpen (sheet .panel) ≡ b → notOpen ≡ cond b (lengthBytes (length (imageOf version sheet))) notOpen
+            → after ≡ cond b (sets before 0 (imageOf version sheet)) before → (isOpen (sheet .panel) ≡ false) × (after ≡ before)
+        go true o e f = absurd (let z : _≡_ {A = ℕ} 0xFF 0x00 = ap (λ (x : List ℕ). at x 0) e in omega arith)
+        go false o e f = (o, f)
+
+    -- its line is then written
+    pub not-open-saved : (last : List ℕ) (n : ℕ) → last ≡ sets after 0 (lineOf notOpen) → n ≡ 0 + length (lineOf notOpen) → Written text before last n
+    not-open-saved last n put size =
+        let whole : savedOutput text ≡ lineOf notOpen = output ∙ rw (closed .0) refl in
+        (put ∙ ap₂ (λ (l v : List ℕ). sets l 0 v) (closed .1) (sym whole), (omega (arith, size, ap length whole), omega (arith, size, length-line notOpen)))
+
+    pub not-open-text : (after ≡ sets before 0 (savedText text)) × (0 ≡ length (savedText text))
+    not-open-text =
+        let whole : savedText text ≡ [] = image ∙ rw (closed .0) refl in
+        (closed .1 ∙ ap (sets before 0) (sym whole), ap length (sym whole))
+
+  -- a length that is told is that of no longer text
+  pub saved-short : (r : Saved) → SavedAs sheet before after r → LegalSheet sheet → Short r
+  saved-short NotOpen a legal = tt
+  saved-short (Length n) a legal = length-short n a legal
+
+pub too-long-text : (text before : List ℕ) → isTooLong text ≡ true → (before ≡ sets before 0 (savedText text)) × (0 ≡ length (savedText text))
+unfolding savedText
+too-long-text text before e = let whole : savedText text ≡ [] = rw e in (ap (sets before 0) (sym whole), ap length (sym whole))

@@ -14,21 +14,50 @@ use text::put_too_long;
 use text::run_from;
 use text::sheet_after;
 ghost use mathlib.Core.Path.{_≡_};
+ghost use mathlib.Core.Bool.{false};
 ghost use Prim.Native.Nat.{_^_, _≤_, _<_};
 ghost use lib.ListN.{length};
 ghost use lib.Seq.{sets};
 ghost use Rattle.panel.specs.Answers.{replyBytes, isRefusal};
 ghost use Rattle.sheet.specs.Legal.{LegalSheet};
 ghost use Rattle.hex.specs.Hex.{lineOf};
-ghost use Rattle.frames.specs.Texts.{outputOf};
-ghost use Rattle.frames.specs.Frames.{lineAnswer};
+ghost use Rattle.lines.specs.Lines.{linesOf};
+ghost use Rattle.frames.specs.Texts.{isTooLong, outputOf};
+ghost use Rattle.frames.specs.Frames.{lineAnswer, sheetAfter};
+ghost use Rattle.sheet.specs.Sheets.{unopened};
 ghost use Rattle.images.specs.Reading.{longest};
-ghost use Rattle.sessions.specs.Sessions.{savedOutput, resumedOutput};
+ghost use Rattle.saving.specs.Saves.{SavedAs};
+ghost use Rattle.sessions.specs.Sessions.{Short, savedText, savedOutput, resumedOutput};
 
-// The saved panel after the lines of a text, from an unopened panel on, or the line of a refusal: its length, and as many of its first bytes as fit the
-// buffer.
+// Saves the panel that the lines of a text leave, from an unopened panel on.
+fn save_lines(text: &[u8], out: &mut [u8]) -> Saved
+    requires { ⌜ isTooLong (now text) ≡ false ⌝ }
+    ensures { λ r. ⌜ SavedAs (sheetAfter unopened (linesOf (now (text .entry)))) (now (out .entry)) (now (out .exit)) r ⌝ }
+    ensures { λ r. ⌜ Short r ⌝ }
+{
+    let s = sheet_after(text);
+    save(s, out)
+}
+
+// The saved panel after the lines of a text: its length, and as many of its first bytes as fit the buffer. Where the text is too long, or no panel is
+// open after it, the buffer is as it was, and the answer 0.
+pub fn save_text(text: &[u8], out: &mut [u8]) -> usize
+    ensures { λ r. ⌜ now (out .exit) ≡ sets (now (out .entry)) 0 (savedText (now (text .entry))) ⌝ }
+    ensures { λ r. ⌜ r ≡ length (savedText (now (text .entry))) ⌝ }
+{
+    if is_too_long(text) {
+        return 0;
+    }
+    let saved = save_lines(text, out);
+    match saved {
+        Saved::NotOpen => 0,
+        Saved::Length(n) => n,
+    }
+}
+
+// The same with the line of the refusal where there is one: its length, and as many of its first bytes as fit the buffer.
 // The contract rules out, for instance, a line of NotOpen that is not at the start and another line for a text that is too long (must-fail:
-// not_open_not_told, too_long_told_as_not_open).
+// not_open_behind_the_start, too_long_told_as_not_open).
 pub fn save_after(text: &[u8], out: &mut [u8]) -> usize
     ensures { λ r. ⌜ now (out .exit) ≡ sets (now (out .entry)) 0 (savedOutput (now (text .entry))) ⌝ }
     ensures { λ r. ⌜ (r ≡ length (savedOutput (now (text .entry)))) × (r ≤ longest) ⌝ }
@@ -36,8 +65,7 @@ pub fn save_after(text: &[u8], out: &mut [u8]) -> usize
     if is_too_long(text) {
         return put_too_long(out);
     }
-    let s = sheet_after(text);
-    let saved = save(s, out);
+    let saved = save_lines(text, out);
     match saved {
         Saved::NotOpen => put_refusal(out, 0, Refusal::NotOpen),
         Saved::Length(n) => n,

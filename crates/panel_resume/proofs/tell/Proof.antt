@@ -1,4 +1,4 @@
--- `panel_resume::tell` is safe, and passes on the line of the reply: it fits the buffer, so what is passed on is all of it (`start-is`). Assumes nothing.
+-- `panel_resume::tell` meets its contract: the line of the reply fits the buffer, so what is passed on is all of it (`start-is`). Assumes nothing.
 use Prim.Native.Nat.{ℕ}
 use mathlib.Core.Path.{_≡_, sym, ap, _∙_}
 use mathlib.Core.List.{List}
@@ -32,7 +32,11 @@ send-requires c κs =
     let m = c .before .before in
     is-line m ∙ ap (λ (a : Answer). lineOf (a .reply)) (m .before .before .before .pre)
 
+returns : tie.Need-returns
+returns c =
+    let m = c .before .before .before in
+    c .send .ensures ∙ ap length (is-line m ∙ ap (λ (a : Answer). lineOf (a .reply)) (m .before .before .before .pre))
+
 pub tell-spec : {M : Type 1} → statement M
 tell-spec =
-    tie.close
-    (tie.spec (λ c. search needs) (λ c κs. search needs) array-share-prefix-out slice-aggregate-send send-requires (λ c. search needs))
+    tie.close (tie.spec (λ c. search needs) (λ c κs. search needs) array-share-prefix-out slice-aggregate-send send-requires returns)

@@ -7,25 +7,26 @@ use borrow.Author.Needs.{needs}
 use Rattle.hex.proofs.Bytes.{length-line}
 use Rattle.panel.specs.declared.Refusal.the-variants.{NotOpen}
 use Rattle.panel.specs.Answers.{refusalBytes}
+use Rattle.sheet.specs.Sheets.{unopened}
+use Rattle.lines.specs.Lines.{linesOf}
 use Rattle.frames.specs.Texts.{isTooLong}
+use Rattle.frames.specs.Frames.{sheetAfter}
 use Rattle.saving.specs.Saves.{SavedAs}
-use Rattle.sessions.proofs.Saving.{too-long-saved, length-saved, not-open-written}
+use Rattle.sessions.specs.Sessions.{Short}
+use Rattle.sessions.proofs.Saving.{too-long-saved, length-saved, not-open-saved}
 use Rattle.sessions.proofs.save_after.Statement.{statement}
 use Rattle.sessions.proofs.save_after.Tie as tie
 
--- ---- the places: the text's length is seen, its lines are answered, the panel is saved
+-- ---- the places: the text's length is seen, the panel is saved
 
 abbrev begin : tie.After-is-too-long → tie.Start
 begin c = c .before .before .before
 
-abbrev measured : tie.After-save → tie.Else1
-measured c = c .before .before .before
-
-abbrev answered : tie.After-save → tie.After-sheet-after
-answered c = c .before .before
-
 short : (c : tie.Else1) → isTooLong (begin (c .before) .args .text .now) ≡ false
 short c = sym (c .before .is-too-long .ensures) ∙ c .if1 .left
+
+abbrev measured : tie.After-save-lines → tie.Else1
+measured c = c .before .before
 
 -- ---- the needs
 
@@ -35,11 +36,8 @@ returns c =
     let t = p .before .before in
     too-long-saved (begin (t .before) .args .text .now) (sym (t .before .is-too-long .ensures) ∙ t .if1 .taken) _ _ _ (p .put-too-long .ensures .0) (p .put-too-long .ensures .1)
 
-sheet-after-requires : tie.Need-sheet-after-requires
-sheet-after-requires c κs = short c
-
-save-requires : tie.Need-save-requires
-save-requires c κs = c .before .sheet-after .ensures .1 .panel .few
+save-lines-requires : tie.Need-save-lines-requires
+save-lines-requires c κs = short (c .before)
 
 put-refusal-requires : tie.Need-put-refusal-requires
 put-refusal-requires c κs = omega (arith, length-line (0xFF ∷ refusalBytes NotOpen))
@@ -51,8 +49,9 @@ returns-2 c =
     let v = t .before .before .before .before in
     let m = measured v in
     let s = begin (m .before) .args in
-    not-open-written (s .text .now) (short m) _ (answered v .sheet-after .ensures .0) (answered v .sheet-after .ensures .1) _ _
-    (subst (SavedAs (answered v .sheet-after .result) (s .out .now) _) (t .enum-told .given .1) (v .save .ensures)) _ _ (p .put-refusal .ensures .0) (p .put-refusal .ensures .1)
+    not-open-saved (s .text .now) (s .out .now) (v .save-lines .last .1 .0) (short m)
+    (subst (SavedAs (sheetAfter unopened (linesOf (s .text .now))) (s .out .now) (v .save-lines .last .1 .0)) (t .enum-told .given .1) (v .save-lines .ensures .0))
+    _ _ (p .put-refusal .ensures .0) (p .put-refusal .ensures .1)
 
 returns-3 : tie.Need-returns-3
 returns-3 c =
@@ -60,8 +59,9 @@ returns-3 c =
     let v = k .before .before .before .before in
     let m = measured v in
     let s = begin (m .before) .args in
-    length-saved (s .text .now) (short m) _ (answered v .sheet-after .ensures .0) (answered v .sheet-after .ensures .1) _ _ (k .saved .given .0 .0)
-    (subst (SavedAs (answered v .sheet-after .result) (s .out .now) _) (k .saved .given .1) (v .save .ensures))
+    length-saved (s .text .now) (s .out .now) (v .save-lines .last .1 .0) (short m) (k .saved .given .0 .0)
+    (subst (SavedAs (sheetAfter unopened (linesOf (s .text .now))) (s .out .now) (v .save-lines .last .1 .0)) (k .saved .given .1) (v .save-lines .ensures .0))
+    (subst Short (k .saved .given .1) (v .save-lines .ensures .1))
 
 pub save-after-spec : {M : Type 1} → statement M
 save-after-spec =
@@ -71,8 +71,7 @@ save-after-spec =
     (λ c κs. search needs)
     (λ c. search needs)
     returns
-    sheet-after-requires
-    save-requires
+    save-lines-requires
     (λ c. search needs)
     put-refusal-requires
     (λ c. search needs)
