@@ -97,8 +97,8 @@ pub fn values_proved(text: &[u8], values: &mut [i32; 64]) -> usize {
 }
 
 /// Runs the proved solver on a text, from an unopened panel, and writes the saved panel
-/// after it, or the line of a refusal. The answer is the length of what is written, of
-/// which `out` gets as many first bytes as fit.
+/// after it. The answer is its length, of which `out` gets as many first bytes as fit.
+/// Where no panel is open, or the text is too long, it is 0, and `out` is as it was.
 pub fn saved_proved(text: &[u8], out: &mut [u8]) -> usize {
     // SAFETY: each pair is the pointer and the length of a live slice, and `out` is
     // borrowed by this function alone; the function called asks no more.

@@ -107,7 +107,12 @@ pub unsafe extern "C" fn panel_saved(
 ) -> usize {
     let text = unsafe { std::slice::from_raw_parts(text, text_len) };
     let out = unsafe { std::slice::from_raw_parts_mut(out, out_len) };
-    written(&plain::save_text(text), out)
+    let output = plain::save_text(text);
+    // a refusal, which the program writes as a line, is not written here
+    match output.starts_with(b"FF") {
+        true => 0,
+        false => written(&output, out),
+    }
 }
 
 /// See `sides`.

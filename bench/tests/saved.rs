@@ -41,18 +41,28 @@ fn resumed(saved: &[u8], text: &[u8], expected: &[u8]) -> Vec<u8> {
     written(expected.len(), |out| resumed_proved(saved, text, out))
 }
 
+/// What is to be saved after a text, as the plain solver gives it: of a refusal, which
+/// the program writes as a line, nothing.
+fn expected_panel(text: &[u8]) -> Vec<u8> {
+    let output = save_text(text);
+    match output.starts_with(b"FF") {
+        true => Vec::new(),
+        false => output,
+    }
+}
+
 /// Compares what is saved after a text with what the plain solver saves, and gives it; a
 /// difference is shown on the shortest text found.
 fn check_saved(text: &[u8]) -> Vec<u8> {
-    let expected = save_text(text);
+    let expected = expected_panel(text);
     if saved(text, &expected) == expected {
         return expected;
     }
     let short = shorten(text, |text| {
-        let expected = save_text(text);
+        let expected = expected_panel(text);
         saved(text, &expected) != expected
     });
-    let expected = save_text(&short);
+    let expected = expected_panel(&short);
     let name = String::from_utf8_lossy(&short).to_string();
     check_output(&name, &saved(&short, &expected), &expected);
     panic!("{name:?}: no difference the second time");
@@ -134,10 +144,10 @@ fn buffers_of_every_length() {
             check_lengths(&panel.saved, |out| saved_proved(&panel.text, out));
         }
     }
-    check_lengths(b"FF04\n", |out| saved_proved(b"", out));
-    check_lengths(b"FF04\n", |out| saved_proved(b"0100\n", out));
+    check_lengths(b"", |out| saved_proved(b"", out));
+    check_lengths(b"", |out| saved_proved(b"0100\n", out));
     let over = vec![b'\n'; TEXT_LIMIT + 1];
-    check_lengths(b"FF0C\n", |out| saved_proved(&over, out));
+    check_lengths(b"", |out| saved_proved(&over, out));
     for text in resumed::all() {
         let (saved, lines) = (&text.saved, &text.lines.text);
         check_lengths(&text.output(), |out| resumed_proved(saved, lines, out));
@@ -180,7 +190,7 @@ fn each_call_starts_unopened() {
     );
     for _ in 0..2 {
         check_output("saved", &saved(text, one), one);
-        check_output("unopened", &saved(b"05\n", b"FF04\n"), b"FF04\n");
+        check_output("unopened", &saved(b"05\n", b""), b"");
         let answered = b"0000\n0000\nEE00000100000100000000\n";
         let given = resumed(one, b"070100000005\n", answered);
         check_output("resumed", &given, answered);
@@ -198,7 +208,7 @@ fn limit_of_a_text() {
     check_output("saved", &saved(&text, expected), expected);
     check_resumed(ONE_FIELD, &text);
     text.push(b'\n');
-    check_output("over", &saved(&text, b"FF0C\n"), b"FF0C\n");
+    check_output("over", &saved(&text, b""), b"");
     let over = resumed(ONE_FIELD, &text, b"0000\nFF0C\n");
     check_output("over", &over, b"0000\nFF0C\n");
     let over = resumed(&text, &text, b"FF0C\n");
@@ -280,7 +290,7 @@ fn random_texts_resumed() {
 /// far as they are no longer than this.
 fn short_panels(texts: u64, length: usize) -> Vec<Vec<u8>> {
     let worked = panels::all().into_iter().map(|panel| panel.saved);
-    let random = (0..texts).map(|seed| save_text(&generate::text(seed)));
+    let random = (0..texts).map(|seed| expected_panel(&generate::text(seed)));
     let opened = random.filter(|saved| saved.starts_with(b"0A"));
     let mut saved: Vec<Vec<u8>> = worked.chain(opened).collect();
     saved.retain(|saved| saved.len() <= length);
