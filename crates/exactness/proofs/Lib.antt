@@ -5,4 +5,5 @@ pub mod Lists
 pub mod Changes
 pub mod Redraws
 pub mod Longest
+pub mod Unknown
 pub mod Saved

@@ -45,6 +45,7 @@ use Rattle.exactness.specs.Saved.{TakenBack, WrittenSame, OneText, Longe
 use Rattle.exactness.proofs.Beginnings.{none-blocked}
 use Rattle.exactness.proofs.Longest.{longSheet, long-length, long-formed, long-fit}
 use Rattle.exactness.proofs.Values.{differ}
+use Rattle.exactness.proofs.Unknown.{unknown-begins, known-begins}
 use Rattle.exactness.proofs.Lists.{sound-after, legal-after}
 
 -- ---- one panel, one text
@@ -158,16 +159,16 @@ reading-exactly u text = go (isTooLong text) refl (isOpen (u .panel)) refl (isUn
         → (e : Bool) → isUnfit (candidate text .panel) ≡ e → Reading u text (read u text)
     go true ea b eb c ec d ed e ee = rw ea (tooLong (ltb-true textLimit (length text) ea))
     go false ea true eb c ec d ed e ee = rw (ea, eb) (alreadyOpen (ltb-false textLimit (length text) ea) (ltb-true 0 (u .panel .size) eb))
-    go false ea false eb true ec d ed e ee = rw (ea, eb, ec) (unknownVersion (ltb-false textLimit (length text) ea) (closed eb) ec)
-    go false ea false eb false ec true ed e ee = rw (ea, eb, ec, ed) (badImage (ltb-false textLimit (length text) ea) (closed eb) ec (λ x w t. clash ed (images-exactly text .1 (x, w, t))))
+    go false ea false eb true ec d ed e ee = rw (ea, eb, ec) (unknownVersion (ltb-false textLimit (length text) ea) (closed eb) (unknown-begins text ec))
+    go false ea false eb false ec true ed e ee = rw (ea, eb, ec, ed) (badImage (ltb-false textLimit (length text) ea) (closed eb) (known-begins text ec) (λ x w t. clash ed (images-exactly text .1 (x, w, t))))
     go false ea false eb false ec false ed true ee =
         let G = not-bad text ed in
         rw (ea, eb, ec, ed, ee)
-        (unfit (ltb-false textLimit (length text) ea) (closed eb) ec (candidate text) G (unfit-is (candidate text) (formed-facts (candidate text) (G .formed)) ee))
+        (unfit (ltb-false textLimit (length text) ea) (closed eb) (known-begins text ec) (candidate text) G (unfit-is (candidate text) (formed-facts (candidate text) (G .formed)) ee))
     go false ea false eb false ec false ed false ee =
         let G = not-bad text ed in
         rw (ea, eb, ec, ed, ee)
-        (taken (ltb-false textLimit (length text) ea) (closed eb) ec (candidate text) G (λ x. clash (is-unfit (candidate text) (formed-facts (candidate text) (G .formed)) x) ee))
+        (taken (ltb-false textLimit (length text) ea) (closed eb) (known-begins text ec) (candidate text) G (λ x. clash (is-unfit (candidate text) (formed-facts (candidate text) (G .formed)) x) ee))
 
 pub unfit-exactly : UnfitExactly
 unfit-exactly u text = (to (read u text) (reading-exactly u text), back (read u text) (reading-exactly u text))
@@ -189,7 +190,7 @@ unfit-exactly u text = (to (read u text) (reading-exactly u text), back (read u 
     back : (a : Answer) → Reading u text a → GivesUnfit u text → a .reply ≡ 0xFF ∷ refusalBytes Unfit
     back a (tooLong l) g = absurd (omega (arith, g .short-enough))
     back a (alreadyOpen l o) g = absurd (omega (arith, g .closed))
-    back a (unknownVersion l o k) g = absurd (clash k (g .known))
+    back a (unknownVersion l o k) g = absurd (g .known k)
     back a (badImage l o k b) g = let (x, w, t) = images-exactly text .0 (g .good) in absurd (b x w t)
     back a (unfit l o k s G x) g = refl
     back a (taken l o k s G x) g = absurd (x (subst (λ (t : Sheet). IsUnfit (t .panel)) (good-candidate text s G) (g .unfit)))
