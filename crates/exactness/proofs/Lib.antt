@@ -7,3 +7,4 @@ pub mod Redraws
 pub mod Longest
 pub mod Unknown
 pub mod Saved
+pub mod Worked
