@@ -1,21 +1,19 @@
 -- Which texts begin with a version that is not known: the test of their first four characters, in words. A digit is that of its value (`char-value`).
 -- Assumes nothing.
 use Prim.Native.Nat.{ℕ, _+_, _-_, _*_, _/_, _%_, _<_}
-use mathlib.Core.Path.{_≡_, refl, sym, ap, subst, _∙_}
-use mathlib.Core.Bool.{Bool, true, false, not, _&&_, _||_, false≢true}
+use mathlib.Core.Path.{_≡_, refl, ap, _∙_}
+use mathlib.Core.Bool.{Bool, true, false, not, _&&_, false≢true}
 use mathlib.Core.List.{List, [], _∷_, _++_}
 use mathlib.Core.Logic.{_⊎_, inl, inr, _↔_, _≢_}
 use native.Mathlib.Omega.{arith}
 use lib.Dec.{leb, eqb}
-use lib.ListN.{length, take}
 use borrow.Author.Tests.{lt-ltb, le-ltb, le-leb, lt-leb, leb-true, eq-eqb, ne-eqb, eqb-true}
-use Rattle.fieldset.specs.Tables.{at}
 use Rattle.fieldset.proofs.Tests.{and-left, and-right}
 use Rattle.fieldset.proofs.Numbers.{clash}
 use Rattle.ordering.proofs.Sets.{or-cases}
 use Rattle.hex.specs.Hex.{isDigit, digitOf, charOf, areDigits, isHex, bytesOf, hexOf}
 use Rattle.hex.proofs.Digits.{digit-below, digit-char, char-digit}
-use Rattle.images.specs.Reading.{isVersion, isUnknown}
+use Rattle.images.specs.Reading.{isUnknown}
 use Rattle.exactness.specs.Saved.{BeginsUnknown}
 
 -- a digit is that of its value

@@ -82,7 +82,8 @@ abbrev pub refusing : Sheet → Refusal → Answer
 refusing u r = record { sheet = u; reply = 0xFF ∷ refusalBytes r }
 
 -- "Reading replies 0000, or FF and the number with nothing changed": "TextTooLong as before comes first; after AlreadyOpen come 19 BadImage .., with 20
--- UnknownVersion checked just before it .., and 21 Unfit last". Each answer is given in its case (`ReadingExactly`) and in no other (`ReadingOnly`). A BadImage is a text that no well-formed image has (`Layout`, crate `layout`); any other is that of one sheet
+-- UnknownVersion checked just before it .., and 21 Unfit last". Each answer is given in its case (`ReadingExactly`) and in no other (`ReadingOnly`). A
+-- BadImage is a text that no well-formed image has (`Layout`, crate `layout`); any other is that of one sheet
 pub data Reading (u : Sheet) (text : List ℕ) : Answer → Type 0 where
   tooLong : textLimit < length text → Reading u text (refusing u TextTooLong)
   alreadyOpen : length text ≤ textLimit → 0 < u .panel .size → Reading u text (refusing u AlreadyOpen)

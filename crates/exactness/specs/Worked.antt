@@ -1,6 +1,5 @@
 -- Worked readings (document 02, request 7): texts that are read into an unopened panel, and the reply to each, worked out by hand. Quotations are of that
 -- request.
-use Prim.Native.Nat.{ℕ}
 use Prim.Native.String.{String}
 use mathlib.Core.Path.{_≡_}
 use mathlib.Core.List.{List, [], _∷_, map}
