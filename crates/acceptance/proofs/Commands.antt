@@ -6,12 +6,11 @@ use mathlib.Core.List.{[], _∷_, filterMap}
 use mathlib.Core.Option.{Option, none, some, Option·elim}
 use Rattle.panel.specs.Answers.{isRefusal}
 use Rattle.sheet.specs.declared.Sheet.{Sheet}
-use Rattle.sheet.specs.Sheets.{unopened}
 use Rattle.sheet.specs.Commands.{Command}
-use Rattle.optimality.specs.Condition3.{Store, empty, stepped, after}
+use Rattle.optimality.specs.Condition3.{Store, stepped, after}
 use Rattle.exactness.specs.Values.{Exact, EnteredExactly}
 use Rattle.exactness.specs.Systems.{sheets}
-use Rattle.exactness.specs.Beginnings.{fromUnopened}
+use Rattle.exactness.specs.Beginnings.{startOf}
 use Rattle.exactness.proofs.Values.{refused-sheet-unchanged}
 use Rattle.exactness.proofs.Lists.{condition-3, values-right}
 use Rattle.lines.specs.Lines.{linesOf}
@@ -31,18 +30,19 @@ lines-as-commands p b (l ∷ ls) = go (commandOf (frameOf l)) (λ q d. lines-as-
   go (some c) rest = rest _ _
 
 pub after-every-text : AfterEveryText
-after-every-text text = record {
-  optimal = condition-3 fromUnopened (commandsOf (linesOf text));
-  exact = values-right fromUnopened (commandsOf (linesOf text));
-  sheet = sym (lines-as-commands unopened empty (linesOf text));
+after-every-text x text = record {
+  optimal = condition-3 x (commandsOf (linesOf text));
+  exact = values-right x (commandsOf (linesOf text));
+  sheet = sym (lines-as-commands (startOf x .state) (startOf x .store) (linesOf text));
 }
 
 -- the last line's answer leaves the text's sheet
 pub last-line-exact : LastLineExact
 unfolding lineAnswer
-last-line-exact text lines line f v e c ok =
-    subst (λ (s : Sheet). Exact (sheetAfter unopened lines) s f v) (sym (ap (sheetAfter unopened) e ∙ state-more lineAnswer lines line unopened ∙ rw c refl))
-    (subst EnteredExactly (sym (lines-as-commands unopened empty lines)) (values-right fromUnopened (commandsOf lines)) f v (rw c at ok))
+last-line-exact x text lines line f v e c ok =
+    let s = startOf x .state in
+    subst (λ (t : Sheet). Exact (sheetAfter s lines) t f v) (sym (ap (sheetAfter s) e ∙ state-more lineAnswer lines line s ∙ rw c refl))
+    (subst EnteredExactly (sym (lines-as-commands s (startOf x .store) lines)) (values-right x (commandsOf lines)) f v (rw c at ok))
 
 pub refused-line-unchanged : RefusedLineUnchanged
 unfolding lineAnswer

@@ -13,12 +13,11 @@ use Rattle.fieldset.specs.Lists.{All}
 use Rattle.fieldset.proofs.Numbers.{clash}
 use Rattle.panel.specs.Answers.{isRefusal}
 use Rattle.panel.specs.Commands.{planning}
-use Rattle.optimality.specs.Condition3.{Optimal, after}
+use Rattle.optimality.specs.Condition3.{Optimal}
 use Rattle.sheet.specs.declared.Sheet.{Sheet}
-use Rattle.sheet.specs.Sheets.{unopened}
 use Rattle.sheet.specs.Commands.{solving, performed}
 use Rattle.exactness.specs.Values.{EnteredExactly}
-use Rattle.exactness.specs.Systems.{sheets, start}
+use Rattle.exactness.specs.Beginnings.{Beginning, fromUnopened, startOf}
 use Rattle.hex.specs.Hex.{charOf, bytesOf, hexOf}
 use Rattle.hex.proofs.Bytes.{bytes-hex}
 use Rattle.lines.specs.Lines.{linesOf}
@@ -26,7 +25,7 @@ use Rattle.tally.specs.Tallies.{noTally, tallyBytes}
 use Rattle.frames.specs.Texts.{LineAnswer, stateAfter, replies, tallyAfter, isTooLong}
 use Rattle.frames.specs.Frames.{lineAnswer, sheetAfter, panelOutput}
 use Rattle.hex.specs.Characters.{characters}
-use Rattle.acceptance.specs.Lines.{repliesTo, commandsOf}
+use Rattle.acceptance.specs.Lines.{repliesTo, runAfter}
 use Rattle.acceptance.specs.Replies.{Form, IsReply, Each, Replied}
 use Rattle.acceptance.specs.Offsets.{IsBadHex, IsWrong, WrongAt, TellsOffset, TellsAtMost}
 use Rattle.acceptance.proofs.Output.{one-reply-each, output-lines, output-too-long}
@@ -37,7 +36,7 @@ use Rattle.acceptance.proofs.Commands.{after-every-text, refused-line-u
 -- what is written for a text that is not too long: one reply of the documents for each line, then the tally, a line each
 pub text-answered : (text : List ℕ) → isTooLong text ≡ false
     → (rs : List (List ℕ)) × Replied (linesOf text) rs × (linesOf (panelOutput text) ≡ map hexOf rs ++ (hexOf (tallyBytes (tallyAfter noTally rs)) ∷ []))
-text-answered text short = (repliesTo text, every-reply (linesOf text), output-lines text short .lines)
+text-answered text short = (repliesTo text, every-reply fromUnopened (linesOf text), output-lines text short .lines)
 
 -- as many replies as lines
 pub replied-length : (lines rs : List (List ℕ)) → Replied lines rs → length rs ≡ length lines
@@ -54,15 +53,15 @@ unfolding characters hexOf charOf
 text-too-long text long = output-too-long text long
 
 -- condition 3 of the panel that the lines of a text leave, with the store of their commands
-pub lines-optimal : (text : List ℕ)
-    → Optimal (after sheets start (commandsOf (linesOf text)) .store) (performed (sheetAfter unopened (linesOf text)) (solving planning) .reply)
-lines-optimal text =
-    let a = after-every-text text in
-    subst (λ (s : Sheet). Optimal (after sheets start (commandsOf (linesOf text)) .store) (performed s (solving planning) .reply)) (a .sheet) (a .optimal)
+pub lines-optimal : (x : Beginning) (text : List ℕ)
+    → Optimal (runAfter x text .store) (performed (sheetAfter (startOf x .state) (linesOf text)) (solving planning) .reply)
+lines-optimal x text =
+    let a = after-every-text x text in
+    subst (λ (s : Sheet). Optimal (runAfter x text .store) (performed s (solving planning) .reply)) (a .sheet) (a .optimal)
 
 -- a value that is entered after a text leaves each held formula right
-pub lines-exact : (text : List ℕ) → EnteredExactly (sheetAfter unopened (linesOf text))
-lines-exact text = let a = after-every-text text in subst EnteredExactly (a .sheet) (a .exact)
+pub lines-exact : (x : Beginning) (text : List ℕ) → EnteredExactly (sheetAfter (startOf x .state) (linesOf text))
+lines-exact x text = let a = after-every-text x text in subst EnteredExactly (a .sheet) (a .exact)
 
 -- ---- lines
 

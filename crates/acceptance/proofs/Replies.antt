@@ -22,7 +22,6 @@ use Rattle.panel.specs.declared.Refusal.{Refusal}
 use Rattle.panel.specs.declared.Refusal.the-variants.{BadHex, BadFrame, AlreadyOpen, NotOpen, BadSize, BadLink, NoSuchField, LinkTaken, NoSuchLink, Conflict, Loop, TextTooLong, OutOfRange, FieldDriven, BadFormula, BadHeader, UnclearUnit, FlowCount, BadImage, UnknownVersion, Unfit}
 use Rattle.panel.specs.Items.{Item, link, stay, inForce}
 use Rattle.panel.specs.Answers.{Answer, refusalBytes}
-use Rattle.panel.specs.Panels.{opened}
 use Rattle.panel.specs.Solution.{level, strengthOf, planOf, rowsOf}
 use Rattle.panel.specs.Moved.{moved}
 use Rattle.panel.specs.Commands as panel
@@ -30,17 +29,17 @@ use Rattle.panel.specs.Commands.{opening, adding, removing, touching, planning,
 use Rattle.panel.specs.Legal.{Legal}
 use Rattle.panel.proofs.Legal.{force-formed}
 use Rattle.panel.proofs.Setters.{whole, setter-force}
-use Rattle.panel.proofs.Changes.{legal-opened}
 use Rattle.optimality.proofs.Graphs.{settersOf, legal-whole, strength-least}
 use Rattle.optimality.proofs.Held.{plan-whole}
 use Rattle.optimality.proofs.Answers.{Outcome, OfChecks, opening-outcome, adding-outcome, changing-outcome, removing-outcome, touching-outcome, planning-outcome}
 use Rattle.values.specs.Words.{valueOf}
 use Rattle.formulas.specs.declared.Formula.{Formula}
 use Rattle.sheet.specs.declared.Sheet.{Sheet}
-use Rattle.sheet.specs.Sheets.{unopened}
+use Rattle.exactness.specs.Beginnings.{startOf}
+use Rattle.exactness.proofs.Beginnings.{begun-legal}
 use Rattle.sheet.specs.Commands.{Command, entering, formulaChecks, performed}
 use Rattle.sheet.specs.Legal.{LegalSheet}
-use Rattle.sheet.proofs.Legal.{legal-sheet, legal-blank}
+use Rattle.sheet.proofs.Legal.{legal-sheet}
 use Rattle.sheet.proofs.Answers.{entering-reply, checks-reply}
 use Rattle.hex.specs.Hex.{isHex, bytesOf}
 use Rattle.frames.specs.Texts.{replies}
@@ -262,4 +261,4 @@ replied s h [] = tt
 replied s h (l ∷ ls) = (line-reply s h l, replied (lineAnswer s l .state) (line-legal s h l) ls)
 
 pub every-reply : EveryReply
-every-reply = replied unopened (legal-blank (opened 0) (legal-opened 0 (omega arith)))
+every-reply x = replied (startOf x .state) (begun-legal x)

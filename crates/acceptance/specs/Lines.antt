@@ -12,7 +12,8 @@ use Rattle.sheet.specs.Sheets.{unopened}
 use Rattle.sheet.specs.Commands.{Command, entering}
 use Rattle.optimality.specs.Condition3.{Store, Optimal, Run, after}
 use Rattle.exactness.specs.Values.{Exact, EnteredExactly}
-use Rattle.exactness.specs.Systems.{sheets, start}
+use Rattle.exactness.specs.Systems.{sheets}
+use Rattle.exactness.specs.Beginnings.{Beginning, startOf}
 use Rattle.hex.specs.Hex.{hexOf}
 use Rattle.lines.specs.Lines.{linesOf}
 use Rattle.tally.specs.Tallies.{noTally, tallyBytes}
@@ -57,28 +58,29 @@ abbrev pub LinesAsCommands : Type 0
 LinesAsCommands =
     (s : Sheet) (b : Store) (lines : List (List ℕ)) → sheetAfter s lines ≡ after sheets (record { state = s; store = b }) (commandsOf lines) .state
 
--- sheet and store after a text's commands; the first one "meets an unopened panel"
-abbrev pub runAfter : List ℕ → Run sheets
-runAfter text = after sheets start (commandsOf (linesOf text))
+-- sheet and store after a text's commands, from a beginning: the first one "meets an unopened panel", or that of a saved text that was taken in
+-- (document 02, request 7)
+abbrev pub runAfter : Beginning → List ℕ → Run sheets
+runAfter x text = after sheets (startOf x) (commandsOf (linesOf text))
 
 -- "so what holds after commands holds after lines": condition 3 after a text, about the panel that its lines leave; and a value that is then entered
 -- leaves each held formula right (document 02, request 2)
-pub record AfterText (text : List ℕ) : Type 0 where
-  pub optimal : Optimal (runAfter text .store) (sheets .plan (runAfter text .state))
-  pub exact : EnteredExactly (runAfter text .state)
-  pub sheet : runAfter text .state ≡ sheetAfter unopened (linesOf text)
+pub record AfterText (x : Beginning) (text : List ℕ) : Type 0 where
+  pub optimal : Optimal (runAfter x text .store) (sheets .plan (runAfter x text .state))
+  pub exact : EnteredExactly (runAfter x text .state)
+  pub sheet : runAfter x text .state ≡ sheetAfter (startOf x .state) (linesOf text)
 
--- a text of any length: "The list of commands may have any length"
+-- a text of any length, from any beginning: "The list of commands may have any length"
 abbrev pub AfterEveryText : Type 0
-AfterEveryText = (text : List ℕ) → AfterText text
+AfterEveryText = (x : Beginning) (text : List ℕ) → AfterText x text
 
 -- "After an accepted kind 07 each held formula is right, only for the field it sets" (document 02, request 2): of a text whose last line is one, and of
 -- the sheet that the text leaves, whose values are told after it (`valuesAfter`, crate `text`)
 abbrev pub LastLineExact : Type 0
 LastLineExact =
-    (text : List ℕ) (lines : List (List ℕ)) (line : List ℕ) (f : ℕ) (v : ℤ) → linesOf text ≡ lines ++ (line ∷ [])
-    → commandOf (frameOf line) ≡ some (entering f v) → isRefusal (lineAnswer (sheetAfter unopened lines) line .reply) ≡ false
-    → Exact (sheetAfter unopened lines) (sheetAfter unopened (linesOf text)) f v
+    (x : Beginning) (text : List ℕ) (lines : List (List ℕ)) (line : List ℕ) (f : ℕ) (v : ℤ) → linesOf text ≡ lines ++ (line ∷ [])
+    → commandOf (frameOf line) ≡ some (entering f v) → isRefusal (lineAnswer (sheetAfter (startOf x .state) lines) line .reply) ≡ false
+    → Exact (sheetAfter (startOf x .state) lines) (sheetAfter (startOf x .state) (linesOf text)) f v
 
 -- "a refusal .. leaves links, stay order and setters as they stood" (tender), and formulas and values
 abbrev pub RefusedLineUnchanged : Type 0

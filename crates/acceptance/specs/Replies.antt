@@ -7,9 +7,9 @@ use lib.ListN.{length}
 use Rattle.fieldset.specs.Tables.{at}
 use Rattle.fieldset.specs.Lists.{All}
 use Rattle.panel.specs.Answers.{twoBytes}
-use Rattle.sheet.specs.Sheets.{unopened}
 use Rattle.frames.specs.Texts.{replies}
 use Rattle.frames.specs.Frames.{frameOf, lineAnswer}
+use Rattle.exactness.specs.Beginnings.{Beginning, startOf}
 
 -- the first byte of a line's frame; FF where the line has none
 abbrev pub kindOf : List ℕ → ℕ
@@ -50,6 +50,6 @@ Each R (l ∷ ls) (r ∷ rs) = R l r × Each R ls rs
 abbrev pub Replied : List (List ℕ) → List (List ℕ) → Type 0
 Replied lines replies = Each (λ line reply. IsReply (kindOf line) reply) lines replies
 
--- lines of any characters; the first one meets an unopened panel
+-- lines of any characters; the first one meets an unopened panel, or that of a saved text that was taken in (document 02, request 7)
 abbrev pub EveryReply : Type 0
-EveryReply = (lines : List (List ℕ)) → Replied lines (replies lineAnswer unopened lines)
+EveryReply = (x : Beginning) (lines : List (List ℕ)) → Replied lines (replies lineAnswer (startOf x .state) lines)

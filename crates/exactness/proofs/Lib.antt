@@ -5,4 +5,6 @@ pub mod Lists
 pub mod Changes
 pub mod Redraws
 pub mod Longest
+pub mod Unknown
 pub mod Saved
+pub mod Worked

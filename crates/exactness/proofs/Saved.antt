@@ -1,6 +1,6 @@
 -- Saved texts: what is reachable is legal and nothing in it is blocked, so it is formed and not unfit, and its text is taken back (`read-legal`). What
 -- reading answers goes by its checks, each of which says what the statement says (`unfit-is`, `images-exactly`). Assumes nothing.
-use Prim.Native.Nat.{ℕ, _<_}
+use Prim.Native.Nat.{ℕ, _≤_, _<_}
 use mathlib.Core.Path.{_≡_, refl, ap, subst}
 use mathlib.Core.Bool.{Bool, true, false, _&&_, _||_, or-true}
 use mathlib.Core.List.{_∷_}
@@ -8,7 +8,7 @@ use mathlib.Core.Logic.{_⊎_, inl, inr}
 use mathlib.Core.Option.{Option, none, some as found}
 use native.Mathlib.Decide.{decLt}
 use native.Mathlib.Omega.{arith}
-use borrow.Author.Tests.{lt-ltb, ltb-true, ltb-false, eq-eqb, eqb-true}
+use borrow.Author.Tests.{lt-ltb, le-ltb, ltb-true, ltb-false, eq-eqb, eqb-true}
 use lib.Dec.{eqb}
 use lib.ListN.{length}
 use Rattle.fieldset.specs.Tables.{at}
@@ -35,16 +35,18 @@ use Rattle.sheet.specs.Commands.{Answer}
 use Rattle.frames.specs.Texts.{textLimit, isTooLong}
 use Rattle.images.specs.Images.{imageOf}
 use Rattle.images.specs.Entries.{candidate}
-use Rattle.images.specs.Reading.{version, isUnknown, isBad, isSome, isShort, isUnfit, read}
+use Rattle.images.specs.Reading.{version, isUnknown, isBad, isSome, isShort, isUnfit, Good, read}
 use Rattle.images.proofs.Facts.{Facts, formed-facts}
 use Rattle.images.proofs.Lengths.{legal-length}
 use Rattle.images.proofs.Legality.{legal-formed}
 use Rattle.images.proofs.Reading.{image-once, not-bad, good-candidate, good-not-bad, read-written, read-legal, took, refused-same}
+use Rattle.layout.specs.Layout.{Image, WellFormed, textOf}
 use Rattle.layout.proofs.Exactly.{images-exactly}
-use Rattle.exactness.specs.Saved.{TakenBack, WrittenSame, OneText, LongestText, TakenLegal, RefusedReadUnchanged, IsUnfit, loop, blocked, short, Reading, tooLong, alreadyOpen, unknownVersion, badImage, unfit, taken, ReadingExactly, GivesUnfit, UnfitExactly}
+use Rattle.exactness.specs.Saved.{TakenBack, WrittenSame, OneText, LongestText, TakenLegal, RefusedReadUnchanged, BeginsUnknown, IsUnfit, loop, blocked, short, Reading, tooLong, alreadyOpen, unknownVersion, badImage, unfit, taken, ReadingExactly, ReadingOnly, GivesUnfit, UnfitExactly}
 use Rattle.exactness.proofs.Beginnings.{none-blocked}
 use Rattle.exactness.proofs.Longest.{longSheet, long-length, long-formed, long-fit}
 use Rattle.exactness.proofs.Values.{differ}
+use Rattle.exactness.proofs.Unknown.{unknown-begins, begins-unknown, known-begins}
 use Rattle.exactness.proofs.Lists.{sound-after, legal-after}
 
 -- ---- one panel, one text
@@ -147,6 +149,14 @@ module _ (s : Sheet) (F : Facts s) where
 
 -- ---- what reading answers, by its checks
 
+not-holding : (b : Bool) → (b ≡ true → ⊥) → b ≡ false
+not-holding true h = absurd (h refl)
+not-holding false h = refl
+
+holding : (b : Bool) → (b ≡ false → ⊥) → b ≡ true
+holding true h = refl
+holding false h = absurd (h refl)
+
 pub reading-exactly : ReadingExactly
 unfolding read checkReply
 reading-exactly u text = go (isTooLong text) refl (isOpen (u .panel)) refl (isUnknown text) refl (isBad text) refl (isUnfit (candidate text .panel)) refl
@@ -158,16 +168,46 @@ reading-exactly u text = go (isTooLong text) refl (isOpen (u .panel)) refl (isUn
         → (e : Bool) → isUnfit (candidate text .panel) ≡ e → Reading u text (read u text)
     go true ea b eb c ec d ed e ee = rw ea (tooLong (ltb-true textLimit (length text) ea))
     go false ea true eb c ec d ed e ee = rw (ea, eb) (alreadyOpen (ltb-false textLimit (length text) ea) (ltb-true 0 (u .panel .size) eb))
-    go false ea false eb true ec d ed e ee = rw (ea, eb, ec) (unknownVersion (ltb-false textLimit (length text) ea) (closed eb) ec)
-    go false ea false eb false ec true ed e ee = rw (ea, eb, ec, ed) (badImage (ltb-false textLimit (length text) ea) (closed eb) ec (λ x w t. clash ed (images-exactly text .1 (x, w, t))))
+    go false ea false eb true ec d ed e ee = rw (ea, eb, ec) (unknownVersion (ltb-false textLimit (length text) ea) (closed eb) (unknown-begins text ec))
+    go false ea false eb false ec true ed e ee = rw (ea, eb, ec, ed) (badImage (ltb-false textLimit (length text) ea) (closed eb) (known-begins text ec) (λ x w t. clash ed (images-exactly text .1 (x, w, t))))
     go false ea false eb false ec false ed true ee =
         let G = not-bad text ed in
         rw (ea, eb, ec, ed, ee)
-        (unfit (ltb-false textLimit (length text) ea) (closed eb) ec (candidate text) G (unfit-is (candidate text) (formed-facts (candidate text) (G .formed)) ee))
+        (unfit (ltb-false textLimit (length text) ea) (closed eb) (known-begins text ec) (candidate text) G (unfit-is (candidate text) (formed-facts (candidate text) (G .formed)) ee))
     go false ea false eb false ec false ed false ee =
         let G = not-bad text ed in
         rw (ea, eb, ec, ed, ee)
-        (taken (ltb-false textLimit (length text) ea) (closed eb) ec (candidate text) G (λ x. clash (is-unfit (candidate text) (formed-facts (candidate text) (G .formed)) x) ee))
+        (taken (ltb-false textLimit (length text) ea) (closed eb) (known-begins text ec) (candidate text) G (λ x. clash (is-unfit (candidate text) (formed-facts (candidate text) (G .formed)) x) ee))
+
+-- a case's tests give its answer
+pub reading-only : ReadingOnly
+unfolding read checkReply
+reading-only u text a r = go a r
+  where
+    within : length text ≤ textLimit → isTooLong text ≡ false
+    within l = le-ltb textLimit (length text) l
+
+    closed : u .panel .size ≡ 0 → isOpen (u .panel) ≡ false
+    closed o = le-ltb 0 (u .panel .size) (omega arith)
+
+    known : (BeginsUnknown text → ⊥) → isUnknown text ≡ false
+    known k = not-holding (isUnknown text) (λ e. k (unknown-begins text e))
+
+    bad : ((x : Image) → WellFormed x → textOf x ≡ text → ⊥) → isBad text ≡ true
+    bad b = holding (isBad text) (λ e. let (x, w, t) = images-exactly text .0 e in b x w t)
+
+    fits : (s : Sheet) → Good text s → (IsUnfit (s .panel) → ⊥) → isUnfit (s .panel) ≡ false
+    fits s G x = not-holding (isUnfit (s .panel)) (λ e. x (unfit-is s (formed-facts s (G .formed)) e))
+
+    go : (a : Answer) → Reading u text a → a ≡ read u text
+    go a (tooLong l) = rw (lt-ltb textLimit (length text) l)
+    go a (alreadyOpen l o) = rw (within l, lt-ltb 0 (u .panel .size) o)
+    go a (unknownVersion l o k) = rw (within l, closed o, begins-unknown text k)
+    go a (badImage l o k b) = rw (within l, closed o, known k, bad b)
+    go a (unfit l o k s G x) =
+        rw (within l, closed o, known k, good-not-bad text s G, good-candidate text s G, is-unfit s (formed-facts s (G .formed)) x)
+    go a (taken l o k s G x) =
+        rw (within l, closed o, known k, good-not-bad text s G, good-candidate text s G, fits s G x)
 
 pub unfit-exactly : UnfitExactly
 unfit-exactly u text = (to (read u text) (reading-exactly u text), back (read u text) (reading-exactly u text))
@@ -189,7 +229,7 @@ unfit-exactly u text = (to (read u text) (reading-exactly u text), back (read u 
     back : (a : Answer) → Reading u text a → GivesUnfit u text → a .reply ≡ 0xFF ∷ refusalBytes Unfit
     back a (tooLong l) g = absurd (omega (arith, g .short-enough))
     back a (alreadyOpen l o) g = absurd (omega (arith, g .closed))
-    back a (unknownVersion l o k) g = absurd (clash k (g .known))
+    back a (unknownVersion l o k) g = absurd (g .known k)
     back a (badImage l o k b) g = let (x, w, t) = images-exactly text .0 (g .good) in absurd (b x w t)
     back a (unfit l o k s G x) g = refl
     back a (taken l o k s G x) g = absurd (x (subst (λ (t : Sheet). IsUnfit (t .panel)) (good-candidate text s G) (g .unfit)))

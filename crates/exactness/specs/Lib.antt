@@ -5,3 +5,4 @@ pub mod Lists
 pub mod Changes
 pub mod Redraws
 pub mod Saved
+pub mod Worked

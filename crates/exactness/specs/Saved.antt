@@ -2,8 +2,8 @@
 use Prim.Native.Nat.{ℕ, _≤_, _<_}
 use mathlib.Core.Path.{_≡_}
 use mathlib.Core.Bool.{true, false}
-use mathlib.Core.List.{List, [], _∷_}
-use mathlib.Core.Logic.{_↔_}
+use mathlib.Core.List.{List, [], _∷_, _++_}
+use mathlib.Core.Logic.{_≢_, _↔_}
 use lib.ListN.{length}
 use Rattle.ordering.specs.Walks.{ClosedWalk}
 use Rattle.panel.specs.declared.Panel.{Panel}
@@ -18,10 +18,11 @@ use Rattle.sheet.specs.Sheets.{unopened}
 use Rattle.sheet.specs.Commands.{Answer}
 use Rattle.sheet.specs.Legal.{LegalSheet}
 use Rattle.optimality.specs.States.{NothingBlocked}
+use Rattle.hex.specs.Hex.{hexOf}
 use Rattle.frames.specs.Texts.{textLimit}
 use Rattle.images.specs.Images.{imageOf}
 use Rattle.images.specs.Entries.{candidate}
-use Rattle.images.specs.Reading.{version, longest, isUnknown, isBad, Good, read}
+use Rattle.images.specs.Reading.{version, longest, isBad, Good, read}
 use Rattle.layout.specs.Layout.{Image, WellFormed, textOf}
 use Rattle.exactness.specs.Beginnings.{AfterEveryRun}
 
@@ -68,32 +69,44 @@ pub data IsUnfit (p : Panel) : Type 0 where
   blocked : (c : Item) → isBlocked p c ≡ true → IsUnfit p
   short : (i : ℕ) → linkAt (p .links) i .level ≡ 0 → waits (p .size) (p .links) (p .setter) (link i) ≡ true → IsUnfit p
 
+-- "the first line begins with byte 0A and a second byte that is no known version": in digits; the known version is 01
+pub record BeginsUnknown (text : List ℕ) : Type 0 where
+  pub second : ℕ
+  pub byte : second < 256
+  pub other : second ≢ 0x01
+  pub rest : List ℕ
+  pub begins : text ≡ hexOf (0x0A ∷ second ∷ []) ++ rest
+
 -- "FF and the number with nothing changed"
 abbrev pub refusing : Sheet → Refusal → Answer
 refusing u r = record { sheet = u; reply = 0xFF ∷ refusalBytes r }
 
 -- "Reading replies 0000, or FF and the number with nothing changed": "TextTooLong as before comes first; after AlreadyOpen come 19 BadImage .., with 20
--- UnknownVersion checked just before it .., and 21 Unfit last". No two of these cases can meet, so each answer is given in its case and in no other. A
+-- UnknownVersion checked just before it .., and 21 Unfit last". Each answer is given in its case (`ReadingExactly`) and in no other (`ReadingOnly`). A
 -- BadImage is a text that no well-formed image has (`Layout`, crate `layout`); any other is that of one sheet
 pub data Reading (u : Sheet) (text : List ℕ) : Answer → Type 0 where
   tooLong : textLimit < length text → Reading u text (refusing u TextTooLong)
   alreadyOpen : length text ≤ textLimit → 0 < u .panel .size → Reading u text (refusing u AlreadyOpen)
-  unknownVersion : length text ≤ textLimit → u .panel .size ≡ 0 → isUnknown text ≡ true → Reading u text (refusing u UnknownVersion)
-  badImage : length text ≤ textLimit → u .panel .size ≡ 0 → isUnknown text ≡ false
+  unknownVersion : length text ≤ textLimit → u .panel .size ≡ 0 → BeginsUnknown text → Reading u text (refusing u UnknownVersion)
+  badImage : length text ≤ textLimit → u .panel .size ≡ 0 → (BeginsUnknown text → ⊥)
       → ((x : Image) → WellFormed x → textOf x ≡ text → ⊥) → Reading u text (refusing u BadImage)
-  unfit : length text ≤ textLimit → u .panel .size ≡ 0 → isUnknown text ≡ false → (s : Sheet) → Good text s → IsUnfit (s .panel)
+  unfit : length text ≤ textLimit → u .panel .size ≡ 0 → (BeginsUnknown text → ⊥) → (s : Sheet) → Good text s → IsUnfit (s .panel)
       → Reading u text (refusing u Unfit)
-  taken : length text ≤ textLimit → u .panel .size ≡ 0 → isUnknown text ≡ false → (s : Sheet) → Good text s → (IsUnfit (s .panel) → ⊥)
+  taken : length text ≤ textLimit → u .panel .size ≡ 0 → (BeginsUnknown text → ⊥) → (s : Sheet) → Good text s → (IsUnfit (s .panel) → ⊥)
       → Reading u text (record { sheet = s; reply = 0x00 ∷ 0x00 ∷ [] })
 
 abbrev pub ReadingExactly : Type 0
 ReadingExactly = (u : Sheet) (text : List ℕ) → Reading u text (read u text)
 
+-- no two of these cases can meet
+abbrev pub ReadingOnly : Type 0
+ReadingOnly = (u : Sheet) (text : List ℕ) (a : Answer) → Reading u text a → a ≡ read u text
+
 -- Unfit, by the sheet that the text's lines enter
 pub record GivesUnfit (u : Sheet) (text : List ℕ) : Type 0 where
   pub short-enough : length text ≤ textLimit
   pub closed : u .panel .size ≡ 0
-  pub known : isUnknown text ≡ false
+  pub known : BeginsUnknown text → ⊥
   pub good : isBad text ≡ false
   pub unfit : IsUnfit (candidate text .panel)
 

@@ -18,7 +18,7 @@ use Rattle.sheet.specs.Commands.{checkFormula}
 use Rattle.frames.specs.Texts.{written}
 use Rattle.frames.specs.Frames.{formulaBytes}
 use Rattle.images.specs.Images.{fourBytes}
-use Rattle.images.specs.Reading.{version, isBad}
+use Rattle.images.specs.Reading.{isBad}
 
 -- ---- the lines
 
@@ -59,7 +59,7 @@ pub record Image : Type 0 where
 abbrev pub textOf : Image → List ℕ
 textOf x =
     written
-    ((0x0A ∷ version ∷ x .size ∷ []) ∷ (0x0B ∷ x .order)
+    ((0x0A ∷ 0x01 ∷ x .size ∷ []) ∷ (0x0B ∷ x .order)
     ∷ (map linkBytes (x .links) ++ (map ruleBytes (x .formulas) ++ map valueBytes (x .values))))
 
 -- ---- what is asked of them
