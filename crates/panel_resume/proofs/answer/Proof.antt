@@ -34,10 +34,13 @@ returns-2 c =
     let t = c .before .before .before in
     let s = begin t in
     λ w.
-    omega (arith, c .answer-from .ensures w,
+    omega (
+      arith,
+      c .answer-from .ensures w,
       ap (λ (a : Answer). length (lineOf (a .reply))) (s .pre .0),
       ap length (taken-resumed (s .args .saved .now) (s .args .text .now) (s .args .r) (s .pre .0) (taken t)),
-      length-append (lineOf (replyBytes (s .args .r .reply))) (outputOf lineAnswer (s .args .r .sheet) (s .args .text .now)))
+      length-append (lineOf (replyBytes (s .args .r .reply))) (outputOf lineAnswer (s .args .r .sheet) (s .args .text .now)),
+    )
 
 pub answer-spec : {M : Type 1} → statement M
 answer-spec =
