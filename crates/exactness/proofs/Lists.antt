@@ -1,5 +1,5 @@
--- Lists of commands on sheets: every beginning is sound and legal (`Beginnings`); kind 07 is a touch or leaves the sheet, kind 08 leaves the panel, so that a sound panel and store stay sound
--- (`sheet-sound`); a legal sheet stays legal. Assumes nothing.
+-- Lists of commands on sheets: every beginning is sound and legal (`Beginnings`); kind 07 is a touch or leaves the sheet, kind 08 leaves the panel, so
+-- that a sound panel and store stay sound (`sheet-sound`); a legal sheet stays legal. Assumes nothing.
 use mathlib.Core.Path.{_≡_, refl, sym, ap, subst, _∙_}
 use mathlib.Core.Bool.{Bool, true, false, cond}
 use mathlib.Core.List.{List, [], _∷_}
