@@ -7,8 +7,8 @@ use harness::compare::{check_met, check_output};
 use harness::generate::{self, image, with_lines_changed};
 use harness::plain::{lines, resume_text, run_text_with, save_text, Run, TEXT_LIMIT};
 use harness::shrink::shorten;
+use harness::worked;
 use harness::worked::saved::{look, panels, readings, resumed};
-use harness::worked::{self, Worked};
 use panel_bench::sides::{resumed_proved, saved_proved};
 use std::collections::BTreeMap;
 
@@ -219,20 +219,7 @@ fn limit_of_a_text() {
 /// that is read again.
 #[test]
 fn worked_texts() {
-    let texts: Vec<Worked> = [
-        worked::items::all(),
-        worked::edges::all(),
-        worked::offsets::all(),
-        worked::panels::all(),
-        worked::values::all(),
-        worked::changes::all(),
-        worked::redraws::all(),
-    ]
-    .into_iter()
-    .flatten()
-    .collect();
-    assert!(!texts.is_empty());
-    for text in texts {
+    for text in worked::texts() {
         check_after(&text.text);
     }
 }

@@ -9,7 +9,7 @@
 use harness::generate::{self, MIXES};
 use harness::plain::{self, Item, Run};
 use harness::shrink;
-use harness::worked::{self, Worked};
+use harness::worked;
 use panel_bench::sides::{run_proved, Tally};
 use std::collections::BTreeMap;
 
@@ -388,20 +388,8 @@ impl Met {
 /// Every text that is worked out by hand.
 #[test]
 fn worked_texts() {
-    let texts: Vec<Worked> = [
-        worked::items::all(),
-        worked::edges::all(),
-        worked::offsets::all(),
-        worked::panels::all(),
-        worked::values::all(),
-        worked::changes::all(),
-        worked::redraws::all(),
-    ]
-    .into_iter()
-    .flatten()
-    .collect();
     let mut met = Met::default();
-    for text in texts {
+    for text in worked::texts() {
         met.check(&text.text, plain_scans);
     }
     met.must_have(700, 1_600, 10, 4);

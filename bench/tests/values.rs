@@ -4,7 +4,7 @@
 
 use harness::generate::{self, Mix, MIXES};
 use harness::plain;
-use harness::worked::{self, values::Valued, Worked};
+use harness::worked::{self, values::Valued};
 use panel_bench::sides::values_proved;
 
 /// What the values are before a call.
@@ -123,19 +123,7 @@ fn last_line_at_the_limit() {
 /// Every text that is worked out by hand, looks at values among them.
 #[test]
 fn worked_texts() {
-    let texts: Vec<Worked> = [
-        worked::items::all(),
-        worked::edges::all(),
-        worked::offsets::all(),
-        worked::panels::all(),
-        worked::values::all(),
-        worked::changes::all(),
-        worked::redraws::all(),
-    ]
-    .into_iter()
-    .flatten()
-    .collect();
-    for text in texts {
+    for text in worked::texts() {
         check(&text.text);
     }
 }

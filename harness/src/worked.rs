@@ -51,6 +51,21 @@ impl Worked {
     }
 }
 
+/// Every text of commands that is worked out by hand.
+pub fn texts() -> Vec<Worked> {
+    let parts = [
+        items::all(),
+        edges::all(),
+        offsets::all(),
+        panels::all(),
+        values::all(),
+        changes::all(),
+        redraws::all(),
+    ];
+    assert!(parts.iter().all(|part| !part.is_empty()));
+    parts.into_iter().flatten().collect()
+}
+
 /// A line of an add, its field bytes with bit 7 for outputs.
 fn add(id: u8, level: u8, field_bytes: impl IntoIterator<Item = u8>) -> String {
     let mut frame = vec![2, id, level];

@@ -7,7 +7,6 @@ use mathlib.Core.Logic.{_≢_, _↔_}
 use lib.ListN.{length}
 use Rattle.ordering.specs.Walks.{ClosedWalk}
 use Rattle.panel.specs.declared.Panel.{Panel}
-use Rattle.panel.specs.declared.Refusal.{Refusal}
 use Rattle.panel.specs.declared.Refusal.the-variants.{TextTooLong, AlreadyOpen, UnknownVersion, BadImage, Unfit}
 use Rattle.panel.specs.Items.{Item, link, linkAt, waits}
 use Rattle.panel.specs.Solution.{setterReads, isBlocked}
@@ -15,7 +14,7 @@ use Rattle.panel.specs.Answers.{refusalBytes, isRefusal}
 use Rattle.panel.specs.Commands.{isOpen}
 use Rattle.sheet.specs.declared.Sheet.{Sheet}
 use Rattle.sheet.specs.Sheets.{unopened}
-use Rattle.sheet.specs.Commands.{Answer}
+use Rattle.sheet.specs.Commands.{Answer, refused}
 use Rattle.sheet.specs.Legal.{LegalSheet}
 use Rattle.optimality.specs.States.{NothingBlocked}
 use Rattle.hex.specs.Hex.{hexOf}
@@ -77,21 +76,17 @@ pub record BeginsUnknown (text : List ℕ) : Type 0 where
   pub rest : List ℕ
   pub begins : text ≡ hexOf (0x0A ∷ second ∷ []) ++ rest
 
--- "FF and the number with nothing changed"
-abbrev pub refusing : Sheet → Refusal → Answer
-refusing u r = record { sheet = u; reply = 0xFF ∷ refusalBytes r }
-
 -- "Reading replies 0000, or FF and the number with nothing changed": "TextTooLong as before comes first; after AlreadyOpen come 19 BadImage .., with 20
 -- UnknownVersion checked just before it .., and 21 Unfit last". Each answer is given in its case (`ReadingExactly`) and in no other (`ReadingOnly`). A
 -- BadImage is a text that no well-formed image has (`Layout`, crate `layout`); any other is that of one sheet
 pub data Reading (u : Sheet) (text : List ℕ) : Answer → Type 0 where
-  tooLong : textLimit < length text → Reading u text (refusing u TextTooLong)
-  alreadyOpen : length text ≤ textLimit → 0 < u .panel .size → Reading u text (refusing u AlreadyOpen)
-  unknownVersion : length text ≤ textLimit → u .panel .size ≡ 0 → BeginsUnknown text → Reading u text (refusing u UnknownVersion)
+  tooLong : textLimit < length text → Reading u text (refused u TextTooLong)
+  alreadyOpen : length text ≤ textLimit → 0 < u .panel .size → Reading u text (refused u AlreadyOpen)
+  unknownVersion : length text ≤ textLimit → u .panel .size ≡ 0 → BeginsUnknown text → Reading u text (refused u UnknownVersion)
   badImage : length text ≤ textLimit → u .panel .size ≡ 0 → (BeginsUnknown text → ⊥)
-      → ((x : Image) → WellFormed x → textOf x ≡ text → ⊥) → Reading u text (refusing u BadImage)
+      → ((x : Image) → WellFormed x → textOf x ≡ text → ⊥) → Reading u text (refused u BadImage)
   unfit : length text ≤ textLimit → u .panel .size ≡ 0 → (BeginsUnknown text → ⊥) → (s : Sheet) → Good text s → IsUnfit (s .panel)
-      → Reading u text (refusing u Unfit)
+      → Reading u text (refused u Unfit)
   taken : length text ≤ textLimit → u .panel .size ≡ 0 → (BeginsUnknown text → ⊥) → (s : Sheet) → Good text s → (IsUnfit (s .panel) → ⊥)
       → Reading u text (record { sheet = s; reply = 0x00 ∷ 0x00 ∷ [] })
 

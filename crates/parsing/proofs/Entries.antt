@@ -35,7 +35,7 @@ use Rattle.lines.proofs.Lines.{behind-within, behind-on, lines-on, lines-end}
 use Rattle.frames.specs.Frames.{pairOf, wordOf, formulaIn}
 use Rattle.frames.proofs.Reading.{bad-told, frame-told}
 use Rattle.images.specs.Entries.{withSize, placed, withOrder, standingOf, withLinkLine, entered, enteredAll, lineBytes, candidate}
-use Rattle.parsing.specs.Parsing.{Framed, fieldsEnd, fieldsIn, linkIn, withLinks, withSetters, setterIn}
+use Rattle.parsing.specs.Parsing.{Framed, fieldsEnd, fieldPart, linkIn, withLinks, withSetters, setterIn}
 
 -- ---- stores, and what is past the end
 
@@ -115,7 +115,7 @@ standing-holds b n = rw (ne-eqb b 255 n)
 
 pub link-in : (frame : List ℕ) (end n c o : ℕ) (st : Standing) → end ≡ fieldsEnd n
     → c ≡ coveredIn (take (end - 4) (drop 4 frame)) → o ≡ outputsIn (take (end - 4) (drop 4 frame)) → st ≡ standingOf (at frame 3)
-    → record { covered = c; outputs = o; level = at frame 2; used = true; standing = st } ≡ linkIn frame (fieldsIn frame n)
+    → record { covered = c; outputs = o; level = at frame 2; used = true; standing = st } ≡ linkIn frame (fieldPart frame n)
 link-in frame end n c o st k ec eo es = rw (ec, eo, es, k)
 
 pub linked : (p q r : Panel) (l : Link) (frame fields : List ℕ) (i f : ℕ) → l ≡ linkIn frame fields → i ≡ at frame 1
@@ -173,12 +173,12 @@ module _ (line frame : List ℕ) (n : ℕ) (F : Framed line frame n) where
   frame-at k l = ap (λ (x : List ℕ). at x k) (F .bytes) ∙ at-start b frameRoom k l
 
   -- the field bytes of a link, at most 8
-  fields-at : fieldsIn frame n ≡ take 8 (drop 4 b)
+  fields-at : fieldPart frame n ≡ take 8 (drop 4 b)
   fields-at =
-      let left : length (fieldsIn frame n) ≡ fieldsEnd n - 4 =
+      let left : length (fieldPart frame n) ≡ fieldsEnd n - 4 =
       length-take (fieldsEnd n - 4) (drop 4 frame) ∙ omega (arith, length-drop 4 frame, frame-long) in
       let right : length (take 8 (drop 4 b)) ≡ fieldsEnd n - 4 = length-take 8 (drop 4 b) ∙ omega (arith, length-drop 4 b, F .count) in
-      ext-getD 0 (fieldsIn frame n) (take 8 (drop 4 b)) (left ∙ sym right)
+      ext-getD 0 (fieldPart frame n) (take 8 (drop 4 b)) (left ∙ sym right)
       (λ i h. let k : i < fieldsEnd n - 4 = omega (arith, left) in
       getD-take (fieldsEnd n - 4) (drop 4 frame) i 0 k ∙ getD-drop 4 frame i 0 ∙ frame-at (4 + i) (omega arith)
       ∙ sym (getD-take 8 (drop 4 b) i 0 (omega arith) ∙ getD-drop 4 b i 0))
@@ -208,7 +208,7 @@ module _ (line frame : List ℕ) (n : ℕ) (F : Framed line frame n) where
     enters-order p e ep er = er ∙ rw (kind 0x0B e, ep)
 
     pub enters-link : (p : Panel) → at frame 0 ≡ 0x0C
-        → p ≡ withLinkLine (s .panel) (at frame 1) (at frame 2) (at frame 3) (fieldsIn frame n) → r ≡ sheetOf p (s .formulas) (s .values)
+        → p ≡ withLinkLine (s .panel) (at frame 1) (at frame 2) (at frame 3) (fieldPart frame n) → r ≡ sheetOf p (s .formulas) (s .values)
         → r ≡ entered s b
     unfolding entered
     enters-link p e ep er =

@@ -23,8 +23,8 @@ abbrev pub fieldsEnd : ℕ → ℕ
 fieldsEnd n = max 4 (min n frameRoom)
 
 -- its field bytes, of n bytes
-abbrev pub fieldsIn : List ℕ → ℕ → List ℕ
-fieldsIn frame n = take (fieldsEnd n - 4) (drop 4 frame)
+abbrev pub fieldPart : List ℕ → ℕ → List ℕ
+fieldPart frame n = take (fieldsEnd n - 4) (drop 4 frame)
 
 abbrev pub linkIn : List ℕ → List ℕ → Link
 linkIn frame fields =

@@ -26,7 +26,7 @@ ghost use Rattle.hex.specs.Hex.{areDigits, bytesOf};
 ghost use Rattle.frames.specs.Frames.{formulaIn};
 ghost use Rattle.sheet.specs.Sheets.{sheetOf, withFormula, Full};
 ghost use Rattle.images.specs.Entries.{withSize, placed, withOrder, standingOf, withLinkLine, entered, lineBytes, candidate};
-ghost use Rattle.parsing.specs.Parsing.{Framed, fieldsEnd, fieldsIn, linkIn, withLinks, withSetters, setterIn};
+ghost use Rattle.parsing.specs.Parsing.{Framed, fieldsEnd, fieldPart, linkIn, withLinks, withSetters, setterIn};
 
 // The line 0A enters the number of fields.
 fn with_size(mut p: Panel, n: u8) -> Panel
@@ -106,7 +106,7 @@ fn fields_end(n: usize) -> usize
 
 // The link of a line 0C of n bytes.
 fn link_of(frame: [u8; FRAME_ROOM], n: usize) -> Link
-    ensures { λ r. ⌜ r ≡ linkIn frame (fieldsIn frame n) ⌝ }
+    ensures { λ r. ⌜ r ≡ linkIn frame (fieldPart frame n) ⌝ }
 {
     let end = fields_end(n);
     let fields = read_fields(&frame[4..end]);
@@ -144,7 +144,7 @@ fn put_setter(mut p: Panel, f: usize, id: u8) -> Panel
 // The line 0C of n bytes enters a link.
 fn with_link(p: Panel, frame: [u8; FRAME_ROOM], n: usize) -> Panel
     requires { ⌜ length (p .links) ≡ 128 ⌝ }
-    ensures { λ r. ⌜ r ≡ withLinkLine p (at frame 1) (at frame 2) (at frame 3) (fieldsIn frame n) ⌝ }
+    ensures { λ r. ⌜ r ≡ withLinkLine p (at frame 1) (at frame 2) (at frame 3) (fieldPart frame n) ⌝ }
 {
     let id = frame[1];
     let l = link_of(frame, n);

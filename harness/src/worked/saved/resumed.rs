@@ -49,7 +49,7 @@ const RESUMED: [Small; 9] = [
             ("0D0000000005", "FF02"),
         ],
     ),
-    // As it would go on without the drawer: 750 a second turn the link.
+    // As it would go on without being saved: 750 a second turn the link.
     (
         "airflow",
         &[
