@@ -1,4 +1,6 @@
 // Adding a link.
+#![tactic(auto)]
+
 ghost use Rattle.std.specs.Prelude.{◌≡◌, ◌≤◌, ◌%◌, length};
 ghost use Rattle.panel.specs.Items.{link_at};
 ghost use Rattle.panel.specs.Panels.{waiting_link};

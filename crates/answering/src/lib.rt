@@ -1,4 +1,6 @@
 // The answers to the lines of a text, one after the other.
+#![tactic(auto)]
+
 ghost use Rattle.std.specs.Prelude.{◌^◌, ◌<◌, ◌≡◌, length};
 ghost use Rattle.sheet.specs.Sheets.{sheet_of};
 ghost use Rattle.sheet.specs.Legal.{LegalSheet};
@@ -23,7 +25,7 @@ use tally::{Tally, tallied_line};
 
 // Where a run over a text stands: the position of the next line, the sheet, the tally, how many bytes were written, and how many strengths were worked
 // out for the last scan, 0 where none was made.
-#[derive(Drop)]
+#[derive(Clone, Copy)]
 pub struct Progress {
     pub next: usize,
     pub sheet: Sheet,

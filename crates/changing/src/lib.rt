@@ -1,4 +1,6 @@
 // Changing a link: it is dropped and entered anew as one.
+#![tactic(auto)]
+
 ghost use Rattle.std.specs.Prelude.{◌≡◌, ◌%◌, length};
 ghost use Rattle.panel.specs.declared.Standing.TheVariants.{Waiting};
 ghost use Rattle.panel.specs.Items.{no_link, link_at};
@@ -40,7 +42,7 @@ fn path_step(verdict: Verdict, n: usize, place: &[u8; 64], c: u8) -> Step
 }
 
 // A panel, the reply to what was to be done with it, and the fields that got another setter; the count of the reply is 0.
-#[derive(Drop)]
+#[derive(Clone, Copy)]
 pub struct Changed {
     pub panel: Panel,
     pub reply: Reply,

@@ -1,5 +1,7 @@
 // The counts of the scans that a run over a text makes, for tests in C or Rust to call: a library of its own, so that the panel's does not export them. A
 // text and a buffer are a pointer and a length each.
+#![tactic(auto)]
+
 ghost use Rattle.std.specs.Prelude.{◌≡◌, length};
 ghost use Rattle.std.proofs.lemmas.List.Edits.{sets};
 ghost use Rattle.counting.specs.Counts.{scans_of};

@@ -1,4 +1,6 @@
 // The step of one line, by its command; the change that a line asks, and what the line leaves of its link's formula.
+#![tactic(auto)]
+
 ghost use Rattle.std.specs.Prelude.{◌≡◌, ◌≤◌, length};
 ghost use Rattle.panel.specs.Items.{link_at};
 ghost use Rattle.panel.specs.Answers.{rows_length};

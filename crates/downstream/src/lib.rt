@@ -1,4 +1,6 @@
 // A set of fields and all fields downstream of these: the fields that read one of them, directly or through others.
+#![tactic(auto)]
+
 ghost use Rattle.std.specs.Prelude.{◌≡◌};
 ghost use Rattle.fieldset.specs.Tables.{at};
 ghost use Rattle.downstream.specs.Downstream.{gathered};

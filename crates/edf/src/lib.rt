@@ -1,4 +1,6 @@
 // The header of a European Data Format file: how many of its signals are airflow.
+#![tactic(auto)]
+
 ghost use Rattle.std.specs.Prelude.{◌≡◌, ◌&&◌, map, ◌≤◌, eqb, length, drop};
 ghost use Rattle.fieldset.specs.Numbers.{count, any};
 ghost use Rattle.edf.specs.Texts.{are_spaces, is_decimal, is_plain, number_of, is_text, is_either, is_flow, lower, is_unclear};
@@ -29,14 +31,14 @@ const SIGNAL_LIMIT: usize = 254;
 const FLOW_LIMIT: usize = 32;
 
 // What a header field says: a plain number, or something else.
-#[derive(Drop)]
+#[derive(Clone, Copy)]
 enum Number {
     Plain(usize),
     NotPlain,
 }
 
 // What a unit is: one of airflow, one of these but for letter case, or another.
-#[derive(Drop)]
+#[derive(Clone, Copy)]
 enum Unit {
     Flow,
     Unclear,
@@ -44,7 +46,7 @@ enum Unit {
 }
 
 // What a header gives: how many signals are airflow, or why it is refused.
-#[derive(Drop)]
+#[derive(Clone, Copy)]
 pub enum Header {
     Flows(u8),
     Refused(Refusal),
@@ -157,7 +159,7 @@ fn read_unit(s: &[u8]) -> Unit
 }
 
 // What the units of the signals are: how many are airflow, and whether one is unclear.
-#[derive(Drop)]
+#[derive(Clone, Copy)]
 struct Units {
     flows: usize,
     unclear: bool,

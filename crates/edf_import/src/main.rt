@@ -1,4 +1,6 @@
 // The import program: reads a file of the European Data Format on standard input, and writes the lines of a panel for its airflow signals.
+#![tactic(auto)]
+
 ghost use Rattle.std.specs.Prelude.{◌≡◌, ◌≤◌, length, take};
 ghost use Rattle.edf.specs.Header.{header_length};
 ghost use Rattle.importing.specs.Imports.{import_output};

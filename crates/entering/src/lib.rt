@@ -1,4 +1,6 @@
 // Entering a value in a field that a touch was decided on.
+#![tactic(auto)]
+
 ghost use Rattle.std.specs.Prelude.{◌≡◌, List, ℕ};
 ghost use Rattle.panel.specs.Items.{link_at};
 ghost use Rattle.panel.specs.Commands.{touching, performed};

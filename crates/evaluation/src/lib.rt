@@ -1,4 +1,6 @@
 // The evaluation of a whole plan.
+#![tactic(auto)]
+
 ghost use Rattle.std.specs.Prelude.{◌<◌, ◌≡◌, length, take, set};
 ghost use Rattle.fieldset.specs.Tables.{at};
 ghost use Rattle.formulas.specs.Formulas.{formula_of};

@@ -1,1 +1,2 @@
 // Theorems about the values of a sheet and about lists of commands on it. No code.
+#![tactic(auto)]

@@ -1,10 +1,12 @@
 // The field-byte reader.
+#![tactic(auto)]
+
 ghost use Rattle.fieldbytes.specs.Bytes.{FieldsOf};
 
 use fieldset::{wide, with};
 
 // The fields of field bytes, those of them that are outputs, and whether they rise strictly, with bit 6 of each byte zero.
-#[derive(Drop)]
+#[derive(Clone, Copy)]
 pub struct Fields {
     pub covered: u64,
     pub outputs: u64,

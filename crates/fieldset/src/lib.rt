@@ -1,4 +1,6 @@
 // A set of fields as one u64, bit i for field i.
+#![tactic(auto)]
+
 ghost use Rattle.std.specs.Prelude.{◌≡◌, ◌≤◌, ◌<◌};
 ghost use Rattle.fieldset.specs.Fields.{member, with, without, union, meets, within, only, below, lowest_of, First, minus, size};
 

@@ -1,4 +1,6 @@
 // Whether a well-formed panel is unfit: it has a loop, a blocked link or stay, or a required link that waits.
+#![tactic(auto)]
+
 ghost use Rattle.std.specs.Prelude.{◌≡◌, true, ◌&&◌, eqb};
 ghost use Rattle.panel.specs.Items.{is_in_force, is_waiting};
 ghost use Rattle.panel.specs.Solution.{least_blocked};

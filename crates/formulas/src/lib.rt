@@ -1,4 +1,6 @@
 // Formulas of links: which ones a link can have, and what a setter sets its field to.
+#![tactic(auto)]
+
 ghost use Rattle.std.specs.Prelude.{◌≡◌, ◌<◌};
 ghost use Rattle.values.specs.Limits.{limited_values, limited, value_at};
 ghost use Rattle.formulas.specs.Formulas.{computed, Usable, accepted};
@@ -7,7 +9,7 @@ use fieldset::{lowest, member, size, wide, without};
 use values::{Limited, limit, minus, ratio, sum};
 
 // A link's formula: none, which keeps the value of the field that the link sets; a ratio p to q of two fields; a sum in a field.
-#[derive(Drop)]
+#[derive(Clone, Copy)]
 pub enum Formula {
     None,
     Ratio(u16, u16),
@@ -15,13 +17,13 @@ pub enum Formula {
 }
 
 // A link's formula, as an element of an array.
-#[derive(Drop)]
+#[derive(Clone, Copy)]
 pub struct Rule {
     pub formula: Formula,
 }
 
 // The formulas of the links of all numbers.
-#[derive(Drop)]
+#[derive(Clone, Copy)]
 pub struct Formulas {
     pub of: [Rule; 128],
 }

@@ -1,4 +1,6 @@
 // Lines of hexadecimal, one frame a line; the length of a text of them.
+#![tactic(auto)]
+
 ghost use Rattle.std.specs.Prelude.{◌≡◌, ◌≤◌, ◌<◌, min, length, take, drop, [], ◌∷◌};
 ghost use Rattle.panel.specs.Commands.{has_bit6, any_of};
 ghost use Rattle.hex.specs.Hex.{frame_room};
@@ -24,7 +26,7 @@ pub fn is_too_long(text: &[u8]) -> bool
 
 // What a line asks. What a frame has behind its third byte stands beside it, in the frame: the field bytes of a link, the rest of a value or of a
 // formula.
-#[derive(Drop)]
+#[derive(Clone, Copy)]
 pub enum Command {
     Open(u8),
     Add(u8, u8),
@@ -40,7 +42,7 @@ pub enum Command {
 }
 
 // A line's command, the first bytes of its frame, and how many of them count.
-#[derive(Drop)]
+#[derive(Clone, Copy)]
 pub struct Line {
     pub command: Command,
     pub frame: [u8; hex::FRAME_ROOM],

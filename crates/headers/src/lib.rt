@@ -1,1 +1,2 @@
 // Worked headers, held to the definition of the import. No code.
+#![tactic(auto)]

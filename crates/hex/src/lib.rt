@@ -1,4 +1,6 @@
 // Hexadecimal, two digits a byte.
+#![tactic(auto)]
+
 ghost use Rattle.std.specs.Prelude.{◌≡◌, true, ◌+◌, ◌*◌, length};
 ghost use Rattle.std.proofs.lemmas.List.Edits.{sets};
 ghost use Rattle.hex.specs.Hex.{is_digit, digit_of, are_digits, offset_of, bytes_of, frame_room};
@@ -11,14 +13,14 @@ pub const FRAME_ROOM: usize = 12;
 pub const LETTER: u8 = b'A' - 10;
 
 // What a character is: a digit's value, or another character.
-#[derive(Drop)]
+#[derive(Clone, Copy)]
 pub enum Digit {
     Value(u8),
     Other,
 }
 
 // What a line is: refused, with the offset where it is wrong, or a frame of so many bytes.
-#[derive(Drop)]
+#[derive(Clone, Copy)]
 pub enum Decoded {
     BadHex(usize),
     Frame(usize),

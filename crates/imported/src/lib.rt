@@ -1,1 +1,2 @@
 // Theorems about the import: the panel accepts every line of it. No code.
+#![tactic(auto)]

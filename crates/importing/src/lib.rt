@@ -1,4 +1,6 @@
 // The import of a file's airflow signals: the lines of a panel with two fields, a link and a ratio for each of them, or the line of a refusal.
+#![tactic(auto)]
+
 ghost use Rattle.std.specs.Prelude.{◌≡◌, ◌+◌, ◌<◌, ◌≤◌, length};
 ghost use Rattle.std.proofs.lemmas.List.Edits.{sets};
 ghost use Rattle.frames.specs.Texts.{written};

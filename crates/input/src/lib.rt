@@ -1,10 +1,12 @@
 // Standard input, or the file that a program's argument names, read into a buffer.
+#![tactic(auto)]
+
 ghost use Rattle.std.specs.Prelude.{◌≡◌, false, ◌≤◌, length};
 
 use libc::STDIN_FILENO;
 
 // What was read: how many bytes stand in the buffer, and whether reading ended well, at the end of the input or with the buffer full.
-#[derive(Drop)]
+#[derive(Clone, Copy)]
 pub struct Input {
     pub len: usize,
     pub whole: bool,

@@ -1,4 +1,6 @@
 // Downstream sets and direct readers kept from one state to the next, and the loop test that goes through changed fields only.
+#![tactic(auto)]
+
 ghost use Rattle.std.specs.Prelude.{◌≡◌, false, ◌≤◌, ◌<◌, length, set};
 ghost use Rattle.fieldset.specs.Tables.{at};
 ghost use Rattle.fieldset.specs.Fields.{without, below, Within};

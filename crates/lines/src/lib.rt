@@ -1,4 +1,6 @@
 // The lines of a text: where a line ends, and where the next one begins.
+#![tactic(auto)]
+
 ghost use Rattle.std.specs.Prelude.{◌≡◌, ◌+◌, length, drop};
 ghost use Rattle.lines.specs.Lines.{line_length, behind_of};
 

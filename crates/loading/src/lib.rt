@@ -1,4 +1,6 @@
 // Reads a saved text into a sheet.
+#![tactic(auto)]
+
 ghost use Rattle.std.specs.Prelude.{◌≡◌, ◌≤◌, length, take};
 ghost use Rattle.sheet.specs.Sheets.{Full};
 ghost use Rattle.sheet.specs.Commands.{refused};
@@ -62,7 +64,7 @@ fn is_bad(text: &[u8], c: Sheet) -> bool
 }
 
 // What reading answers, and the sheet afterwards.
-#[derive(Drop)]
+#[derive(Clone, Copy)]
 pub struct Loaded {
     pub reply: Reply,
     pub sheet: Sheet,

@@ -1,4 +1,6 @@
 // The panel before it is opened, and its opening.
+#![tactic(auto)]
+
 ghost use Rattle.std.specs.Prelude.{◌≡◌, ℕ, List, length};
 ghost use Rattle.panel.specs.Items.{link_at};
 ghost use Rattle.panel.specs.Panels.{opened};

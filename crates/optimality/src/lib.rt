@@ -1,1 +1,2 @@
 // Theorems about the panel's definitions: nobody can hold more. No code.
+#![tactic(auto)]

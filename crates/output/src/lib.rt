@@ -1,4 +1,6 @@
 // The output of a text, passed on to standard output a buffer at a time.
+#![tactic(auto)]
+
 ghost use Rattle.std.specs.Prelude.{◌≡◌, true, ◌+◌, ◌^◌, ◌<◌, length};
 ghost use Rattle.sheet.specs.Legal.{LegalSheet};
 ghost use Rattle.frames.specs.Texts.{output_of};
@@ -10,7 +12,7 @@ use sheet::Sheet;
 use tally::Tally;
 
 // How many bytes of an output were passed on, and whether all of them were written.
-#[derive(Drop)]
+#[derive(Clone, Copy)]
 pub struct Output {
     pub len: usize,
     pub whole: bool,

@@ -1,4 +1,6 @@
 // The panel: fields, links, stays, and what a command comes to.
+#![tactic(auto)]
+
 ghost use Rattle.std.specs.Prelude.{◌≡◌, length};
 ghost use Rattle.panel.specs.Items.{no_link};
 ghost use Rattle.panel.specs.Outcomes.{unchanged};
@@ -16,7 +18,7 @@ pub const LAST_LINK: u8 = 127;
 pub const ROWS: usize = 192;
 
 // A link's standing: it waits, or it holds one named field.
-#[derive(Drop)]
+#[derive(Clone, Copy)]
 pub enum Standing {
     Waiting,
     Holding(u8),
@@ -24,7 +26,7 @@ pub enum Standing {
 
 // A link: a constraint over its covered fields, which it is permitted to hold by setting one of its outputs.
 // A number that is not in use has the default link: zeros, waiting.
-#[derive(Drop)]
+#[derive(Clone, Copy)]
 pub struct Link {
     pub covered: u64,
     pub outputs: u64,
@@ -35,7 +37,7 @@ pub struct Link {
 }
 
 // A panel: the constraint graph with its solution. Before it is opened its size is 0.
-#[derive(Drop)]
+#[derive(Clone, Copy)]
 pub struct Panel {
     // how many fields there are
     pub size: usize,
@@ -47,7 +49,7 @@ pub struct Panel {
 }
 
 // Why a line, a text or a file is refused.
-#[derive(Drop)]
+#[derive(Clone, Copy)]
 pub enum Refusal {
     // the offset in the line where it is wrong
     BadHex(u16),
@@ -83,14 +85,14 @@ pub enum Refusal {
 }
 
 // The reply to a command. An accepted one has a count: the fields that are redrawn, or, for a plan, the fields listed.
-#[derive(Drop)]
+#[derive(Clone, Copy)]
 pub enum Reply {
     Accepted(u8),
     Refused(Refusal),
 }
 
 // What a command comes to. The panel is changed by whoever takes the step, who then has the count of its reply: here it is 0, but for a plan's.
-#[derive(Drop)]
+#[derive(Clone, Copy)]
 pub struct Step {
     pub reply: Reply,
     // what the panel then has: its fields, the stays' places, the link of the number that the command names

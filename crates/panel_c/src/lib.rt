@@ -1,4 +1,6 @@
 // The operations on a text for C and Rust to call. A text and a buffer are a pointer and a length each; a tally and the values are lent by their address.
+#![tactic(auto)]
+
 ghost use Rattle.std.specs.Prelude.{◌≡◌, cond, length};
 ghost use Rattle.std.proofs.lemmas.List.Edits.{sets};
 ghost use Rattle.frames.specs.Texts.{is_too_long};

@@ -1,5 +1,7 @@
 // The program that goes on from a saved panel: reads it from the file that its argument names, writes the reply, and, where it was taken in, answers the
 // text on standard input from there on.
+#![tactic(auto)]
+
 ghost use Rattle.std.specs.Prelude.{◌≡◌, true, false, List, ℕ, ◌+◌, length};
 ghost use Rattle.panel.specs.Answers.{is_refusal};
 ghost use Rattle.hex.specs.Hex.{line_of};

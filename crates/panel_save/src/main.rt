@@ -1,4 +1,6 @@
 // The program that saves: reads a text on standard input, and writes the saved panel that its lines leave.
+#![tactic(auto)]
+
 ghost use Rattle.std.specs.Prelude.{◌≡◌, length};
 ghost use Rattle.sessions.specs.Sessions.{saved_output};
 

@@ -1,4 +1,6 @@
 // The sheet that the lines of a text enter, whatever the text is.
+#![tactic(auto)]
+
 ghost use Rattle.std.specs.Prelude.{◌≡◌, true, ◌-◌, min, length, take, drop, set};
 ghost use Rattle.fieldset.specs.Tables.{at};
 ghost use Rattle.hex.specs.Hex.{are_digits, bytes_of};

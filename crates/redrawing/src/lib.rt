@@ -1,4 +1,6 @@
 // The redraw count of a line.
+#![tactic(auto)]
+
 ghost use Rattle.std.specs.Prelude.{◌≡◌};
 ghost use Rattle.fieldset.specs.Tables.{at};
 ghost use Rattle.fieldset.specs.Fields.{union};

@@ -1,4 +1,6 @@
 // Giving a link a formula.
+#![tactic(auto)]
+
 ghost use Rattle.std.specs.Prelude.{◌≡◌, ◌%◌};
 ghost use Rattle.panel.specs.Items.{link_at};
 ghost use Rattle.panel.specs.Answers.{reply_bytes};

@@ -1,4 +1,6 @@
 // Removing a link.
+#![tactic(auto)]
+
 ghost use Rattle.std.specs.Prelude.{◌≡◌, ◌%◌, ◌<◌, length};
 ghost use Rattle.fieldset.specs.Tables.{at};
 ghost use Rattle.panel.specs.Items.{link_at};
@@ -35,7 +37,7 @@ fn check_remove(n: usize, id: u8, used: bool) -> Reply
 }
 
 // The link or stay that a scan finds: its number as a setter, its outputs and covered fields. Without outputs there is none.
-#[derive(Drop)]
+#[derive(Clone, Copy)]
 struct Chosen {
     number: u8,
     outputs: u64,
@@ -70,7 +72,7 @@ fn choose(b: Blocked) -> Chosen
 }
 
 // What is to be done once a link is dropped, and the number of the link or stay that it is done for.
-#[derive(Drop)]
+#[derive(Clone, Copy)]
 pub struct Decision {
     pub verdict: Verdict,
     pub number: u8,

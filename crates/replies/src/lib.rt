@@ -1,4 +1,6 @@
 // Replies: a refusal's bytes, the refusal that a reply tells, and their lines.
+#![tactic(auto)]
+
 ghost use Rattle.std.specs.Prelude.{◌≡◌, [], ◌∷◌, ◌+◌, ◌*◌, ◌^◌, ◌≤◌, ◌<◌, length};
 ghost use Rattle.std.proofs.lemmas.List.Edits.{sets};
 ghost use Rattle.panel.specs.Answers.{two_bytes, refusal_bytes, reply_bytes, plan_rest};
@@ -17,7 +19,7 @@ pub const LONGEST: usize = 2 * (2 + ROWS) + 1;
 const REFUSAL_ROOM: usize = 3;
 
 // A refusal's bytes, its number and the values behind it, and how many they are.
-#[derive(Drop)]
+#[derive(Clone, Copy)]
 struct RefusalBytes {
     bytes: [u8; REFUSAL_ROOM],
     len: usize,

@@ -1,4 +1,6 @@
 // Deciding on the reversal of a path, over the tables of a panel's setters.
+#![tactic(auto)]
+
 ghost use Rattle.std.specs.Prelude.{◌≡◌, length, take};
 ghost use Rattle.panel.specs.Outcomes.{PathOf};
 ghost use Rattle.reversal.specs.Reversals.{reversed_reads, fields_of, with_path, resolved_path, Undecided, Decided, Unresolved, Resolved, HeldField, held_field, step_of};
@@ -10,7 +12,7 @@ use strength::{greatest, lowest_at, path_from};
 
 // What is to be done for an item: nothing where it is not blocked; else its path is reversed, which has so many fields, these, unless
 // there is a loop then.
-#[derive(Drop)]
+#[derive(Clone, Copy)]
 pub enum Verdict {
     Free,
     Looped,

@@ -1,4 +1,6 @@
 // The program: reads a text on standard input, and writes one reply a line, then the tally.
+#![tactic(auto)]
+
 ghost use Rattle.std.specs.Prelude.{◌≡◌, true, length};
 ghost use Rattle.frames.specs.Frames.{panel_output};
 

@@ -1,4 +1,6 @@
 // Writes the saved text of a sheet into a lent buffer, as many of its first bytes as fit.
+#![tactic(auto)]
+
 ghost use Rattle.std.specs.Prelude.{◌≡◌, [], ◌∷◌, ◌≤◌, ◌<◌, ◌+◌, ◌^◌, length};
 ghost use Rattle.std.proofs.lemmas.List.Edits.{sets};
 ghost use Rattle.hex.specs.Hex.{hex_of, lf};
@@ -21,7 +23,7 @@ pub const LONGEST: usize = 5322;
 pub const VERSION: u8 = 1;
 
 // What saving answers: that the panel is not open, or the length of the whole text.
-#[derive(Drop)]
+#[derive(Clone, Copy)]
 pub enum Saved {
     NotOpen,
     Length(usize),

@@ -1,4 +1,6 @@
 // The scan for blocked links and stays once a link is dropped: all strengths are worked out first, and it reads only these.
+#![tactic(auto)]
+
 ghost use Rattle.std.specs.Prelude.{◌≡◌, ◌<◌, length};
 ghost use Rattle.fieldset.specs.Tables.{at};
 ghost use Rattle.panel.specs.Panels.{dropped};
@@ -43,7 +45,7 @@ fn is_blocked(l: Link, table: &[u8; 64]) -> bool
 }
 
 // What a scan for blocked links and stays finds.
-#[derive(Drop)]
+#[derive(Clone, Copy)]
 pub enum Blocked {
     Nothing,
     Link(u8, Link),
@@ -82,7 +84,7 @@ pub fn find_blocked(p: Panel, setter: &[u8; 64], table: &[u8; 64]) -> Blocked
 }
 
 // What a scan finds, and how many strengths were worked out for it.
-#[derive(Drop)]
+#[derive(Clone, Copy)]
 pub struct Found {
     pub blocked: Blocked,
     pub worked: u8,

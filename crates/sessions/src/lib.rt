@@ -1,4 +1,6 @@
 // Operations on a whole text whose panel is saved in the end, or that goes on from a saved panel.
+#![tactic(auto)]
+
 ghost use Rattle.std.specs.Prelude.{◌≡◌, false, ◌^◌, ◌≤◌, ◌<◌, length};
 ghost use Rattle.std.proofs.lemmas.List.Edits.{sets};
 ghost use Rattle.panel.specs.Answers.{reply_bytes, is_refusal};

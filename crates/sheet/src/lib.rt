@@ -1,4 +1,6 @@
 // A sheet: a panel with the formulas of its links and the values of its fields.
+#![tactic(auto)]
+
 ghost use Rattle.std.specs.Prelude.{◌≡◌};
 ghost use Rattle.sheet.specs.Sheets.{blank, unopened};
 ghost use Rattle.sheet.specs.Legal.{LegalSheet};
@@ -6,7 +8,7 @@ ghost use Rattle.sheet.specs.Legal.{LegalSheet};
 use formulas::{Formula, Formulas, Rule};
 use panel::Panel;
 
-#[derive(Drop)]
+#[derive(Clone, Copy)]
 pub struct Sheet {
     pub panel: Panel,
     // for each link its formula; a number that is not in use has none

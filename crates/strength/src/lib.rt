@@ -1,5 +1,7 @@
 // Strengths of fields and the reversible path, over small tables of one entry for each field: `levels` has the level of its setter,
 // `others` the set of its setter's other outputs.
+#![tactic(auto)]
+
 ghost use Rattle.std.specs.Prelude.{◌≡◌, true, eqb, ◌++◌, ◌<◌, max, length, drop};
 ghost use Rattle.fieldset.specs.Tables.{at, tabulate};
 ghost use Rattle.fieldset.specs.Fields.{member, below, filter, Within};
@@ -14,7 +16,7 @@ fn larger(a: u8, b: u8) -> u8
     if a < b { b } else { a }
 }
 
-#[derive(Drop)]
+#[derive(Clone, Copy)]
 pub struct Top {
     // the fields whose strengths the table has
     pub known: u64,

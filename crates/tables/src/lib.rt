@@ -1,4 +1,6 @@
 // The tables of a panel's setters: for each field the level, the other outputs and the read fields of its setter.
+#![tactic(auto)]
+
 ghost use Rattle.std.specs.Prelude.{◌≡◌, ◌<◌, length};
 ghost use Rattle.fieldset.specs.Tables.{at, tabulate};
 ghost use Rattle.tables.specs.Tables.{EntryOf, Tabled, Places, level_with};
@@ -7,7 +9,7 @@ use fieldset::{wide, without};
 use panel::{Link, Panel, STAY, STAY_LEVEL};
 
 // What a field's setter gives its tables: level, other outputs, read fields.
-#[derive(Drop)]
+#[derive(Clone, Copy)]
 pub struct Entry {
     pub level: u8,
     pub others: u64,

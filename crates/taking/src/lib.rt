@@ -1,4 +1,6 @@
 // The part of a step that changes setters: what is freed and the path that is reversed, in the panel and in its tables.
+#![tactic(auto)]
+
 ghost use Rattle.std.specs.Prelude.{◌≡◌, cond, ltb, take};
 ghost use Rattle.fieldset.specs.Tables.{at};
 ghost use Rattle.panel.specs.Items.{item_of};

@@ -1,4 +1,6 @@
 // The tally of a run.
+#![tactic(auto)]
+
 ghost use Rattle.std.specs.Prelude.{◌≡◌, ◌/◌, ◌%◌, min};
 ghost use Rattle.tally.specs.Tallies.{cap, more, tallied, tally_bytes};
 
@@ -10,7 +12,7 @@ pub const TALLY_BYTES: usize = 11;
 
 // How many lines there were, how many of them were accepted and refused, and the last refusal's number, 0 if none.
 #[repr(C)]
-#[derive(Drop)]
+#[derive(Clone, Copy)]
 pub struct Tally {
     pub lines: u32,
     pub accepted: u32,

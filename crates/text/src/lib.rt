@@ -1,4 +1,6 @@
 // The operations on a whole text.
+#![tactic(auto)]
+
 ghost use Rattle.std.specs.Prelude.{◌≡◌, false, ◌+◌, ◌^◌, ◌<◌, length, ◌∷◌};
 ghost use Rattle.std.proofs.lemmas.List.Edits.{sets};
 ghost use Rattle.panel.specs.declared.Refusal.TheVariants.{TextTooLong as TooLong};
@@ -23,7 +25,7 @@ use tally::Tally;
 const ROOM: usize = LONGEST * TEXT_LIMIT;
 
 // What a text is answered: the length of the whole output, or that it is too long.
-#[derive(Drop)]
+#[derive(Clone, Copy)]
 pub enum Outcome {
     Length(usize),
     TextTooLong,
@@ -51,7 +53,7 @@ pub fn put_tally(out: &mut [u8], at: usize, t: Tally) -> usize
 }
 
 // A text's outcome, and the tally after it.
-#[derive(Drop)]
+#[derive(Clone, Copy)]
 pub struct Ending {
     pub outcome: Outcome,
     pub tally: Tally,

@@ -1,4 +1,6 @@
 // Touching a field.
+#![tactic(auto)]
+
 ghost use Rattle.std.specs.Prelude.{◌≡◌, ℕ, ◌<◌, ◌+◌, ltb, cond, length};
 ghost use Rattle.fieldset.specs.Tables.{tabulate};
 ghost use Rattle.panel.specs.Items.{link_at};

@@ -1,4 +1,6 @@
 // Values of fields: whole numbers with a sign in 32 bits, and arithmetic on them that is exact, in 64 bits.
+#![tactic(auto)]
+
 ghost use Rattle.std.specs.Prelude.{◌≡◌, cond, ◌≤◌, ◌<◌, ◌*◌, ◌^◌, pos, neg_ℤ, nat_abs, ◌+ℤ◌, ◌-ℤ◌};
 ghost use Rattle.std.specs.Int.{w64};
 ghost use Rattle.std.proofs.Common.{SFits};
@@ -11,7 +13,7 @@ ghost use Rattle.values.specs.Changes.{differ, revalued};
 use fieldset::{lowest, with, without_lowest};
 
 // A result that is held to the limits: a value, or that it is outside.
-#[derive(Drop)]
+#[derive(Clone, Copy)]
 pub enum Limited {
     OutOfRange,
     Value(i32),

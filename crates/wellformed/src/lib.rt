@@ -1,4 +1,6 @@
 // Whether a sheet is well formed: such a sheet has a text that is no BadImage.
+#![tactic(auto)]
+
 ghost use Rattle.std.specs.Prelude.{◌≡◌, ◌&&◌, ◌||◌, cond, ◌≤◌, ◌<◌, ltb};
 ghost use Rattle.panel.specs.Items.{is_waiting};
 ghost use Rattle.sheet.specs.Sheets.{Full};
