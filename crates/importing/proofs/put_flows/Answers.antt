@@ -1,0 +1,33 @@
+use mathlib.Core.Path.{ap, ◌∙◌}
+use native.Mathlib.Omega.{arith}
+use lib.ListN.{length}
+use lib.Seq.{length-sets}
+use Rattle.hex.proofs.Bytes.{length_line}
+use Rattle.importing.specs.Imports.{open_frame}
+use Rattle.importing.proofs.Flows.{put_none, put_ends, put_more, put_all}
+use Rattle.importing.proofs.put_flows.Goals as goal
+
+-- ---- the places: the opening's line is put; the loop
+
+-- ---- the needs
+
+pub loop-i-init : goal.loop-i-init
+loop-i-init c = put_none _ _ _
+
+pub put_flow-n-requires : goal.put_flow-n-requires
+put_flow-n-requires c =
+    let k = c.args.k in (
+      omega (arith, c.loop-i-test.true, c.requires),
+      omega (arith, c.loop-i-test.true, c.requires, put_ends c.loop-i.invariant, c.put_line-n.ensures.1, length_line (open_frame k)),
+    )
+
+pub loop-i-preserved : goal.loop-i-preserved
+loop-i-preserved c = put_more c.loop-i.invariant c.loop-i-test.true c.put_flow-n.ensures.0 c.put_flow-n.ensures.1
+
+pub returns : goal.returns
+returns c = let e = c.put_line-n.ensures in put_all c.loop-i.invariant _ c.loop-i-test.false e.0 e.1
+
+pub shape_of-out : goal.shape_of-out
+shape_of-out c = ap length (returns c).0 ∙ simp length-sets
+
+-- TODO 10 answers given for 9 goals

@@ -1,0 +1,137 @@
+-- `tally::tally_line` meets its contract: a walk of its MIR, by hand. The borrow is opened and the record copied out; `tallied` is called on the copy; its result is stored, and the borrow is closed at it.
+-- All that is known of `tallied` is that it meets its contract. Assumes nothing.
+use mathlib.Core.Path.{◌≡◌, refl}
+use Prim.Native.Nat.{ℕ, ◌<◌, ◌^◌}
+use mathlib.Core.List.{[], ◌∷◌, List}
+use seplogic.Ra.Ura.{Ura}
+use seplogic.Ra.TreeShare.{full_share}
+use mir.Syntax.{named, w8}
+use mir.Val.{Val, vunit, vint, vptr}
+use base.Logic.{SProp, ent, sep, emp, via, fst∗, snd∗, ex_e, id⊢}
+use base.Fml.{GName, Lft, Share, ftrue, flft, fobs, fbor}
+use prog.Memory.{Memory}
+use prog.Routine.{Routine}
+use prog.Wp.{Calls, Loops, WpFn, Tables}
+use types.Logic.{Logic, sem}
+use contract.Monad.{Fun, fact}
+use types.Kit.{‵, raw, ◌⊛◌, some, later, ◌$◌, ◌∵◌, !, qed, by, move, keep, drop, use1, use2, split, join, fsplit, fsplit3, fjoin, fjoin3, feq_i, pick, suffices, frame, await, done}
+use types.Run.{look, look_raw, init, store_raw, forget, stop, hop, from, load, unit_lit, of_opd, and_then, no_more, land, assigns, returns, enter, alloc1, alloc0, params1, pass1, pass0, free1, free0}
+use types.SemTy.{Body}
+use sound.WpLaws.{FmC, fm_of, WpFn-mono}
+use denote.RattleType.{owns}
+use denote.Laws.{Is, shows}
+use denote.Memory.{mem}
+use denote.Plain.{uint_vals, uint_Tells, uint_Makes}
+use denote.Builtin.{u8}
+use denote.Ref.{MutBor, MutRef, mut_vals, mut_Tells}
+use denote.Signature.{plain}
+use denote.Steps.{opens, closes, owned, peeks, heard, nothing}
+use denote.Struct.Steps.{spelt}
+use denote.Struct.Laws as LL
+use denote.Triple.Statement.{Contract, Triple}
+use denote.Triple.Call.{calls_at}
+use denote.Triple.Entry.{on_entry}
+use denote.Triple.Spec.{Meets, triple_of}
+use denote.Triple.Walked.{says, Stays, stay_ref, stay_none, walk_of, AllGo, Goes-none, Goes-ref, Walks, ends_at, walked, walk_Meets}
+use denote.Triple.Clauses.{ensured, lasts}
+use denote.Exit.{yes}
+use Rattle.tally.specs.declared.Tally.{Tally}
+use Rattle.tally.specs.Tallies.{tallied}
+use Rattle.tally.specs.contracts.Tally as T
+use Rattle.tally.proofs.Tally.TheLaws as T'
+use Rattle.tally.specs.contracts.tallied as callee
+use Rattle.tally.proofs.tallied.Symbol as tallied-def
+use Rattle.tally.proofs.tallied.Symbol.{name as #tally·tallied}
+use Rattle.tally.proofs.tallied.Met as tallied-thm
+use Rattle.tally.specs.contracts.tally_line as f
+use Rattle.tally.proofs.tally_line.Statement as stated
+use Rattle.tally.proofs.tally_line.Code as code
+use Rattle.tally.proofs.tally_line.Goals as goal
+
+abbrev stayed : Stays (f.ended).signature.params (f.ended).kept
+stayed = (stay_ref (0 ∷ []) tt (plain (λ _. T.the_row)), (stay_none (λ _. u8) yes, tt))
+
+abbrev vals : Tally → List Val
+vals = LL.vals T.the_type T'.the_laws
+
+abbrev val : Tally → Val
+val = LL.val T.the_type T'.the_laws
+
+-- TODO raw
+module _ {M : Type 1} {𝓤 : Ura M} (𝓛 : Logic 𝓤) (at_mem : Memory → SProp 𝓤) (run : Routine → Fun 𝓤) where
+  abbrev Called : Contract 𝓤
+  Called = triple_of 𝓛 callee.signature (callee.spec 𝓛 at_mem run)
+
+  -- of the callee's `ensured`, the clause alone
+  got_of : (h : Tally) (n : ℕ) (r : Tally) → ent 𝓤 (ensured 𝓛 callee.ended (callee.clauses 𝓛 at_mem run) tt (h, (n, tt)) tt r) (fact 𝓤 (r ≡ tallied h n))
+  got_of h n r = ex_e 𝓤 _ (λ ws. snd∗ 𝓤 (sem 𝓛 (lasts callee.ended tt (h, (n, tt)) ws)) (fact 𝓤 (r ≡ tallied h n)))
+
+-- TODO raw
+module _ {M : Type 1} {𝓤 : Ura M} (𝓛 : Logic 𝓤) (at_mem : Memory → SProp 𝓤) (run : Routine → Fun 𝓤) (κ : Lft) (q : Share) (b o : ℕ) (γ : GName) (h : Tally) (n : ℕ) where
+  open 𝓛 use {H, A}
+
+  abbrev x : MutBor Tally × (ℕ × Unit {0})
+  x = (record { ref_ptr = (b, o); ghost_name = γ; now = h }, (n, tt))
+
+  abbrev at : List Val × (List Val × Unit {0})
+  at = (vptr b o ∷ [], (vint w8 n ∷ [], tt))
+
+  abbrev Post : Val → SProp 𝓤
+  Post = (walk_of 𝓛 f.ended stayed (f.clauses 𝓛 at_mem run)).post (((κ, tt), (q, tt), tt, x, at), tt)
+
+  exits : (r : Tally) → r ≡ tallied h n → n < 2 ^ 8 → ent 𝓤 (sep 𝓤 (A.obs γ ((T.the_row).coded.code r)) (sep 𝓤 (A.bor κ (Body (mem T.the_row) b o γ)) (A.lft κ q))) (Post vunit)
+  exits r e fits =
+      qed 𝓛 (‵ (fobs γ ((T.the_row).coded.code r)) ∷ ‵ (fbor κ (Body (mem T.the_row) b o γ)) ∷ ‵ (flft κ q) ∷ []) ∵
+      suffices ! _ (ends_at 𝓛 f.ended stayed (f.clauses 𝓛 at_mem run) (((κ, tt), (q, tt), tt, x, at), tt) vunit tt (r, (tt, tt)) (tt, (tt, tt))) $ says ! e $ nothing ! $ move ! (3 ∷ 0 ∷ []) $ join ! $
+      frame ! $ feq_i ! (List Val) (vptr b o ∷ []) (vptr b o ∷ []) refl $ fjoin3 ! $ nothing ! $ owned ! u8 (Is u8) (uint_Makes 𝓛 w8) n _ (refl, fits) $ fjoin ! $ move ! (1 ∷ 0 ∷ []) $ fjoin ! $
+      feq_i ! (List Val) (vunit ∷ []) (vunit ∷ []) refl $ move ! (1 ∷ 0 ∷ []) $ done !
+
+  abbrev to-tallied : (Called 𝓛 at_mem run).Ghost
+  to-tallied = ((tt, tt, tt, (h, (n, tt)), (vals h, (vint w8 n ∷ [], tt))), tt)
+
+  goes-tallied : ent 𝓤 (sep 𝓤 (sem 𝓛 ((T.the_row).own_val h (vals h))) (sem 𝓛 (u8.own_val n (vint w8 n ∷ [])))) ((Called 𝓛 at_mem run).pre to-tallied)
+  goes-tallied = qed 𝓛 (‵ ((T.the_row).own_val h (vals h)) ∷ ‵ (u8.own_val n (vint w8 n ∷ [])) ∷ []) ∵ nothing ! $ move ! (2 ∷ 0 ∷ []) $ fjoin ! $ move ! (1 ∷ 0 ∷ []) $ fjoin ! $ nothing ! $ join ! $ frame ! $ done !
+
+  module _ (C : Calls 𝓤 H) (Λ : Loops 𝓤 H) (fm : FmC 𝓤 H 𝓛.laws C) (known : Triple 𝓤 (C #tally·tallied) (Called 𝓛 at_mem run)) where
+    walk : ent 𝓤 (on_entry 𝓛 f.signature (κ, tt) (q, tt) x at) (WpFn 𝓤 H C Λ code.function (vptr b o ∷ vint w8 n ∷ []) Post)
+    walk =
+        qed 𝓛 ((‵ (flft κ q) ⊛ ‵ ftrue) ∷ ‵ (owns (MutRef (named 0) κ T.the_row ∷ u8 ∷ []) x at) ∷ []) ∵ split ! $ move ! (2 ∷ []) $ fsplit ! $ move ! (1 ∷ []) $ fsplit ! $
+        peeks ! u8 (Is u8) (shows 𝓛 u8) n (vint w8 n ∷ []) (λ gn. move ! (2 ∷ []) $ fsplit3 ! $ drop ! $ move ! (0 ∷ 1 ∷ 4 ∷ []) $
+        -- [obs; the borrow; the token; what the number owns; true; true]
+        enter ! C Λ code.function (vptr b o ∷ vint w8 n ∷ []) _ $
+        alloc1 ! (λ l₀. alloc1 ! (λ l₁. alloc1 ! (λ l₂. alloc1 ! (λ l₃. alloc1 ! (λ l₄. alloc0 ! $ params1 ! $ pass1 ! (init ! 6 refl (tt, tt)) $ pass1 ! (init ! 4 refl (tt, record { fits = gn.1 })) $ pass0 ! $
+        move ! (10 ∷ 11 ∷ 12 ∷ []) $ opens ! tt T.the_row {h = h} b o (λ vs. spelt ! T.the_row (Is T.the_row) (shows 𝓛 T.the_row) vals (LL.tells T.the_type T'.the_laws) full_share h vs b o $
+        move ! (1 ∷ []) $ peeks ! T.the_row (Is T.the_row) (shows 𝓛 T.the_row) h (vals h) (λ was. move ! (1 ∷ 0 ∷ []) $
+        -- [0 the struct's cell; 1 what a Tally owns; 2 the open borrow; 3 obs; 4 auth; 5 room for _4; 7 room for _3; 9 _2; 11 _1; 13 room for _0; ..]
+        assigns ! (of_opd ! (load ! (from ! (hop ! (look ! 11 refl) (stop !))) (look_raw ! 0 refl))) (from ! (stop !)) (init ! 5 refl ((LL.lawful T.the_type T'.the_laws 𝓛).typed h _ was).0) $
+        owned ! u8 (Is u8) (uint_Makes 𝓛 w8) n _ (refl, gn.1) $ owned ! T.the_row (Is T.the_row) ((LL.makes T.the_type T'.the_plain) 𝓛) h (vals h) was $
+        use2 𝓛 (raw ((Called 𝓛 at_mem run).pre to-tallied)) goes-tallied $
+        calls_at ! fm (Called 𝓛 at_mem run) known to-tallied (and_then ! (load ! (from ! (stop !)) (look ! 6 refl)) (and_then ! (load ! (from ! (stop !)) (look ! 10 refl)) (no_more !))) (λ v.
+        use1 𝓛 (later (some (λ (r : Tally). (‵ ftrue ⊛ ‵ ((T.the_row).own_val r (v ∷ []))) ⊛ raw (ensured 𝓛 callee.ended (callee.clauses 𝓛 at_mem run) tt (h, (n, tt)) tt r)))) (id⊢ 𝓤 _) $ await ! tt $ pick ! (λ r.
+        split ! $ move ! (1 ∷ []) $ use1 𝓛 (raw (fact 𝓤 (r ≡ tallied h n))) (got_of 𝓛 at_mem run h n r) $ heard ! (r ≡ tallied h n) (λ e. split ! $ drop ! $
+        peeks ! T.the_row (Is T.the_row) (shows 𝓛 T.the_row) r (v ∷ []) (λ is.
+        -- [0 what the result owns; 1 the struct's cell; 2 what the old Tally owns; 3 the open borrow; ..; 6 _4; 8 room for _3; 10 _2; 12 _1; 14 room for _0; ..]
+        land ! (from ! (stop !)) (init ! 8 refl ((LL.lawful T.the_type T'.the_laws 𝓛).typed r _ is).0) $
+        assigns ! (of_opd ! (load ! (from ! (stop !)) (look ! 8 refl))) (from ! (hop ! (look ! 12 refl) (stop !))) (store_raw ! 1 refl ((LL.lawful T.the_type T'.the_laws 𝓛).typed r _ is).0) $
+        assigns ! (of_opd ! (unit_lit !)) (from ! (stop !)) (init ! 14 refl (tt, tt)) $
+        move ! (2 ∷ []) $ drop ! $ move ! (1 ∷ 0 ∷ []) $ closes ! tt T.the_row r (v ∷ []) b o $
+        returns ! (look ! 11 refl) $ forget ! 3 refl $ forget ! 5 refl $ forget ! 7 refl $ forget ! 9 refl $ forget ! 11 refl $
+        move ! (11 ∷ 12 ∷ []) $ free1 ! $ move ! (9 ∷ 10 ∷ []) $ free1 ! $ move ! (7 ∷ 8 ∷ []) $ free1 ! $ move ! (5 ∷ 6 ∷ []) $ free1 ! $ move ! (3 ∷ 4 ∷ []) $ free1 ! $ free0 ! $
+        keep ! (0 ∷ 1 ∷ 2 ∷ []) $ by ! (exits r e gn.1)))))))))))))
+
+-- TODO raw
+module _ {M : Type 1} {𝓤 : Ura M} (𝓛 : Logic 𝓤) (at_mem : Memory → SProp 𝓤) (run : Routine → Fun 𝓤) where
+  open 𝓛 use {H}
+
+  tally-line-walks : (C : Calls 𝓤 H) (Λ : Loops 𝓤 H) → FmC 𝓤 H 𝓛.laws C → Triple 𝓤 (C #tally·tallied) (Called 𝓛 at_mem run)
+      → Walks 𝓛 f.ended stayed (WpFn 𝓤 H C Λ code.function) (f.clauses 𝓛 at_mem run)
+  tally-line-walks C Λ fm known = walked 𝓛 f.ended stayed (f.clauses 𝓛 at_mem run) (WpFn 𝓤 H C Λ code.function) (λ κs. (mut_vals, (uint_vals w8, tt))) (λ κs. (mut_Tells (named 0) κs.0 T.the_row, (uint_Tells w8, tt)))
+      (λ κs qs bounds a _ _. via 𝓤 _ (fst∗ 𝓤 _ (emp 𝓤)) (walk 𝓛 at_mem run κs.0 qs.0 a.0.ref_ptr.0 a.0.ref_ptr.1 a.0.ghost_name a.0.now a.1.0 C Λ fm known))
+
+  goes : AllGo 𝓛 1 (f.signature).params (f.ended).kept stayed
+  goes = (Goes-ref 𝓛 1 0 tt (plain (λ _. T.the_row)), (Goes-none 𝓛 1 (λ _. u8) yes (λ κs x f. refl), tt))
+
+tally-line-meets : {M : Type 1} {𝓤 : Ura M} (𝓛 : Logic 𝓤) (at_mem : Memory → SProp 𝓤) (run : Routine → Fun 𝓤) (𝓣 : Tables 𝓤 𝓛.H) → Triple 𝓤 (𝓣.C #tally·tallied) (Called 𝓛 at_mem run) → Meets 𝓛 f.signature (WpFn 𝓤 𝓛.H 𝓣.C 𝓣.Λ code.function) (f.spec 𝓛 at_mem run)
+tally-line-meets {𝓤 = 𝓤} 𝓛 at_mem run 𝓣 known =
+    walk_Meets 𝓛 f.ended stayed (goes 𝓛 at_mem run) (f.clauses 𝓛 at_mem run) (WpFn 𝓤 𝓛.H 𝓣.C 𝓣.Λ code.function) (WpFn-mono 𝓤 𝓛.H 𝓛.laws 𝓣 code.function)
+    (tally-line-walks 𝓛 at_mem run 𝓣.C 𝓣.Λ (fm_of 𝓤 𝓛.H 𝓛.laws 𝓣) known)
