@@ -19,6 +19,7 @@ use Rattle.fieldset.proofs.Tables.{length_tabulate}
 
 module _ {A : Type 0} where
   pub all_in : (P : A → Type 0) (xs : List A) (x : A) → All P xs → In x xs → P x
+  all_in P [] x a x4 = elim x4 [ ]
   all_in P (y ∷ ys) x a (inl e) = rw e a.0
   all_in P (y ∷ ys) x a (inr m) = all_in P ys x a.1 m
 
@@ -37,6 +38,7 @@ module _ {A : Type 0} where
   -- ---- joined lists
 
   pub in_left : (x : A) (xs ys : List A) → In x xs → In x (xs ++ ys)
+  in_left x [] ys x'' = elim x'' [ ]
   in_left x (y ∷ xs) ys (inl e) = inl e
   in_left x (y ∷ xs) ys (inr m) = inr (in_left x xs ys m)
 
@@ -52,6 +54,7 @@ module _ {A : Type 0} where
 
   pub in_passing : (q : A → Bool) (xs : List A) (x : A) → In x xs → q x ≡ true → In x (passing q xs)
   unfolding passing
+  in_passing q [] x x4 e = elim x4 [ ]
   in_passing q (y ∷ ys) x (inl d) e = rw (← d, e) (inl refl)
   in_passing q (y ∷ ys) x (inr m) e = go (q y) (in_passing q ys x m e)
     where
@@ -79,16 +82,19 @@ module _ {A : Type 0} where
 
   -- the list with a member struck out
   rest : (x : A) (ys : List A) → In x ys → List A
+  rest x [] x'' = elim x'' [ ]
   rest x (y ∷ ys) (inl e) = ys
   rest x (y ∷ ys) (inr m) = y ∷ rest x ys m
 
   length_rest : (x : A) (ys : List A) (m : In x ys) → length ys ≡ suc (length (rest x ys m))
   unfolding rest
+  length_rest x [] m = elim m [ ]
   length_rest x (y ∷ ys) (inl e) = refl
   length_rest x (y ∷ ys) (inr m) = ap suc (length_rest x ys m)
 
   in_rest : (x z : A) (ys : List A) (m : In x ys) → In z ys → x ≢ z → In z (rest x ys m)
   unfolding rest
+  in_rest x z [] m _ ne = elim m [ ]
   in_rest x z (y ∷ ys) (inl e) (inl d) ne = absurd (ne (e ∙ sym d))
   in_rest x z (y ∷ ys) (inl e) (inr k) ne = k
   in_rest x z (y ∷ ys) (inr m) (inl d) ne = inl d
@@ -107,10 +113,12 @@ module _ {A : Type 0} where
 
 module _ {A B : Type 0} (g : A → B) where
   pub in_map : (x : A) (xs : List A) → In x xs → In (g x) (map g xs)
+  in_map x [] x'' = elim x'' [ ]
   in_map x (y ∷ xs) (inl e) = inl (ap g e)
   in_map x (y ∷ xs) (inr m) = inr (in_map x xs m)
 
   pub map_in : (y : B) (xs : List A) → In y (map g xs) → (x : A) × In x xs × (y ≡ g x)
+  map_in y [] x' = elim x' [ ]
   map_in y (x ∷ xs) (inl e) = (x, inl refl, e)
   map_in y (x ∷ xs) (inr m) = let (z, k, e) = map_in y xs m in (z, inr k, e)
 
@@ -235,6 +243,7 @@ place_later f x xs e = rw (ne_eqb x f e)
 
 -- what stands in the list has a place in it
 pub place_in : (f : ℕ) (xs : List ℕ) → In f xs → place xs f < length xs
+place_in f [] x' = elim x' [ ]
 place_in f (x ∷ xs) (inl e) = rw (place_here f x xs (sym e)) (omega arith)
 place_in f (x ∷ xs) (inr m) = go (ℕ_discrete x f) (place_in f xs m)
   where

@@ -1,7 +1,7 @@
 -- Laws of the numbers below n that pass a test: of sums over them, of how many there are, and of the lowest. All are by induction on n; what holds of
 -- a count holds of the sum of ones, and what holds of the lowest follows from there being only one (`lowest_same`).
 use Prim.Native.Nat.{ℕ, zero, suc, ◌+◌, ◌≤◌, ◌<◌, zero-le}
-use mathlib.Core.Path.{◌≡◌, refl, sym, ap, ◌∙◌}
+use mathlib.Core.Path.{◌≡◌, refl, sym, ap, ◌∙◌, subst}
 use mathlib.Core.Bool.{Bool, true, false, not, ◌&&◌, ◌||◌, cond, and-true, and-false, and-not_self, or-true, true≢false}
 use mathlib.Core.Logic.{◌⊎◌, inl, inr, ◌≢◌}
 use native.Mathlib.Nat.{le_refl, le-suc, le_trans, le_antisymm, le_of_suc-le-suc, lt_of_not-le, not-suc-le-zero}
@@ -64,9 +64,10 @@ sum_but w p (suc n) i l e = go (ℕ_discrete i n) (sum_but w p n i)
   where
     go : Dec (i ≡ n) → (i < n → p i ≡ true → sum w p n ≡ sum w (but p i) n + w i) → sum w p (suc n) ≡ sum w (but p i) (suc n) + w i
     go (yes d) ih =
-        let same : sum w (but p n) n ≡ sum w p n = sum_cong w (but p n) p n (λ j k. but_other p n j (omega arith)) in
-        let pn : p n ≡ true = rw d at e in
-        rw (d, but_same p n, pn, same) (omega arith)
+        let same : sum w (but p i) n ≡ sum w p n = sum_cong w (but p i) p n (λ j k. but_other p i j (omega arith)) in
+        let pn : p n ≡ true = subst (λ j. p j ≡ true) d e in
+        let bn : but p i n ≡ false = subst (λ j. but p i j ≡ false) d (but_same p i) in
+        rw (bn, pn) (omega (arith, same, ap w d))
     go (no d) ih = rw (but_other p i n (λ q. d (sym q))) (omega (arith, ih (omega arith) e))
 
 pub sum_one : (w : ℕ → ℕ) (n i : ℕ) → i < n → sum w (λ j. eqb j i) n ≡ w i

@@ -3,7 +3,11 @@
 
 ghost use Rattle.std.specs.Prelude.{◌≡◌, false, ◌≤◌, length};
 
-use libc::STDIN_FILENO;
+use std::env::FillError;
+use std::fs;
+use std::io::Read;
+use std::rt::{Env, Files};
+use std::str;
 
 // What was read: how many bytes stand in the buffer, and whether reading ended well, at the end of the input or with the buffer full.
 #[derive(Clone, Copy)]
@@ -12,22 +16,29 @@ pub struct Input {
     pub whole: bool,
 }
 
-// Reads a file that is open until it ends, a read fails or the buffer is full. A failed read is not taken for the end: what follows it is not known.
-fn read_all(fd: i32, buffer: &mut [u8]) -> Input
+// Reads until the end, until a read fails or until the buffer is full. A failed read is not taken for the end: what follows it is not known.
+fn read_all<R: Read>(reader: &mut R, buffer: &mut [u8]) -> Input
     ensures { (length buffer.new ≡ length buffer.old) × (result.len ≤ length buffer.old) }
 {
     let mut len = 0;
     while len < buffer.len() {
-        let got = libc::read(fd, &mut buffer[len..]);
-        let n = io::count(got, &buffer[len..]);
-        if n == 0 {
-            let ended = got == 0;
-            return Input {
-                len: len,
-                whole: ended,
-            };
+        match reader.read(&mut buffer[len..]) {
+            Ok(n) => {
+                if n == 0 {
+                    return Input {
+                        len: len,
+                        whole: true,
+                    };
+                }
+                len += n;
+            }
+            Err(_) => {
+                return Input {
+                    len: len,
+                    whole: false,
+                };
+            }
         }
-        len += n;
     }
     Input {
         len: len,
@@ -35,11 +46,11 @@ fn read_all(fd: i32, buffer: &mut [u8]) -> Input
     }
 }
 
-// Reads standard input.
-pub fn read_input(buffer: &mut [u8]) -> Input
+// Reads standard input, which the caller lends.
+pub fn read_input<R: Read>(stdin: &mut R, buffer: &mut [u8]) -> Input
     ensures { (length buffer.new ≡ length buffer.old) × (result.len ≤ length buffer.old) }
 {
-    read_all(STDIN_FILENO, buffer)
+    read_all(stdin, buffer)
 }
 
 // Nothing was read, and that is not the end of an input.
@@ -52,23 +63,30 @@ fn unread() -> Input
     }
 }
 
+// Whether the program has an argument of this number.
+fn has_argument<R: Env>(rt: &R, number: usize) -> bool {
+    let mut nothing = [0u8; 0];
+    !matches!(rt.arg(number, &mut nothing), Err(FillError::NotPresent))
+}
+
 // Reads the file that the program's argument names. Without an argument, with more than one, or where the file cannot be opened, nothing is read.
-pub fn read_named(buffer: &mut [u8]) -> Input
+pub fn read_named<R: Env + Files>(rt: &R, buffer: &mut [u8]) -> Input
     ensures { (length buffer.new ≡ length buffer.old) × (result.len ≤ length buffer.old) }
 {
-    let mut path = io::buffer();
-    let n = os::arg(1, &mut path);
-    if os::errno() != 0 {
+    let mut path = [0u8; 4096];
+    let n = match rt.arg(1, &mut path) {
+        Ok(n) => n,
+        Err(_) => return unread(),
+    };
+    if has_argument(rt, 2) {
         return unread();
     }
-    if os::arg_count() != 2 {
-        return unread();
+    let name = match str::from_utf8(&path[..n]) {
+        Ok(name) => name,
+        Err(_) => return unread(),
+    };
+    match fs::open(rt, name) {
+        Ok(mut file) => read_all(&mut file, buffer),
+        Err(_) => unread(),
     }
-    let fd = os::open_read(&path[..n]);
-    if fd < 0 {
-        return unread();
-    }
-    let input = read_all(fd, buffer);
-    libc::close(fd);
-    input
 }

@@ -1,7 +1,7 @@
 -- Loops: a plan that leaves a field out, stuck fields, and closed walks are one thing; where there is none the fields have ranks.
 use Prim.Native.Nat.{ℕ, zero, suc, ◌≤◌, ◌<◌}
 use mathlib.Core.Path.{◌≡◌, refl, sym, ap, ◌∙◌, subst}
-use mathlib.Core.Bool.{Bool, true, false, not, ◌&&◌, ◌||◌, and-true, or-false}
+use mathlib.Core.Bool.{Bool, true, false, not, ◌&&◌, ◌||◌, and-true, and-false, or-false}
 use mathlib.Core.Logic.{◌⊎◌, inl, inr}
 use native.Mathlib.Nat.{le_refl}
 use native.Mathlib.Decide.{ℕ_discrete}
@@ -39,7 +39,7 @@ module _ (s : ℕ → ℕ) (n : ℕ) (low : (i : ℕ) → s i < n) where
   hit_last m v h = go (ℕ_discrete v (s m))
     where
       go : Dec (v ≡ s m) → but (hit (suc m)) (s m) v ≡ hit m v
-      go (yes d) = rw (d, eq-eqb (s m) (s m) refl, h) refl
+      go (yes d) = rw (eq-eqb v (s m) d) (and-false _ ∙ sym h ∙ ap (hit m) (sym d))
       go (no d) = rw (ne_eqb v (s m) d, ne_eqb (s m) v (λ e. d (sym e))) (and-true (hit m v || false) ∙ or-false (hit m v))
 
   hits : (m : ℕ) → Twice s m ⊎ (count (hit m) n ≡ m)

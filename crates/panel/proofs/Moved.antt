@@ -73,6 +73,7 @@ reversal_off st c (v ∷ vs) f (a, b) = reversal_off (put st v c) (st v) vs f b 
 reversal_on : (n : ℕ) (st : ℕ → Item) (c : Item) (vs : List ℕ) → Distinct vs → All (λ v. v < n) vs → ((f g : ℕ) → f < n → g < n → st f ≡ st g → f ≡ g)
     → ((f : ℕ) → f < n → st f ≢ c) → (f : ℕ) → In f vs → reversed_setters st c vs f ≢ st f
 unfolding reversed_setters
+reversal_on n st c [] _ _ once idle f x8 e = elim x8 [ ]
 reversal_on n st c (v ∷ vs) (off, dis) (lv, all) once idle f (inl d) e =
     idle v lv (sym (ap st d) ∙ sym e ∙ ap (reversed_setters (put st v c) (st v) vs) d ∙ reversal_off (put st v c) (st v) vs v off ∙ put_here st v c)
 reversal_on n st c (v ∷ vs) (off, dis) (lv, all) once idle f (inr i) e =

@@ -1,7 +1,7 @@
 -- What the reversal of a path does: the setters along it move one field on, and of the links only the standings change. By induction on the path, one
 -- item that takes a field at a time (`holding`); the setters are then a function of the field, which the path changes (`reversed_setters`).
 use Prim.Native.Nat.{ℕ, ◌≤◌, ◌<◌}
-use mathlib.Core.Path.{◌≡◌, refl, sym, ap, ◌∙◌, fun_ext}
+use mathlib.Core.Path.{◌≡◌, refl, sym, ap, ◌∙◌, fun_ext, subst}
 use mathlib.Core.Bool.{Bool, true, cond}
 use mathlib.Core.List.{List, [], ◌∷◌}
 use mathlib.Core.Logic.{◌≢◌}
@@ -114,7 +114,7 @@ pub left_last : (st : ℕ → Item) (c : Item) (v : ℕ) (vs : List ℕ) → Dis
 unfolding left
 left_last st c v [] h = refl
 left_last st c v (w ∷ vs) (a, b) =
-    left_last (put st v c) (st v) w vs b ∙ put_there st v c (last_of w vs) (λ e. last_on w vs (rw e a))
+    left_last (put st v c) (st v) w vs b ∙ put_there st v c (last_of w vs) (λ e. last_on w vs (subst (λ x. Off x (w ∷ vs)) (sym e) a))
   where
     last_on : (w : ℕ) (vs : List ℕ) → Off (last_of w vs) (w ∷ vs) → ⊥
     last_on w [] (a, b) = a refl

@@ -1,5 +1,4 @@
 use mathlib.Core.Path.{◌≡◌, refl, sym, ◌∙◌}
-use mathlib.Core.Logic.{⊎_elim}
 use mathlib.Core.Bool.{true}
 use Prim.Native.Nat.{◌<◌, ◌≤◌}
 use native.Mathlib.Omega.{arith}
@@ -7,22 +6,26 @@ use lib.ListN.{get_or}
 use Rattle.edf.specs.Texts.{is_decimal}
 use Rattle.edf.proofs.Numbers.{digit_range, digits_none, few_small, digits_more, Ended, ended_other, ended_all, read_none, read_plain, read_other}
 use Rattle.edf.proofs.read_number.Goals as goal
+use Rattle.edf.proofs.read_number.Goals.{At-loop-i, Then-is_decimal, Left-loop-i, then-loop-i-test+else-is_decimal, else-loop-i-test}
 
 -- ---- the places: the loop; a round of it, whose character is a digit; the loop left
 
-small : (l : goal.At-loop-i) → l.loop-i.n < 4294967296
+small : (l : At-loop-i) → l.loop-i.n < 4294967296
 small l = few_small l.loop-i.invariant l.requires
 
-is_digit : (c : goal.Then-is_decimal) → is_decimal (get_or c.args.s.now c.loop-i.i 0) ≡ true
+is_digit : (c : Then-is_decimal) → is_decimal (get_or c.args.s.now c.loop-i.i 0) ≡ true
 is_digit c = sym c.is_decimal.ensures ∙ c.if-is_decimal.true
 
-digit : (c : goal.Then-is_decimal) → let x = get_or c.args.s.now c.loop-i.i 0 in (48 ≤ x) × (x ≤ 57)
+digit : (c : Then-is_decimal) → let x = get_or c.args.s.now c.loop-i.i 0 in (48 ≤ x) × (x ≤ 57)
 digit c = digit_range _ (is_digit c)
 
-digits-ended : (l : goal.Left-loop-i) → Ended l.args.s.now l.loop-i.i l.loop-i.n
+digits-ended : (l : Left-loop-i) → Ended l.args.s.now l.loop-i.i l.loop-i.n
 digits-ended l =
     let d = l.loop-i.invariant in
-    ⊎_elim (λ w. ended_other d w.0.true (sym w.2.ensures ∙ w.3.false)) (λ w. ended_all d w.false) l.loop-i-test.branch
+    elim l.loop-i-test.branch [
+      | then-loop-i-test+else-is_decimal w ↦ ended_other d w.loop-i-test.true (sym w.is_decimal.ensures ∙ w.if-is_decimal.false)
+      | else-loop-i-test w ↦ ended_all d w.loop-i-test.false
+    ]
 
 -- ---- the needs
 

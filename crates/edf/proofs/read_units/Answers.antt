@@ -1,5 +1,4 @@
 use mathlib.Core.Path.{◌≡◌, ap}
-use mathlib.Core.Logic.{⊎_elim}
 use mathlib.Core.List.{List}
 use Prim.Native.Nat.{ℕ, ◌+◌, ◌-◌, ◌*◌, ◌≤◌}
 use native.Mathlib.Omega.{arith}
@@ -8,71 +7,43 @@ use Rattle.edf.specs.Header.{unit_text}
 use Rattle.edf.specs.declared.Unit.TheVariants.{Flow, Unclear, Other}
 use Rattle.edf.proofs.Counting.{counted_none, counted_more, counted_all}
 use Rattle.edf.proofs.read_units.Goals as goal
+use Rattle.edf.proofs.read_units.Goals.{in-Flow, in-Unclear, in-Other}
 
--- ---- the places: the start; a round of the loop
+-- a round's unit, from `at`, is the definition's, and has its width
+module _ (file : List ℕ) (n j : ℕ) (h : 256 + n * 96 + j * 8 + 8 ≤ length file) where
+  abbrev at : ℕ
+  at = 256 + n * 96 + j * 8
 
--- where a round's unit ends
-ends : (r : goal.In-loop-j) → 256 + r.args.n * 96 + r.loop-j.j * 8 + 8 ≤ length r.args.file.now
-ends r = omega (arith, r.requires, r.loop-j-test.true)
+  unit-is : take (at + 8 - at) (drop at file) ≡ unit_text file n j
+  unfolding unit_text
+  unit-is = let e : at + 8 - at ≡ 8 = omega arith in ap (λ (k : ℕ). take k (drop at file)) e
 
--- a round's unit is the definition's, and has its width
-abbrev unit-start : tie.In-loop invariant-loop decreases-loop → ℕ
-unit-start r = 256 + (start r).args.n * 96 + r.before.loop.j * 8
-
-abbrev unit-of : tie.In-loop invariant-loop decreases-loop → List ℕ
-unit-of r = take (unit-start r + 8 - unit-start r) (drop (unit-start r) (start r).args.file.now)
-
-unit-is : (r : goal.In-loop-j) → unit-of r ≡ unit_text r.args.file.now r.args.n r.loop-j.j
-unfolding unit_text
-unit-is r = let e : unit-start r + 8 - unit-start r ≡ 8 = omega arith in ap (λ (k : ℕ). take k (drop (unit-start r) r.args.file.now)) e
-
-width : (r : goal.In-loop-j) → length (unit-of r) ≡ 8
-width r = omega (arith, length-take (unit-start r + 8 - unit-start r) (drop (unit-start r) r.args.file.now), length-drop (unit-start r) r.args.file.now, ends r)
+  width : length (take (at + 8 - at) (drop at file)) ≡ 8
+  width = omega (arith, length-take (at + 8 - at) (drop at file), length-drop at file)
 
 -- ---- the needs
 
 pub read_unit-u-requires : goal.read_unit-u-requires
-read_unit-u-requires c = width (goal.at.read_unit-u-requires c).In-loop-j
+read_unit-u-requires c = width c.args.file.now c.args.n c.loop-j.j (omega arith)
 
 pub overflow_add-flows : goal.overflow_add-flows
 overflow_add-flows c = omega (arith, c.loop-j.invariant.few, c.loop-j-test.true)
 
 pub loop-j-preserved : goal.loop-j-preserved
 loop-j-preserved c =
+    let part = unit-is c.args.file.now c.args.n c.loop-j.j (omega arith) in
     let was = c.loop-j.invariant in
     let h = c.loop-j-test.true in
     let e = c.read_unit-u.ensures in
-    ⊎_elim (λ w. counted_more was Flow h (unit-is (goal.at.loop-j-preserved c).In-loop-j) e w.1.given.1 w.2 w.3)
-    (⊎_elim (λ w. counted_more was Unclear h (unit-is (goal.at.loop-j-preserved c).In-loop-j) e w.1.given.1 w.2 w.3)
-    (λ w. counted_more was Other h (unit-is (goal.at.loop-j-preserved c).In-loop-j) e w.1.given.1 w.2 w.3))
-    c.match-u.branch
+    elim c.match-u.branch [
+      | in-Flow w ↦ counted_more was Flow h part e w.in-Flow.is w.flows-is w.unclear-is
+      | in-Unclear w ↦ counted_more was Unclear h part e w.in-Unclear.is w.flows-is w.unclear-is
+      | in-Other w ↦ counted_more was Other h part e w.in-Other.is w.flows-is w.unclear-is
+    ]
 
 pub returns : goal.returns
-returns c = counted_all c.loop-j.invariant c.loop-j-test.false
-
-pub overflow_mul-first : goal.overflow_mul-first
-overflow_mul-first c = omega (arith, c.requires)
-
-pub overflow_add-first : goal.overflow_add-first
-overflow_add-first c = omega (arith, c.requires)
+returns c =
+    let all = counted_all c.loop-j.invariant c.loop-j-test.false in record { flows_value = all.0; unclear_value = all.1 }
 
 pub loop-j-init : goal.loop-j-init
 loop-j-init c = counted_none _ _
-
-pub overflow_mul-at : goal.overflow_mul-at
-overflow_mul-at c = omega (arith, ends c)
-
-pub overflow_add-at : goal.overflow_add-at
-overflow_add-at c = omega (arith, ends c)
-
-pub overflow_add-at-in-loop-j : goal.overflow_add-at-in-loop-j
-overflow_add-at-in-loop-j c = omega (arith, ends c)
-
-pub slice_bounds-read_unit-count : goal.slice_bounds-read_unit-count
-slice_bounds-read_unit-count c = omega (arith, ends c)
-
-pub slice_bounds-read_unit-start : goal.slice_bounds-read_unit-start
-slice_bounds-read_unit-start c = omega (arith, ends c)
-
-pub slice_bounds-read_unit-end : goal.slice_bounds-read_unit-end
-slice_bounds-read_unit-end c = omega (arith, ends c)

@@ -10,25 +10,19 @@ use Rattle.edf.specs.Header.{length_text, count_text, count_of}
 use Rattle.edf.specs.Answers.{number_values}
 use Rattle.edf.proofs.Checks.{plain_read, other_read, no_block, too_short, not_plain, no_signal, too_many, wrong_length, all_right}
 use Rattle.edf.proofs.signals.Goals as goal
+use Rattle.edf.proofs.signals.Goals.{In-Plain, After-is_number}
 
 -- ---- the places: the count is read; it is a plain number
 
-abbrev file-of : tie.After-read-number → List ℕ
-file-of c = c.before.before.before.before.args.file.now
-
-abbrev count_of_lem : tie.After-known-told → ℕ
-count_of_lem c = c.before.count.given.0.0
-
-count_is : (c : goal.In-Plain) → (is_plain (count_text (file-of c)) ≡ true) × (count_of_lem c ≡ count_of (file-of c))
+count_is : (c : In-Plain) → (is_plain (count_text c.args.file.now) ≡ true) × (c.in-Plain.n ≡ count_of c.args.file.now)
 unfolding count_text
-count_is c = plain_read _ _ (sym (ap number_values c.count-1.given.1) ∙ c.read_number-count.ensures)
+count_is c = plain_read _ _ c.in-Plain.ensures
 
-length-is : (c : goal.After-is_number) → let f = file-of c in c.is_number.result ≡ (is_plain (length_text f) && eqb (number_of (length_text f)) (256 * (count_of f + 1)))
-unfolding length_text
+length-is : (c : After-is_number) → let f = c.args.file.now in c.is_number.result ≡ (is_plain (length_text f) && eqb (number_of (length_text f)) (256 * (count_of f + 1)))
+unfolding length_text count_text
 length-is c =
-    let count_is : (is_plain (count_text (file-of c)) ≡ true) × (count_of_lem c ≡ count_of (file-of c)) = plain_read _ _ (sym (ap number_values c.count-1.given.1) ∙ c.read_number-count.ensures) in
-    let f = file-of c in
-    c.is_number.ensures ∙ ap (λ (n : ℕ). is_plain (length_text f) && eqb (number_of (length_text f)) (256 * (n + 1))) (count_is).1
+    let f = c.args.file.now in
+    c.is_number.ensures ∙ ap (λ (n : ℕ). is_plain (length_text f) && eqb (number_of (length_text f)) (256 * (n + 1))) (plain_read _ _ c.in-Plain.ensures).1
 
 -- ---- the needs
 
@@ -48,7 +42,7 @@ returns-then-file-length c =
 
 pub returns-then-is_number : goal.returns-then-is_number
 returns-then-is_number c =
-    let f = file-of c in
+    let f = c.args.file.now in
     let n = count_is (goal.at.returns-then-is_number c).In-Plain in
     ap (λ (x : ℕ). x ∷ []) n.1
     ∙ all_right f (record {
@@ -66,4 +60,4 @@ returns-else-is_number c =
 pub returns-in-NotPlain : goal.returns-in-NotPlain
 unfolding count_text
 returns-in-NotPlain c =
-    not_plain (file-of c) (other_read _ (sym (ap number_values c.enum_told-1.given.1) ∙ c.read_number-count.ensures))
+    not_plain c.args.file.now (other_read _ c.in-NotPlain.ensures)

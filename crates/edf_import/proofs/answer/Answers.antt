@@ -5,7 +5,7 @@ use Prim.Native.Nat.{ℕ}
 use native.Mathlib.Omega.{arith}
 use lib.ListN.{length, take}
 use lib.Seq.{length-take-le}
-use Rattle.hex.proofs.Stores.{start_fits, start_is}
+use Rattle.hexadecimal.proofs.Stores.{start_fits, start_is}
 use Rattle.importing.specs.Imports.{import_output}
 use Rattle.importing.proofs.Flows.{output_short}
 use Rattle.edf_import.proofs.answer.Goals as goal

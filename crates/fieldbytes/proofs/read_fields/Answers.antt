@@ -1,17 +1,14 @@
 use mathlib.Core.Path.{◌∙◌}
-use mathlib.Core.Logic.{⊎_elim}
 use native.Mathlib.Omega.{arith}
+use borrow.Author.Tests.{eq-eqb, ne_eqb}
 use Rattle.fieldset.specs.Tables.{at}
 use Rattle.fieldbytes.proofs.FieldBytes.{read_none, read_more, read_all, reads_output, reads_input, reads_low, reads_bit, reads_rising}
 use Rattle.fieldbytes.proofs.read_fields.Goals as goal
-use Rattle.fieldbytes.proofs.read_fields.Goals.{else-b-ge128, else-f-least, then-b-ge128, then-f-least}
+use Rattle.fieldbytes.proofs.read_fields.Goals.{then-b-ge128, else-b-ge128}
+use Rattle.fieldbytes.proofs.read_fields.Goals.{then-f-least, then-f-least-via-then-f-least, then-f-least-via-else-f-least+then-b-eq1, else-f-least+else-b-eq1}
 
 pub loop-i-init : goal.loop-i-init
 loop-i-init c = read_none c.args.bytes.now
-
--- ---- the places: the loop, and the field of the byte that is read
-
--- ---- the needs
 
 pub loop-i-preserved : goal.loop-i-preserved
 loop-i-preserved c =
@@ -19,21 +16,21 @@ loop-i-preserved c =
     let bytes = c.args.bytes.now in
     let b = at bytes loop.i in
     let f = c.wide-f.result in
-    let small = c.shared_slice_known-in-loop-i-1.given loop.i in
+    let small = c.type_inv.bytes loop.i in
     let outputs = c.if-b-ge128.outputs in
     let rising = c.if-f-least.rising in
     read_more bytes loop.i loop.covered loop.outputs loop.rising loop.least loop.invariant f c.with-covered.result outputs rising
     (omega arith) c.wide-f.ensures c.with-covered.ensures
     (elim c.if-b-ge128.branch [
-      | then-b-ge128 w ↦ let (bit7, with-output, outputs-are) = w in
-          reads_output b f loop.outputs outputs (omega (arith, small)) bit7.true (outputs-are ∙ with-output.ensures)
-      | else-b-ge128 w ↦ let (bit7, outputs-are) = w in reads_input b f loop.outputs outputs bit7.left outputs-are
+      | then-b-ge128 w ↦ reads_output b f loop.outputs outputs (omega (arith, small)) w.if-b-ge128.true (w.outputs-is ∙ w.with-outputs.ensures)
+      | else-b-ge128 w ↦ reads_input b f loop.outputs outputs w.if-b-ge128.false w.outputs-is
     ])
     (elim c.if-f-least.branch [
-      | then-f-least w ↦ let (why, rising-is) = w in
-          ⊎_elim (λ low. reads_low b f loop.least loop.rising rising low.true rising-is)
-          (λ v. let (_, bit6) = v in reads_bit b f loop.least loop.rising rising bit6.true rising-is) why.came
-      | else-f-least w ↦ let (low, bit6, rising-is) = w in reads_rising b f loop.least loop.rising rising low.left bit6.left rising-is
+      | then-f-least w ↦ elim w.then-f-least.branch [
+        | then-f-least-via-then-f-least v ↦ reads_low b f loop.least loop.rising rising v.if-f-least.true w.rising-is
+        | then-f-least-via-else-f-least+then-b-eq1 v ↦ reads_bit b f loop.least loop.rising rising (eq-eqb _ _ v.if-b-eq1.true) w.rising-is
+      ]
+      | else-f-least+else-b-eq1 w ↦ reads_rising b f loop.least loop.rising rising w.if-f-least.false (ne_eqb _ _ w.if-b-eq1.false) w.rising-is
     ])
 
 pub returns : goal.returns

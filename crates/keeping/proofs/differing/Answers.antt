@@ -16,7 +16,7 @@ loop-rest-smaller c = first_falls c.first-f.ensures c.without_lowest-rest.ensure
 pub loop-rest-preserved : goal.loop-rest-preserved
 loop-rest-preserved c =
     filter_step c.loop-rest.invariant c.first-f.ensures
-    (elim c.if-shown-f.branch [ then-shown-f w ↦ let (branch, gathered, out_is) = w in inl (ap not (ne_eqb _ _ branch.true), out_is ∙ gathered.ensures) | else-shown-f w ↦ let (branch, out_is) = w in inr (ap not (eq-eqb _ _ branch.false), out_is) ])
+    (elim c.if-shown-f.branch [ then-shown-f w ↦ inl (ap not (ne_eqb _ _ w.if-shown-f.true), w.out-is ∙ w.with-out.ensures) | else-shown-f w ↦ inr (ap not (eq-eqb _ _ w.if-shown-f.false), w.out-is) ])
     c.without_lowest-rest.ensures
 
 pub returns : goal.returns

@@ -1,6 +1,5 @@
 use mathlib.Core.Path.{sym, ◌∙◌}
 use native.Mathlib.Omega.{arith}
-use borrow.Author.Tests.{not-true, not-false}
 use Rattle.fieldset.proofs.Emptying.{first_falls}
 use Rattle.keeping.proofs.Repairing.{passing_start, passing_kept, passing_done, passing_end}
 use Rattle.keeping.proofs.pass.Goals as goal
@@ -33,9 +32,9 @@ loop-rest-preserved c =
     let met = c.meets in
     elim c.if-not-meets.branch [
       | then-not-meets w ↦ passing_done p.0 p.1 c.loop-rest.invariant c.first-f.ensures c.without_lowest-rest.ensures
-          (sym met.ensures ∙ not-true met.result w.0.true) (w.5 ∙ w.3.ensures) (w.4 ∙ rw w.2.ensures)
+          (sym met.ensures ∙ w.if-not-meets.true) (w.left-is ∙ w.without-left.ensures) (w.down-is ∙ rw w.gather.ensures)
       | else-not-meets w ↦ passing_kept p.0 p.1 c.loop-rest.invariant c.first-f.ensures c.without_lowest-rest.ensures
-          (sym met.ensures ∙ not-false met.result w.0.false) w.2 w.1
+          (sym met.ensures ∙ w.if-not-meets.false) w.left-is w.down-is
     ]
 
 pub returns : goal.returns

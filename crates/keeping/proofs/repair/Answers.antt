@@ -3,17 +3,17 @@ use Rattle.keeping.proofs.Repairing.{repaired_less, right_all}
 use Rattle.keeping.proofs.repair.Goals as goal
 
 pub loop-left-init : goal.loop-left-init
-loop-left-init c = (c.ranges.stale.fits, c.requires.1.1)
+loop-left-init c = (c.ranges.stale.fits, c.requires.readers_value.1)
 
 pub pass-left-requires : goal.pass-left-requires
 pass-left-requires c =
     let p = c.requires in
-    (p.0.0, p.1.0, c.loop-left.invariant.1)
+    (p.n_bound.0, p.readers_value.0, c.loop-left.invariant.1)
 
 pub loop-left-smaller : goal.loop-left-smaller
 loop-left-smaller c =
     let p = c.requires in
-    repaired_less p.0.0 p.0.1 c.loop-left.invariant.0 c.loop-left-test.true c.pass-left.ensures
+    repaired_less p.n_bound.0 p.n_bound.1 c.loop-left.invariant.0 c.loop-left-test.true c.pass-left.ensures
 
 pub loop-left-preserved : goal.loop-left-preserved
 loop-left-preserved c =

@@ -5,14 +5,14 @@ use Rattle.keeping.proofs.Renewing.{rereading_start, rereading_step, rereading_s
 use Rattle.keeping.proofs.reread.Goals as goal
 
 pub loop-rest-init : goal.loop-rest-init
-loop-rest-init c = rereading_start c.requires.0.1 c.requires.0.3
+loop-rest-init c = rereading_start c.requires.n_bound.1 c.requires.n_bound.3
 
 pub renew-requires : goal.renew-requires
 renew-requires c =
     let p = c.requires in
     let inv = c.loop-rest.invariant in
     let taken = taken_in inv.loop c.first-c.ensures in
-    (p.0.0, low_in _ _ p.1.0 c.first-c.result c.first-c.ensures.field taken, inv.long, inv.told)
+    (p.n_bound.0, low_in _ _ p.within.0 c.first-c.result c.first-c.ensures.field taken, inv.long, inv.told)
 
 pub loop-rest-smaller : goal.loop-rest-smaller
 loop-rest-smaller c = first_falls c.first-c.ensures c.without_lowest-rest.ensures
@@ -27,7 +27,7 @@ returns c =
     let p = c.requires in
     let inv = c.loop-rest.invariant in
     let none = c.loop-rest-test.false in
-    (rereading_shown inv p.1.1 p.0.2 none, rereading_told inv p.1.1 p.0.2 none)
+    (rereading_shown inv p.within.1 p.n_bound.2 none, rereading_told inv p.within.1 p.n_bound.2 none)
 
 pub offset_bounds-reads-c : goal.offset_bounds-reads-c
 offset_bounds-reads-c c = omega (arith, c.first-c.ensures.field)

@@ -4,11 +4,12 @@ use native.Mathlib.Omega.{arith}
 use Rattle.fieldset.specs.Tables.{at}
 use Rattle.ordering.proofs.Planning.{planning_start, planning_step, planning_end, planning_room, planning_falls}
 use Rattle.ordering.proofs.order.Goals as goal
+use Rattle.ordering.proofs.order.Goals.{After-first-f}
 
 -- ---- the places: the start, the loop, the field that is listed next
 
 -- there is room in the buffer
-room : (c : goal.After-first-f) → c.loop-open.count < 64
+room : (c : After-first-f) → c.loop-open.count < 64
 room c =
     let among = c.requires.0 in
     omega (arith, among.few, planning_room among c.loop-open.invariant c.first-f.ensures)

@@ -5,7 +5,8 @@ use Rattle.fieldset.specs.Tables.{at}
 use Rattle.ordering.proofs.Planning.{Planning}
 use Rattle.ordering.proofs.order.Given as goal
 
--- TODO invariant-loop
-invariant-loop reads n out₀ readers left₀ open₀ count₀ out left «open» count = Planning (at reads) n out₀ out left «open» count
--- TODO decreases-loop
-decreases-loop reads n out₀ readers left₀ open₀ count₀ out left «open» count = left
+abbrev pub invariant-loop-open : goal.invariant-loop-open
+invariant-loop-open l = Planning (at l.reads) l.n l.fn.out l.out l.left l.«open» l.count
+
+abbrev pub decreases-loop-open : goal.decreases-loop-open
+decreases-loop-open l = l.left

@@ -26,7 +26,7 @@ pub loop-rest-preserved : goal.loop-rest-preserved
 loop-rest-preserved c =
     let test = ap not (sym c.meets.ensures) in
     filter_step c.loop-rest.invariant c.first-f.ensures
-    (elim c.if-not-meets.branch [ then-not-meets w ↦ let (branch, gathered, out_is) = w in inl (test ∙ branch.true, out_is ∙ gathered.ensures) | else-not-meets w ↦ let (branch, out_is) = w in inr (test ∙ branch.false, out_is) ])
+    (elim c.if-not-meets.branch [ then-not-meets w ↦ inl (test ∙ ap not w.if-not-meets.true, w.out-is ∙ w.with-out.ensures) | else-not-meets w ↦ inr (test ∙ ap not w.if-not-meets.false, w.out-is) ])
     c.without_lowest-rest.ensures
 
 pub returns : goal.returns

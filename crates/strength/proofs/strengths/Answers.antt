@@ -5,7 +5,7 @@ use Rattle.fieldset.specs.Fields.{below, minus}
 use Rattle.fieldset.proofs.Fields.{size_le}
 use Rattle.strength.proofs.Gather.{Begun, none_begun, next_left, next_alone, rest_asks, all_counted, listed}
 use Rattle.strength.proofs.strengths.Goals as goal
-use Rattle.strength.proofs.strengths.Goals.{else-others-v-eq0, then-others-v-eq0}
+use Rattle.strength.proofs.strengths.Goals.{else-others-v-eq0, then-others-v-eq0, After-minus}
 
 pub loop-v-init : goal.loop-v-init
 loop-v-init c = (omega arith, none_begun c.requires.1)
@@ -17,7 +17,7 @@ pub loop-v-preserved : goal.loop-v-preserved
 loop-v-preserved c =
     let l = c.loop-v in (
       omega arith,
-      elim c.if-others-v-eq0.branch [ then-others-v-eq0 w ↦ rw (w.3, w.4, w.5, w.2.ensures) (next_alone l.invariant.1 (omega arith) w.0.true) | else-others-v-eq0 w ↦ rw (w.1, w.2, w.3) (next_left l.invariant.1) ],
+      elim c.if-others-v-eq0.branch [ then-others-v-eq0 w ↦ rw (w.table-is, w.known-is, w.count-is, w.with-known.ensures) (next_alone l.invariant.1 (omega arith) w.if-others-v-eq0.true) | else-others-v-eq0 w ↦ rw (w.table-is, w.known-is, w.count-is) (next_left l.invariant.1) ],
     )
 
 begun : (m : goal.After-minus) → let l = m.loop-v in let a = m.args in Begun a.levels.now a.others.now a.table.now l.table a.n l.known l.count
@@ -39,10 +39,15 @@ overflow_add-result c =
     let A = c.requires.0 in
     omega (arith, all_counted A (begun (goal.at.overflow_add-result c).After-minus) (rest_is (goal.at.overflow_add-result c).After-minus) c.fill-rest.ensures, A.few)
 
-pub returns : goal.returns
-returns c =
-    let F = c.fill-rest.ensures in
-    (listed c.requires.0 (begun (goal.at.returns c).After-minus) (rest_is (goal.at.returns c).After-minus) F c.requires.1, all_counted c.requires.0 (begun (goal.at.returns c).After-minus) (rest_is (goal.at.returns c).After-minus) F)
+pub returns-clause-table_after : goal.returns-clause-table_after
+returns-clause-table_after c =
+    let m = (goal.at.returns-clause-table_after c).After-minus in
+    listed c.requires.0 (begun m) (rest_is m) c.fill-rest.ensures c.requires.1
+
+pub returns-clause-value : goal.returns-clause-value
+returns-clause-value c =
+    let m = (goal.at.returns-clause-value c).After-minus in
+    all_counted c.requires.0 (begun m) (rest_is m) c.fill-rest.ensures
 
 pub below-requires : goal.below-requires
 below-requires c = c.requires.0.few

@@ -5,10 +5,6 @@ use Rattle.fieldset.proofs.Emptying.{first_falls, filter_start, filter_step, fil
 use Rattle.strength.proofs.tied.Goals as goal
 use Rattle.strength.proofs.tied.Goals.{else-table-u, then-table-u}
 
--- ---- the places: a round of the loop, its field, and the field decided on
-
--- ---- the needs
-
 pub loop-rest-init : goal.loop-rest-init
 loop-rest-init c = filter_start
 
@@ -24,7 +20,7 @@ loop-rest-smaller c = first_falls c.first-u.ensures c.without_lowest-rest.ensure
 pub loop-rest-preserved : goal.loop-rest-preserved
 loop-rest-preserved c =
     filter_step c.loop-rest.invariant c.first-u.ensures
-    (elim c.if-table-u.branch [ then-table-u w ↦ inl (eq-eqb _ _ w.0.true, w.2 ∙ w.1.ensures) | else-table-u w ↦ inr (ne_eqb _ _ w.0.false, w.1) ])
+    (elim c.if-table-u.branch [ then-table-u w ↦ inl (eq-eqb _ _ w.if-table-u.true, w.ties-is ∙ w.with-ties.ensures) | else-table-u w ↦ inr (ne_eqb _ _ w.if-table-u.false, w.ties-is) ])
     c.without_lowest-rest.ensures
 
 pub returns : goal.returns

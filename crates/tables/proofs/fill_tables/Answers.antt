@@ -16,7 +16,7 @@ setter_entry-e-requires c = (c.requires.0 c.loop-f.f (omega (arith, c.loop-f-tes
 pub loop-f-preserved : goal.loop-f-preserved
 loop-f-preserved c =
     let loop = c.loop-f in
-    let p = c.args.t1 in
+    let p = c.args.p in
     let low = c.loop-f-test.true in (
       omega arith,
       tabled_set _ _ loop.f (loop.f + 1) loop.f _ _ _ low (λ f x y z l ne. (omega arith, λ s. s))

@@ -6,11 +6,8 @@ use lib.ListN.{length-set}
 use Rattle.fieldset.specs.Tables.{at}
 use Rattle.tables.specs.Tables.{level_with}
 use Rattle.fieldset.proofs.Maps.{mapped, mapped_none, mapped_more, mapped_all}
+use Rattle.tables.proofs.stay_levels.Invariants.{by}
 use Rattle.tables.proofs.stay_levels.Goals as goal
-
--- the level of the setter of f
-abbrev by : List ℕ → List ℕ → ℕ → ℕ → ℕ
-by setter place f = level_with (at setter f) (at place f)
 
 pub loop-f-init : goal.loop-f-init
 loop-f-init c =

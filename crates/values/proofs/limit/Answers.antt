@@ -1,5 +1,4 @@
 -- `values::limit` meets its contract.
-use borrow.Author.Rules.{rules}
 use mir.Syntax.{w32}
 use mir.Val.{SFits}
 use mir.Facts.{to_z-of_z}
@@ -13,20 +12,9 @@ pub returns-then-z-gt2147483647 : goal.returns-then-z-gt2147483647
 returns-then-z-gt2147483647 c = limited_high c.args.z (rw (to_z-of_z c.ranges.z) at c.if-z-gt2147483647.true)
 
 -- what is within the limits fits
-fits : (c : goal.Else-z-gt2147483647) → SFits w32 c.args.z
-fits c =
-    value_fits
-    c.args.z
-    (rw (to_z-of_z c.ranges.z) at c.if-z-ltminus2147483648.false)
-    (rw (to_z-of_z c.ranges.z) at c.if-z-gt2147483647.false)
-
-pub overflow_cast-result : goal.overflow_cast-result
-overflow_cast-result c = let h = fits (goal.at.overflow_cast-result c).Else-z-gt2147483647 in search rules
-
 pub returns : goal.returns
 returns c =
-    rw (to_z-of_z c.ranges.z, to_z-of_z (fits (goal.at.returns c).Else-z-gt2147483647))
-    (limited_value
-    c.args.z
-    (rw (to_z-of_z c.ranges.z) at c.if-z-ltminus2147483648.false)
-    (rw (to_z-of_z c.ranges.z) at c.if-z-gt2147483647.false))
+    let low = rw (to_z-of_z c.ranges.z) at c.if-z-ltminus2147483648.false in
+    let high = rw (to_z-of_z c.ranges.z) at c.if-z-gt2147483647.false in
+    let fits : SFits w32 c.args.z = value_fits c.args.z low high in
+    rw (to_z-of_z c.ranges.z, to_z-of_z fits) (limited_value c.args.z low high)

@@ -9,21 +9,12 @@ use Rattle.values.proofs.Integers.{value_small}
 use Rattle.values.proofs.Ratios.{scaled_signed}
 use Rattle.values.proofs.ratio.Goals as goal
 
-pub magnitude-requires : goal.magnitude-requires
-magnitude-requires c = search rules
-
 pub rounded-requires : goal.rounded-requires
 rounded-requires c = (rw (c.magnitude.ensures, to_z-of_z c.ranges.v) (value_small c.ranges.v), c.requires)
 
-pub signed-requires : goal.signed-requires
-signed-requires c = search rules
-
-pub limit-requires : goal.limit-requires
-limit-requires c = search rules
-
 pub returns : goal.returns
 returns c =
-    let k : SFits w64 c.signed.result = record { sfits = c.signed.type-inv } in
+    let k : SFits w64 c.signed.result = record { sfits = c.signed.type_inv } in
     c.limit.ensures
     ∙ ap limited
     (to_z-of_z k

@@ -8,7 +8,7 @@ use Rattle.values.specs.Changes.{differ}
 use Rattle.values.proofs.revalued.Given as goal
 
 abbrev pub invariant-loop-f : goal.invariant-loop-f
-invariant-loop-f l = (l.f ≤ l.n) × (l.set ≡ set_of (λ l.f. differ (value_at l.before l.f) (value_at l.after l.f)) l.f)
+invariant-loop-f l = (l.f ≤ l.n) × (l.set ≡ set_of (λ f. differ (value_at l.before f) (value_at l.after f)) l.f)
 
 abbrev pub decreases-loop-f : goal.decreases-loop-f
 decreases-loop-f l = l.n - l.f

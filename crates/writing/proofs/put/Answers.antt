@@ -2,7 +2,5 @@
 use Rattle.writing.proofs.Lines.{byte_put}
 use Rattle.writing.proofs.put.Goals as goal
 
--- ---- the places: the second digit stored, the first one
-
 pub returns : goal.returns
 returns c = byte_put _ _ _ _ _ _ _ c.high_char.ensures c.store.ensures c.low_char.ensures c.store-2.ensures
