@@ -4,10 +4,9 @@
 ghost use Rattle.std.specs.Prelude.{◌≡◌, false, ◌≤◌, length};
 
 use std::env::FillError;
-use std::fs;
 use std::io::Read;
 use std::rt::{Env, Files};
-use std::str;
+use std::{fs, str};
 
 // What was read: how many bytes stand in the buffer, and whether reading ended well, at the end of the input or with the buffer full.
 #[derive(Clone, Copy)]

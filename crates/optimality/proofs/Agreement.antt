@@ -79,6 +79,7 @@ shift_suc q i = go (dec_lt i q)
 
 place_strike : (f g : ℕ) (xs : List ℕ) → g ≢ f → In f xs → suc (place (strike f xs) g) ≡ shift (place xs f) (place xs g)
 unfolding place strike
+place_strike f g [] ne m = elim m [ ]
 place_strike f g (x ∷ xs) ne m = go (ℕ_discrete x f) (ℕ_discrete x g) m (place_strike f g xs ne)
   where
     go : Dec (x ≡ f) → Dec (x ≡ g) → In f (x ∷ xs) → (In f xs → suc (place (strike f xs) g) ≡ shift (place xs f) (place xs g))
@@ -91,6 +92,7 @@ place_strike f g (x ∷ xs) ne m = go (ℕ_discrete x f) (ℕ_discrete x g) m (p
 
 in_strike : (f g : ℕ) (xs : List ℕ) → g ≢ f → In g xs → In g (strike f xs)
 unfolding strike
+in_strike f g [] ne m = elim m [ ]
 in_strike f g (x ∷ xs) ne m = go (ℕ_discrete x f) m (in_strike f g xs ne)
   where
     go : Dec (x ≡ f) → In g (x ∷ xs) → (In g xs → In g (strike f xs)) → In g (strike f (x ∷ xs))

@@ -158,20 +158,24 @@ first_level_decides = record {
     same_there : (c : Item) → level_in three c < 5 → In c (items links_held) → In c (items stay_held)
     same_there c l (inl e) = inl e
     same_there c l (inr (inl e)) = let k : 5 < 5 = rw e at l in absurd (omega (arith, k))
+    same_there c l (inr (inr (inr x3))) = elim x3 [ ]
     same_there c l (inr (inr (inl e))) = inr (inl e)
 
     same_back : (c : Item) → level_in three c < 5 → In c (items stay_held) → In c (items links_held)
     same_back c l (inl e) = inl e
     same_back c l (inr (inl e)) = inr (inr (inl e))
+    same_back c l (inr (inr (inr x3))) = elim x3 [ ]
     same_back c l (inr (inr (inl e))) = let k : 17 < 5 = rw e at l in absurd (omega (arith, k))
 
     contains : (c : Item) → level_in three c ≡ 5 → In c (items stay_held) → In c (items links_held)
     contains c l (inl e) = inl e
+    contains c l (inr (inr (inr x3))) = elim x3 [ ]
     contains c l (inr (inl e)) = inr (inr (inl e))
     contains c l (inr (inr (inl e))) = let k : ◌≡◌ {A = ℕ} 17 5 = rw e at l in absurd (omega (arith, k))
 
     missed : In (link 1) (items stay_held) → ⊥
     missed (inl e) = one_zero (ap number e)
+    missed (inr (inr (inr x3))) = elim x3 [ ]
     missed (inr (inl e)) = let k : ◌≡◌ {A = ℕ} 1 2 = ap number e in omega (arith, k)
     missed (inr (inr (inl e))) = let k : ◌≡◌ {A = ℕ} 5 17 = ap (level_in three) e in omega (arith, k)
 

@@ -1,5 +1,5 @@
--- A verdict by its tag, as a match tells it: by cases on the verdict, where another tag is refuted by arithmetic; and the step made of a verdict's
--- parts (`step_is`).
+-- A verdict by what a match excluded, or by its tag: by cases on the verdict, where another tag is refuted by arithmetic; and the step made of a
+-- verdict's parts (`step_is`).
 use Prim.Native.Nat.{ℕ}
 use mathlib.Core.Path.{◌≡◌, refl}
 use mathlib.Core.Logic.{◌≢◌, ◌⊎◌, ⊎_elim}
@@ -17,10 +17,10 @@ use Rattle.reversal.specs.declared.Verdict.TheVariants.{Free, Looped, Path}
 use Rattle.reversal.specs.Reversals.{held_field, setter_by, count_by, fields_by, step_of}
 
 -- a verdict that is no path
-pub no_path : (t : Verdict) (c : ℕ) → (tag_of the_type t ≡ 0) ⊎ (tag_of the_type t ≡ 1) → (setter_by t c ≡ 128) × (count_by t ≡ 0) × (fields_by t ≡ 0)
+pub no_path : (t : Verdict) (c : ℕ) → ((k m : ℕ) → t ≢ Path k m) → (setter_by t c ≡ 128) × (count_by t ≡ 0) × (fields_by t ≡ 0)
 no_path Free c h = (refl, refl, refl)
 no_path Looped c h = (refl, refl, refl)
-no_path (Path k m) c h = absurd (⊎_elim (λ e. omega arith) (λ e. omega arith) h)
+no_path (Path k m) c h = absurd (h k m refl)
 
 -- a verdict that is no loop
 pub no_loop : (t : Verdict) → (tag_of the_type t ≡ 0) ⊎ (tag_of the_type t ≡ 2) → t ≢ Looped

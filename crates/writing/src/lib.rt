@@ -10,7 +10,11 @@ fn char_of(x: u8) -> u8
     requires { x < 16 }
     ensures { result ≡ char_of x }
 {
-    if x < 10 { x + b'0' } else { x + hexadecimal::LETTER }
+    if x < 10 {
+        x + b'0'
+    } else {
+        x + hexadecimal::LETTER
+    }
 }
 
 // x at a position, where there is one.

@@ -5,21 +5,25 @@
 use Prim.Native.Nat.{ℕ, ◌<◌}
 use mathlib.Core.Path.{◌≡◌, refl, sym, ap, ap₂, ◌∙◌, subst}
 use mathlib.Core.List.{List}
-use mathlib.Core.Logic.{⊎_elim}
+use mathlib.Core.Bool.{Bool}
+use mathlib.Core.Logic.{◌⊎◌, inl, inr}
+use denote.Enum.Declared.{tag_of}
 use native.Mathlib.Omega.{arith}
 use lib.ListN.{replicate}
 use Rattle.panel.specs.declared.Standing.{Standing}
 use Rattle.panel.specs.declared.Standing.TheVariants.{Waiting, Holding}
 use Rattle.panel.specs.declared.Link.{Link}
 use Rattle.panel.specs.declared.Panel.{Panel}
+use Rattle.panel.specs.declared.Refusal.{Refusal}
 use Rattle.panel.specs.declared.Refusal.TheVariants.{Loop}
-use Rattle.panel.specs.declared.Reply.TheVariants.{Refused}
+use Rattle.panel.specs.declared.Reply.{Reply}
+use Rattle.panel.specs.declared.Reply.TheVariants.{Accepted, Refused}
 use Rattle.panel.specs.Items.{no_link, link_at}
-use Rattle.panel.specs.Answers.{Answer}
+use Rattle.panel.specs.Answers.{Answer, refused}
 use Rattle.panel.specs.Panels.{waiting_link, with_link, with_setter}
 use Rattle.panel.specs.Steps.{accepted}
 use Rattle.panel.specs.Commands.{Passes, add_checks, change_checks, remove_checks, adding, removing, changing, performed}
-use Rattle.panel.specs.Outcomes.{Uncounted}
+use Rattle.panel.specs.Outcomes.{Uncounted, PathOf}
 use Rattle.panel.specs.Legal.{Legal}
 use Rattle.panel.proofs.Legal.{holding_not_waiting}
 use Rattle.panel.proofs.Checks.{named_link, changeable, change_removes}
@@ -28,8 +32,12 @@ use Rattle.tables.specs.Tables.{Tabled}
 use Rattle.tables.proofs.Settings.{places}
 use Rattle.scanning.proofs.Dropped.{field_small}
 use Rattle.taking.proofs.Reversal.{tabled_but}
-use Rattle.reversal.specs.Reversals.{Resolved, Unresolved}
+use Rattle.reversal.specs.declared.Verdict.{Verdict}
+use Rattle.reversal.specs.declared.Verdict.TheVariants.{Free, Looped, Path}
+use Rattle.reversal.specs.contracts.Verdict.{the_type}
+use Rattle.reversal.specs.Reversals.{Resolved, Unresolved, count_by}
 use Rattle.reversal.proofs.Verdicts.{no_loop}
+use Rattle.adding.specs.Checks.{verdict_reply}
 use Rattle.adding.proofs.Adding.{Entering, new_tabled, new_unresolved}
 use Rattle.fieldbytes.specs.Bytes.{FieldsOf}
 use Rattle.removing.proofs.Removed.{count_standing}
@@ -38,60 +46,171 @@ use Rattle.changing.specs.Changed.{change_count}
 use Rattle.changing.proofs.Halves.{Done, Turned, turned_free, drop_waits, without_tabled, drop_loops, drop_path, drop_reversed, enters, enter_refused, enter_path, enter_reversed}
 use Rattle.changing.proofs.Changing.{checks_refused, count_refused, checks_passed, count_passed, refused_parts, removal_refused, legal_between, adds_between, addition_refused, both_accepted, changed_is, count_is}
 use Rattle.changing.proofs.change.Goals as goal
+use Rattle.changing.proofs.change.Goals.{
+  In_default,
+  Joined-s,
+  Joined-verdict-3,
+  in-Holding+in_default-verdict+in-Path,
+  in-Holding+in_default-verdict+in_default-verdict-2,
+  in_default-s,
+  in-Path-verdict,
+  in_default-verdict-3,
+}
 
--- ---- the places: the checks
+-- ---- the checks
 
-passed : (c : goal.In_default) → let s = c.args in Passes (change_checks s.p s.id s.level s.bytes.now)
-passed c =
-    checks_passed c.args.p c.args.id c.args.level c.args.bytes.now _ _ _ c.read_fields-fields.ensures c.args.old c.requires.2
-    c.check_link-checks.result c.check_link-checks.ensures _ c.enum_told-in_default-1.given.1
+-- what the checks tell, where they pass
+record Checked (p : Panel) (id level : ℕ) (bytes : List ℕ) (old : Link) (n : ℕ) : Type 0 where
+  legal : Legal p
+  passes : Passes (change_checks p id level bytes)
+  small : id < 128
+  removes : Passes (remove_checks p id)
+  stands : (link_at p.links id).standing ≡ old.standing
+  counts : scan_count n p id ≡ change_count n p id level bytes
 
-number_small : (c : goal.In_default) → c.args.id < 128
-number_small c = let s = c.args in (changeable s.p s.id s.level s.bytes.now (passed c)).number
+checked : (c : In_default) → let s = c.args in Checked s.p s.id s.level s.bytes.now s.old s.worked.now
+checked c =
+    let s = c.args in
+    let f = c.read_fields-fields.ensures in
+    let passes = checks_passed s.p s.id s.level s.bytes.now _ _ _ f s.old c.requires.2 c.check_link-checks.result c.check_link-checks.ensures _ c.in_default.is in
+    let small = (changeable s.p s.id s.level s.bytes.now passes).number in
+    record {
+      legal = c.requires.0;
+      passes = passes;
+      small = small;
+      removes = change_removes s.p s.id s.level s.bytes.now passes;
+      stands = ap (λ (l : Link). l.standing) (sym (named_link s.p.links s.id s.old c.requires.2 small));
+      counts = count_passed s.p s.id s.level s.bytes.now _ _ _ f s.old c.requires.2 c.check_link-checks.result c.check_link-checks.ensures _ c.in_default.is _;
+    }
 
-removes : (c : goal.In_default) → let s = c.args in Passes (remove_checks s.p s.id)
-removes c = let s = c.args in change_removes s.p s.id s.level s.bytes.now (passed c)
-
--- the link of the number
-is-old : (c : goal.In_default) → let s = c.args in s.old ≡ link_at s.p.links s.id
-is-old c = named_link c.args.p.links c.args.id c.args.old c.requires.2 (number_small c)
-
-counts : (c : goal.In_default) → let s = c.args in scan_count s.worked.now s.p s.id ≡ change_count s.worked.now s.p s.id s.level s.bytes.now
-counts c =
-    count_passed c.args.p c.args.id c.args.level c.args.bytes.now _ _ _ c.read_fields-fields.ensures c.args.old c.requires.2
-    c.check_link-checks.result c.check_link-checks.ensures _ c.enum_told-in_default-1.given.1 _
-
--- its standing, and the field that it holds
-stands : (c : goal.In_default) {x : Standing} → c.args.old.standing ≡ x → let s = c.args in (link_at s.p.links s.id).standing ≡ x
-stands c e = ap (λ (l : Link). l.standing) (sym (is-old c)) ∙ e
-
--- ---- the places: the removal
+-- ---- the removal
 
 -- the panel without the link
-put : (c : goal.After-no_link) → let s = c.args in with_link s.p c.wide-k.result c.no_link.result ≡ with_link s.p s.id no_link
-put c = ap₂ (with_link c.args.p) c.wide-k.ensures c.no_link.ensures
+put : (p : Panel) {k id : ℕ} {l m : Link} → k ≡ id → l ≡ m → with_link p k l ≡ with_link p id m
+put p e f = ap₂ (with_link p) e f
 
-without : (c : goal.After-no_link) (v : ℕ) → let s = c.args in with_setter (with_link s.p c.wide-k.result c.no_link.result) v 128 ≡ with_setter (with_link s.p s.id no_link) v 128
-without c v = ap (λ (q : Panel). with_setter q v 128) (put c)
+module _ {p : Panel} {id level : ℕ} {bytes : List ℕ} {old : Link} {n : ℕ} (t : Checked p id level bytes old n) where
+  holds : {h v : ℕ} → old.standing ≡ Holding h → v ≡ h → (link_at p.links id).standing ≡ Holding v
+  holds e is = t.stands ∙ e ∙ ap Holding (sym is)
 
-holds : (c : goal.After-wide-v) → let s = c.args in (link_at s.p.links s.id).standing ≡ Holding c.wide-v.result
-holds c =
-    let passed : (let s = c.args in Passes (change_checks s.p s.id s.level s.bytes.now)) = checks_passed c.args.p c.args.id c.args.level c.args.bytes.now _ _ _ c.read_fields-fields.ensures c.args.old c.requires.2
-    c.check_link-checks.result c.check_link-checks.ensures _ c.enum_told-in_default-1.given.1 in
-    let number_small : c.args.id < 128 = let s = c.args in (changeable s.p s.id s.level s.bytes.now (passed)).number in
-    let is-old : (let s = c.args in s.old ≡ link_at s.p.links s.id) = named_link c.args.p.links c.args.id c.args.old c.requires.2 (number_small) in
-    let stands : {x : Standing} → c.args.old.standing ≡ x → let s = c.args in (link_at s.p.links s.id).standing ≡ x = λ e. ap (λ (l : Link). l.standing) (sym (is-old)) ∙ e in
-    stands (c.s-1.given.1 ∙ ap Holding (sym c.wide-v.ensures))
+  counted : (x : Standing) → old.standing ≡ x → count_after n p.size x ≡ change_count n p id level bytes
+  counted x e = count_standing p t.legal id n x (t.stands ∙ e) ∙ t.counts
 
-scanned : (c : goal.After-settle-settled) → let s = c.args in s.p.size ≡ scan_count s.worked.now s.p s.id
-scanned c =
-    let passed : (let s = c.args in Passes (change_checks s.p s.id s.level s.bytes.now)) = checks_passed c.args.p c.args.id c.args.level c.args.bytes.now _ _ _ c.read_fields-fields.ensures c.args.old c.requires.2
-    c.check_link-checks.result c.check_link-checks.ensures _ c.enum_told-in_default-1.given.1 in
-    let number_small : c.args.id < 128 = let s = c.args in (changeable s.p s.id s.level s.bytes.now (passed)).number in
-    let is-old : (let s = c.args in s.old ≡ link_at s.p.links s.id) = named_link c.args.p.links c.args.id c.args.old c.requires.2 (number_small) in
-    let stands : {x : Standing} → c.args.old.standing ≡ x → let s = c.args in (link_at s.p.links s.id).standing ≡ x = λ e. ap (λ (l : Link). l.standing) (sym (is-old)) ∙ e in
-    let holds : (let s = c.args in (link_at s.p.links s.id).standing ≡ Holding c.wide-v.result) = stands (c.s-1.given.1 ∙ ap Holding (sym c.wide-v.ensures)) in
-    count_standing c.args.p c.requires.0 c.args.id _ (Holding _) (holds)
+  -- the panel without the link and its setting
+  without : {k : ℕ} {l : Link} (v : ℕ) → k ≡ id → l ≡ no_link → with_setter (with_link p k l) v 128 ≡ with_setter (with_link p id no_link) v 128
+  without v e f = ap (λ (q : Panel). with_setter q v 128) (put p e f)
+
+  -- ---- the add, on the panel q that the removal leaves
+
+  module _ {levels others reads path : List ℕ} {q : Panel} (d : Done p (removing id) levels others reads path q)
+      {co ou : ℕ} {ri : Bool} (f : FieldsOf bytes co ou ri) where
+    legal_q : Legal q
+    legal_q = legal_between p t.legal id level bytes t.passes d.accepts _ d.leaves
+
+    adds_q : Passes (add_checks q id level bytes)
+    adds_q = adds_between p t.legal id level bytes t.passes d.accepts _ d.leaves
+
+    size_q : q.size ≡ p.size
+    size_q = ap (λ (q : Panel). q.size) (sym d.leaves) ∙ performed_size p (removing id) (changeable p id level bytes t.passes).is_open
+
+    entered : Entering q id level co ou (adding id level bytes)
+    entered = enters q legal_q id level bytes co ou ri f adds_q
+
+    resolvable : Unresolved others p.size ou co reads path
+    resolvable =
+        subst (λ n. Unresolved others n ou co reads path) size_q
+        (new_unresolved entered d.tabled path d.full)
+
+    -- the panel of both
+    whole : {levels' others' reads' path' : List ℕ} {r : Panel} → Done q (adding id level bytes) levels' others' reads' path' r
+        → accepted p r ≡ performed p (changing id level bytes)
+    whole a = both_accepted p t.legal id level bytes t.passes d.accepts _ d.leaves a.accepts _ a.leaves
+
+    legal_whole : {levels' others' reads' path' : List ℕ} {r : Panel} → Done q (adding id level bytes) levels' others' reads' path' r → Legal r
+    legal_whole a = subst (λ (a : Answer). Legal a.panel) (sym (whole a)) (legal_performed p (changing id level bytes) t.legal)
+
+    -- the panel with the link
+    new_tables : {k : ℕ} {l : Link} → k ≡ id → l ≡ waiting_link level co ou → Tabled (with_link q k l) levels others reads
+    new_tables e is = subst (λ (q : Panel). Tabled q levels others reads) (sym (put q e is)) (new_tabled entered d.tabled)
+
+    -- by the verdict on the link
+    module _ (way : List ℕ) (v : Verdict) (is : Resolved levels others p.size level ou co reads way v) (reply : Reply) (told : reply ≡ verdict_reply v level) where
+      resolved : Resolved levels others q.size level ou co reads way v
+      resolved = subst (λ n. Resolved levels others n level ou co reads way v) (sym size_q) is
+
+      add_refused : (x : Refusal) → reply ≡ Refused x → refused p x ≡ performed p (changing id level bytes)
+      add_refused x e =
+          addition_refused p t.legal id level bytes t.passes d.accepts _ d.leaves x
+          (enter_refused q legal_q id level bytes co ou ri f adds_q d.tabled way v resolved reply told x e)
+
+      add_path : (m : ℕ) → reply ≡ Accepted m → PathOf way (count_by v)
+      add_path m e = enter_path q legal_q id level bytes co ou ri f adds_q d.tabled way v resolved reply told m e
+
+      add_reversed : (m : ℕ) → reply ≡ Accepted m → {k : ℕ} {l : Link} → k ≡ id → l ≡ waiting_link level co ou → {levels' others' reads' : List ℕ} {r : Panel}
+          → Turned (with_link q k l) v id way r → Tabled r levels' others' reads' → Done q (adding id level bytes) levels' others' reads' way r
+      add_reversed m e ek el turned tab =
+          enter_reversed q legal_q id level bytes co ou ri f adds_q d.tabled way v resolved reply told m e (put q ek el) _ turned tab
+
+-- a verdict that is no path
+no_path : (v : Verdict) → ((x y : ℕ) → v ≡ Path x y → ⊥) → (tag_of the_type v ≡ 0) ⊎ (tag_of the_type v ≡ 1)
+no_path Free h = inl refl
+no_path Looped h = inr refl
+no_path (Path x y) h = absurd (h x y refl)
+
+-- ---- the removal is carried out
+
+dropped : (c : Joined-s) → let s = c.args in let m = c.match-s in Checked s.p s.id s.level s.bytes.now s.old s.worked.now
+    → Done s.p (removing s.id) m.fresh m.outs m.reading m.path m.q
+dropped c t =
+    let p = c.args.p in
+    elim c.match-s.branch [
+      | in-Holding+in_default-verdict+in-Path w ↦
+          let held = holds t w.in-Holding.is w.wide-v.ensures in
+          let turned = rw w.path_step-step.ensures at w.reverse-q.ensures in
+          rw (w.fresh-is, w.outs-is, w.reading-is, w.path-is, w.q-is)
+          (drop_reversed p t.legal c.args.id t.small t.removes _ held _ w.settle-settled.result.number w.settle-settled.result.verdict w.settle-settled.ensures.settles
+          w.in_default-verdict.not-Looped (without t _ c.wide-k.ensures c.no_link.ensures) _ turned.0 turned.1)
+      | in-Holding+in_default-verdict+in_default-verdict-2 w ↦
+          let held = holds t w.in-Holding.is w.wide-v.ensures in
+          rw (w.fresh-is, w.outs-is, w.reading-is, w.path-is, w.q-is)
+          (drop_reversed p t.legal c.args.id t.small t.removes _ held w.settle-settled.new.path w.settle-settled.result.number w.settle-settled.result.verdict
+          w.settle-settled.ensures.settles w.in_default-verdict.not-Looped (without t _ c.wide-k.ensures c.no_link.ensures) _
+          (turned_free _ w.settle-settled.result.verdict _ w.settle-settled.new.path (no_path _ w.in_default-verdict-2.not-Path))
+          (without_tabled p t.legal c.args.id t.small t.removes _ held w.settle-settled.ensures.tabled (without t _ c.wide-k.ensures c.no_link.ensures)))
+      | in_default-s w ↦
+          rw (w.fresh-is, w.outs-is, w.reading-is, w.path-is, w.q-is)
+          (drop_waits p t.legal c.args.id t.small t.removes (t.stands ∙ w.in_default-s.is) c.requires.1 (replicate 64 0) refl _
+          (put p c.wide-k.ensures c.no_link.ensures))
+    ]
+
+worked-is : (c : Joined-s) → let s = c.args in Checked s.p s.id s.level s.bytes.now s.old s.worked.now
+    → c.match-s.worked ≡ change_count s.worked.now s.p s.id s.level s.bytes.now
+worked-is c t =
+    elim c.match-s.branch [
+      | in-Holding+in_default-verdict+in-Path w ↦ w.worked-is ∙ w.settle-settled.ensures.worked_after ∙ counted t (Holding _) w.in-Holding.is
+      | in-Holding+in_default-verdict+in_default-verdict-2 w ↦ w.worked-is ∙ w.settle-settled.ensures.worked_after ∙ counted t (Holding _) w.in-Holding.is
+      | in_default-s w ↦ w.worked-is ∙ counted t Waiting w.in_default-s.is
+    ]
+
+-- ---- the add is carried out
+
+added : (c : Joined-verdict-3) → let s = c.args in let m = c.match-s in let a = c.match-verdict-3 in Checked s.p s.id s.level s.bytes.now s.old s.worked.now
+    → Done s.p (removing s.id) m.fresh m.outs m.reading m.path m.q → Done m.q (adding s.id s.level s.bytes.now) a.fresh a.outs a.reading c.resolve-verdict.new.path a.q
+added c t d =
+    let f = c.read_fields-fields.ensures in
+    let v = c.resolve-verdict in
+    let told = c.check_verdict-reply.ensures in
+    elim c.match-verdict-3.branch [
+      | in-Path-verdict w ↦
+          let turned = rw w.path_step-step-in-Path-verdict.ensures at w.reverse-q-in-Path-verdict.ensures in
+          rw (w.fresh-is, w.outs-is, w.reading-is, w.q-is)
+          (add_reversed t d f _ _ v.ensures.resolved _ told _ c.in_default-reply.is c.wide-k.ensures c.waiting_link.ensures turned.0 turned.1)
+      | in_default-verdict-3 w ↦
+          rw (w.fresh-is, w.outs-is, w.reading-is, w.q-is)
+          (add_reversed t d f _ _ v.ensures.resolved _ told _ c.in_default-reply.is c.wide-k.ensures c.waiting_link.ensures
+          (turned_free _ v.result _ v.new.path (no_path _ w.in_default-verdict-3.not-Path))
+          (new_tables t d f c.wide-k.ensures c.waiting_link.ensures))
+    ]
 
 -- ---- the needs of the checks and of the removal
 
@@ -99,7 +218,7 @@ pub returns-in-Refused : goal.returns-in-Refused
 returns-in-Refused c =
     let b = c.args in
     let f = c.read_fields-fields.ensures in
-    let e = c.enum_told-1.given.1 in
+    let e = c.in-Refused.is in
     let (same, still, told) =
     refused_parts b.p _ c.check_link-checks.result _ e (checks_refused b.p b.id b.level b.bytes.now _ _ _ f b.old c.requires.2 _ c.check_link-checks.ensures _ e) in
     rw c.kept.ensures (record {
@@ -112,470 +231,113 @@ returns-in-Refused c =
     })
 
 pub bounds-q-k : goal.bounds-q-k
-bounds-q-k c = omega (arith, c.wide-k.ensures, number_small (goal.at.bounds-q-k c).In_default)
+bounds-q-k c = omega (arith, c.wide-k.ensures, (checked (goal.at.bounds-q-k c).In_default).small)
 
 pub settle-settled-requires : goal.settle-settled-requires
 settle-settled-requires c =
-    let h = c.requires.0 in (
-      h,
-      c.requires.1,
-      field_small c.args.p h c.args.id _ (number_small (goal.at.settle-settled-requires c).In_default) (holds (goal.at.settle-settled-requires c).After-wide-v),
-      omega (arith, h.holding_sets _ _ (number_small (goal.at.settle-settled-requires c).In_default) (holds (goal.at.settle-settled-requires c).After-wide-v), number_small (goal.at.settle-settled-requires c).In_default),
-      refl,
-    )
+    let h = c.requires.0 in
+    let t = checked (goal.at.settle-settled-requires c).In_default in
+    let held = holds t c.in-Holding.is c.wide-v.ensures in
+    (h, c.requires.1, field_small c.args.p h c.args.id _ t.small held, omega (arith, h.holding_sets _ _ t.small held, t.small), refl)
 
 pub returns-in-Looped : goal.returns-in-Looped
 returns-in-Looped c =
     let b = c.args in
     let e = c.settle-settled.ensures in
-    let loops = drop_loops b.p c.requires.0 b.id (number_small (goal.at.returns-in-Looped c).In_default) (removes (goal.at.returns-in-Looped c).In_default) _ (holds (goal.at.returns-in-Looped c).After-wide-v) _ _ c.settle-settled.result.verdict e.0 c.enum_told-in-Looped-1.given.1 in
-    let (same, still, told) = refused_parts b.p _ (Refused Loop) Loop refl (removal_refused b.p c.requires.0 b.id b.level b.bytes.now (passed (goal.at.returns-in-Looped c).In_default) Loop loops) in
-    rw c.kept-in-Looped.ensures (record { panel = same; changed = still; reply = told; uncounted = tt; tabled = c.requires.1; scan = e.1.1 ∙ scanned (goal.at.returns-in-Looped c).After-settle-settled ∙ counts (goal.at.returns-in-Looped c).In_default })
+    let t = checked (goal.at.returns-in-Looped c).In_default in
+    let held = holds t c.in-Holding.is c.wide-v.ensures in
+    let loops = drop_loops b.p t.legal b.id t.small t.removes _ held _ _ c.settle-settled.result.verdict e.settles c.in-Looped.is in
+    let (same, still, told) = refused_parts b.p _ (Refused Loop) Loop refl (removal_refused b.p t.legal b.id b.level b.bytes.now t.passes Loop loops) in
+    rw c.kept-in-Looped.ensures (record {
+      panel = same;
+      changed = still;
+      reply = told;
+      uncounted = tt;
+      tabled = c.requires.1;
+      scan = e.worked_after ∙ counted t (Holding _) c.in-Holding.is;
+    })
 
 pub bounds-q-v : goal.bounds-q-v
 bounds-q-v c =
-    field_small c.args.p c.requires.0 c.args.id _ (number_small (goal.at.bounds-q-v c).In_default) (holds (goal.at.bounds-q-v c).After-wide-v)
+    let t = checked (goal.at.bounds-q-v c).In_default in
+    field_small c.args.p t.legal c.args.id _ t.small (holds t c.in-Holding.is c.wide-v.ensures)
 
 pub path_step-step-requires : goal.path_step-step-requires
 path_step-step-requires c = c.requires.0.place_length
 
 pub reverse-q-requires : goal.reverse-q-requires
 reverse-q-requires c =
-    let h = c.requires.0 in
     let e = c.settle-settled.ensures in
-    rw c.path_step-step.ensures (
-      drop_path c.args.p h c.args.id (number_small (goal.at.reverse-q-requires c).In_default) (removes (goal.at.reverse-q-requires c).In_default) _ (holds (goal.at.reverse-q-requires c).After-wide-v) _ _ c.settle-settled.result.verdict e.0 (no_loop _ c.in_default-verdict.keys2),
-      places c.args.p h,
-      tabled_but _ Waiting (λ v x. absurd (holding_not_waiting x refl)) (without_tabled c.args.p h c.args.id (number_small (goal.at.reverse-q-requires c).In_default) (removes (goal.at.reverse-q-requires c).In_default) _ (holds (goal.at.reverse-q-requires c).After-wide-v) e.1.0 (without (goal.at.reverse-q-requires c).After-no_link _)),
-    )
-
--- ---- the removal is carried out
-
-dropped : (c : goal.Joined-s) → let s = c.args in let m = c.match-s in Done s.p (removing s.id) m.fresh m.outs m.reading m.path m.q
-dropped c =
-    let passed : (let s = c.args in Passes (change_checks s.p s.id s.level s.bytes.now)) = checks_passed c.args.p c.args.id c.args.level c.args.bytes.now _ _ _ c.read_fields-fields.ensures c.args.old c.requires.2
-    c.check_link-checks.result c.check_link-checks.ensures _ c.enum_told-in_default-1.given.1 in
-    let number_small : c.args.id < 128 = let s = c.args in (changeable s.p s.id s.level s.bytes.now (passed)).number in
-    let removes : (let s = c.args in Passes (remove_checks s.p s.id)) = let s = c.args in change_removes s.p s.id s.level s.bytes.now (passed) in
-    let is-old : (let s = c.args in s.old ≡ link_at s.p.links s.id) = named_link c.args.p.links c.args.id c.args.old c.requires.2 (number_small) in
-    let stands : {x : Standing} → c.args.old.standing ≡ x → let s = c.args in (link_at s.p.links s.id).standing ≡ x = λ e. ap (λ (l : Link). l.standing) (sym (is-old)) ∙ e in
-    let put : (let s = c.args in with_link s.p c.wide-k.result c.no_link.result ≡ with_link s.p s.id no_link) = ap₂ (with_link c.args.p) c.wide-k.ensures c.no_link.ensures in
-    let without : (v : ℕ) → let s = c.args in with_setter (with_link s.p c.wide-k.result c.no_link.result) v 128 ≡ with_setter (with_link s.p s.id no_link) v 128 = λ v. ap (λ (q : Panel). with_setter q v 128) (put) in
+    let t = checked (goal.at.reverse-q-requires c).In_default in
     let p = c.args.p in
-    ⊎_elim
-    (λ w.
-    let held = stands (w.1.given.1 ∙ ap Holding (sym w.3.ensures)) in
-    let turned = rw w.14.ensures at w.19.ensures in
-    rw (w.21, w.22, w.23, w.24, w.25)
-    (drop_reversed p c.requires.0 c.args.id (number_small) (removes) _ held _ w.9.result.number w.9.result.verdict w.9.ensures.0 (no_loop _ w.10.keys2) (without _) _
-    turned.0 turned.1))
-    (⊎_elim
-    (λ w.
-    let held = stands (w.1.given.1 ∙ ap Holding (sym w.3.ensures)) in
-    rw (w.13, w.14, w.15, w.16, w.17)
-    (drop_reversed p c.requires.0 c.args.id (number_small) (removes) _ held w.9.last.1.1.1.1.1.0 w.9.result.number w.9.result.verdict w.9.ensures.0 (no_loop _ w.10.keys2) (without _) _
-    (turned_free _ w.9.result.verdict _ w.9.last.1.1.1.1.1.0 w.11.keys2)
-    (without_tabled p c.requires.0 c.args.id (number_small) (removes) _ held w.9.ensures.1.0 (without _))))
-    (λ w. rw (w.3, w.4, w.5, w.6, w.7)
-    (drop_waits p c.requires.0 c.args.id (number_small) (removes) (stands w.1.given.1) c.requires.1 (replicate 64 0) refl _ (put))))
-    c.match-s.branch
-
-counted : (c : goal.In_default) (x : Standing) → c.args.old.standing ≡ x → let s = c.args in count_after s.worked.now s.p.size x ≡ scan_count s.worked.now s.p s.id
-counted c x e =
-    count_standing c.args.p c.requires.0 c.args.id c.args.worked.now x (stands c e)
-
-worked-is : (c : goal.Joined-s) → let s = c.args in c.match-s.worked ≡ scan_count s.worked.now s.p s.id
-worked-is c =
-    let passed : (let s = c.args in Passes (change_checks s.p s.id s.level s.bytes.now)) = checks_passed c.args.p c.args.id c.args.level c.args.bytes.now _ _ _ c.read_fields-fields.ensures c.args.old c.requires.2
-    c.check_link-checks.result c.check_link-checks.ensures _ c.enum_told-in_default-1.given.1 in
-    let number_small : c.args.id < 128 = let s = c.args in (changeable s.p s.id s.level s.bytes.now (passed)).number in
-    let is-old : (let s = c.args in s.old ≡ link_at s.p.links s.id) = named_link c.args.p.links c.args.id c.args.old c.requires.2 (number_small) in
-    let stands : {x : Standing} → c.args.old.standing ≡ x → let s = c.args in (link_at s.p.links s.id).standing ≡ x = λ e. ap (λ (l : Link). l.standing) (sym (is-old)) ∙ e in
-    let counted : (x : Standing) → c.args.old.standing ≡ x → let s = c.args in count_after s.worked.now s.p.size x ≡ scan_count s.worked.now s.p s.id = λ x e. count_standing c.args.p c.requires.0 c.args.id c.args.worked.now x (stands e) in
-    ⊎_elim (λ w. w.20 ∙ w.9.ensures.1.1 ∙ counted (Holding _) w.1.given.1)
-    (⊎_elim (λ w. w.12 ∙ w.9.ensures.1.1 ∙ counted (Holding _) w.1.given.1) (λ w. w.2 ∙ counted Waiting w.1.given.1)) c.match-s.branch
-
--- ---- the add
-
-between : (c : goal.Joined-s) → let s = c.args in let q = c.match-s.q in Legal q × Passes (add_checks q s.id s.level s.bytes.now)
-between c =
-    let passed : (let s = c.args in Passes (change_checks s.p s.id s.level s.bytes.now)) = checks_passed c.args.p c.args.id c.args.level c.args.bytes.now _ _ _ c.read_fields-fields.ensures c.args.old c.requires.2
-    c.check_link-checks.result c.check_link-checks.ensures _ c.enum_told-in_default-1.given.1 in
-    let number_small : c.args.id < 128 = let s = c.args in (changeable s.p s.id s.level s.bytes.now (passed)).number in
-    let removes : (let s = c.args in Passes (remove_checks s.p s.id)) = let s = c.args in change_removes s.p s.id s.level s.bytes.now (passed) in
-    let is-old : (let s = c.args in s.old ≡ link_at s.p.links s.id) = named_link c.args.p.links c.args.id c.args.old c.requires.2 (number_small) in
-    let stands : {x : Standing} → c.args.old.standing ≡ x → let s = c.args in (link_at s.p.links s.id).standing ≡ x = λ e. ap (λ (l : Link). l.standing) (sym (is-old)) ∙ e in
-    let put : (let s = c.args in with_link s.p c.wide-k.result c.no_link.result ≡ with_link s.p s.id no_link) = ap₂ (with_link c.args.p) c.wide-k.ensures c.no_link.ensures in
-    let without : (v : ℕ) → let s = c.args in with_setter (with_link s.p c.wide-k.result c.no_link.result) v 128 ≡ with_setter (with_link s.p s.id no_link) v 128 = λ v. ap (λ (q : Panel). with_setter q v 128) (put) in
-    let b = c.args in
-    let d = dropped c in (
-      legal_between b.p c.requires.0 b.id b.level b.bytes.now (passed) d.accepts _ d.leaves,
-      adds_between b.p c.requires.0 b.id b.level b.bytes.now (passed) d.accepts _ d.leaves,
+    let held = holds t c.in-Holding.is c.wide-v.ensures in
+    rw c.path_step-step.ensures (
+      drop_path p t.legal c.args.id t.small t.removes _ held _ _ c.settle-settled.result.verdict e.settles c.in_default-verdict.not-Looped,
+      places p t.legal,
+      tabled_but _ Waiting (λ v x. absurd (holding_not_waiting x refl))
+          (without_tabled p t.legal c.args.id t.small t.removes _ held e.tabled (without t _ c.wide-k.ensures c.no_link.ensures)),
     )
 
-fields-of : (c : goal.Joined-s) → let s = c.args in let f = c.read_fields-fields.result in FieldsOf s.bytes.now f.covered f.outputs f.rising
-fields-of c = c.read_fields-fields.ensures
-
-size-between : (c : goal.Joined-s) → c.match-s.q.size ≡ c.args.p.size
-size-between c =
-    let passed : (let s = c.args in Passes (change_checks s.p s.id s.level s.bytes.now)) = checks_passed c.args.p c.args.id c.args.level c.args.bytes.now _ _ _ c.read_fields-fields.ensures c.args.old c.requires.2
-    c.check_link-checks.result c.check_link-checks.ensures _ c.enum_told-in_default-1.given.1 in
-    let number_small : c.args.id < 128 = let s = c.args in (changeable s.p s.id s.level s.bytes.now (passed)).number in
-    let removes : (let s = c.args in Passes (remove_checks s.p s.id)) = let s = c.args in change_removes s.p s.id s.level s.bytes.now (passed) in
-    let is-old : (let s = c.args in s.old ≡ link_at s.p.links s.id) = named_link c.args.p.links c.args.id c.args.old c.requires.2 (number_small) in
-    let stands : {x : Standing} → c.args.old.standing ≡ x → let s = c.args in (link_at s.p.links s.id).standing ≡ x = λ e. ap (λ (l : Link). l.standing) (sym (is-old)) ∙ e in
-    let put : (let s = c.args in with_link s.p c.wide-k.result c.no_link.result ≡ with_link s.p s.id no_link) = ap₂ (with_link c.args.p) c.wide-k.ensures c.no_link.ensures in
-    let without : (v : ℕ) → let s = c.args in with_setter (with_link s.p c.wide-k.result c.no_link.result) v 128 ≡ with_setter (with_link s.p s.id no_link) v 128 = λ v. ap (λ (q : Panel). with_setter q v 128) (put) in
-    let s = c.args in
-    ap (λ (q : Panel). q.size) (sym (dropped c).leaves) ∙ performed_size s.p (removing s.id) (changeable s.p s.id s.level s.bytes.now (passed)).is_open
-
-abbrev path_of : tie.After-resolve → List ℕ
-path_of c = c.resolve.new.1.1.1.1.1.1.1.0
-
-entered : (c : goal.Joined-s) → let s = c.args in let f = c.read_fields-fields.result in Entering c.match-s.q s.id s.level f.covered f.outputs (adding s.id s.level s.bytes.now)
-entered c =
-    let passed : (let s = c.args in Passes (change_checks s.p s.id s.level s.bytes.now)) = checks_passed c.args.p c.args.id c.args.level c.args.bytes.now _ _ _ c.read_fields-fields.ensures c.args.old c.requires.2
-    c.check_link-checks.result c.check_link-checks.ensures _ c.enum_told-in_default-1.given.1 in
-    let number_small : c.args.id < 128 = let s = c.args in (changeable s.p s.id s.level s.bytes.now (passed)).number in
-    let removes : (let s = c.args in Passes (remove_checks s.p s.id)) = let s = c.args in change_removes s.p s.id s.level s.bytes.now (passed) in
-    let is-old : (let s = c.args in s.old ≡ link_at s.p.links s.id) = named_link c.args.p.links c.args.id c.args.old c.requires.2 (number_small) in
-    let stands : {x : Standing} → c.args.old.standing ≡ x → let s = c.args in (link_at s.p.links s.id).standing ≡ x = λ e. ap (λ (l : Link). l.standing) (sym (is-old)) ∙ e in
-    let put : (let s = c.args in with_link s.p c.wide-k.result c.no_link.result ≡ with_link s.p s.id no_link) = ap₂ (with_link c.args.p) c.wide-k.ensures c.no_link.ensures in
-    let without : (v : ℕ) → let s = c.args in with_setter (with_link s.p c.wide-k.result c.no_link.result) v 128 ≡ with_setter (with_link s.p s.id no_link) v 128 = λ v. ap (λ (q : Panel). with_setter q v 128) (put) in
-    let s = c.args in
-    enters c.match-s.q (between c).0 s.id s.level s.bytes.now _ _ _ (fields-of c) (between c).1
+-- ---- the needs of the add
 
 pub resolve-verdict-requires : goal.resolve-verdict-requires
 resolve-verdict-requires c =
-    let f = c.read_fields-fields.result in
-    subst (λ n. Unresolved c.match-s.outs n f.outputs f.covered c.match-s.reading c.match-s.path) (size-between (goal.at.resolve-verdict-requires c).Joined-s)
-    (new_unresolved (entered (goal.at.resolve-verdict-requires c).Joined-s) (dropped (goal.at.resolve-verdict-requires c).Joined-s).tabled c.match-s.path (dropped (goal.at.resolve-verdict-requires c).Joined-s).full)
-
--- the verdict on the link, of the panel that the removal leaves
-resolved : (c : goal.After-resolve-verdict) → let b = c.args in let f = c.read_fields-fields.result in Resolved c.match-s.fresh c.match-s.outs c.match-s.q.size b.level f.outputs f.covered c.match-s.reading (path_of c) c.resolve-verdict.result
-resolved c =
-    let passed : (let s = c.args in Passes (change_checks s.p s.id s.level s.bytes.now)) = checks_passed c.args.p c.args.id c.args.level c.args.bytes.now _ _ _ c.read_fields-fields.ensures c.args.old c.requires.2
-    c.check_link-checks.result c.check_link-checks.ensures _ c.enum_told-in_default-1.given.1 in
-    let number_small : c.args.id < 128 = let s = c.args in (changeable s.p s.id s.level s.bytes.now (passed)).number in
-    let removes : (let s = c.args in Passes (remove_checks s.p s.id)) = let s = c.args in change_removes s.p s.id s.level s.bytes.now (passed) in
-    let is-old : (let s = c.args in s.old ≡ link_at s.p.links s.id) = named_link c.args.p.links c.args.id c.args.old c.requires.2 (number_small) in
-    let stands : {x : Standing} → c.args.old.standing ≡ x → let s = c.args in (link_at s.p.links s.id).standing ≡ x = λ e. ap (λ (l : Link). l.standing) (sym (is-old)) ∙ e in
-    let put : (let s = c.args in with_link s.p c.wide-k.result c.no_link.result ≡ with_link s.p s.id no_link) = ap₂ (with_link c.args.p) c.wide-k.ensures c.no_link.ensures in
-    let without : (v : ℕ) → let s = c.args in with_setter (with_link s.p c.wide-k.result c.no_link.result) v 128 ≡ with_setter (with_link s.p s.id no_link) v 128 = λ v. ap (λ (q : Panel). with_setter q v 128) (put) in
-    let dropped : (let s = c.args in let m = c.match-s in Done s.p (removing s.id) m.fresh m.outs m.reading m.path m.q) = let p = c.args.p in
-    ⊎_elim
-    (λ w.
-    let held = stands (w.1.given.1 ∙ ap Holding (sym w.3.ensures)) in
-    let turned = rw w.14.ensures at w.19.ensures in
-    rw (w.21, w.22, w.23, w.24, w.25)
-    (drop_reversed p c.requires.0 c.args.id (number_small) (removes) _ held _ w.9.result.number w.9.result.verdict w.9.ensures.0 (no_loop _ w.10.keys2) (without _) _
-    turned.0 turned.1))
-    (⊎_elim
-    (λ w.
-    let held = stands (w.1.given.1 ∙ ap Holding (sym w.3.ensures)) in
-    rw (w.13, w.14, w.15, w.16, w.17)
-    (drop_reversed p c.requires.0 c.args.id (number_small) (removes) _ held w.9.last.1.1.1.1.1.0 w.9.result.number w.9.result.verdict w.9.ensures.0 (no_loop _ w.10.keys2) (without _) _
-    (turned_free _ w.9.result.verdict _ w.9.last.1.1.1.1.1.0 w.11.keys2)
-    (without_tabled p c.requires.0 c.args.id (number_small) (removes) _ held w.9.ensures.1.0 (without _))))
-    (λ w. rw (w.3, w.4, w.5, w.6, w.7)
-    (drop_waits p c.requires.0 c.args.id (number_small) (removes) (stands w.1.given.1) c.requires.1 (replicate 64 0) refl _ (put))))
-    c.match-s.branch in
-    let size-between : c.match-s.q.size ≡ c.args.p.size = let s = c.args in
-    ap (λ (q : Panel). q.size) (sym (dropped).leaves) ∙ performed_size s.p (removing s.id) (changeable s.p s.id s.level s.bytes.now (passed)).is_open in
-    let f = c.read_fields-fields.result in
-    subst (λ n. Resolved c.match-s.fresh c.match-s.outs n c.args.level f.outputs f.covered c.match-s.reading (path_of c) c.resolve-verdict.result)
-    (sym (size-between)) c.resolve-verdict.ensures.0
+    let t = checked (goal.at.resolve-verdict-requires c).In_default in
+    let d = dropped (goal.at.resolve-verdict-requires c).Joined-s t in
+    resolvable t d c.read_fields-fields.ensures
 
 pub returns-in-Refused-reply : goal.returns-in-Refused-reply
 returns-in-Refused-reply c =
-    let b = c.args in
-    let d = dropped (goal.at.returns-in-Refused-reply c).Joined-s in
-    let e = c.enum_told-in-Refused-reply-1.given.1 in
-    let refuses = enter_refused c.match-s.q (between (goal.at.returns-in-Refused-reply c).Joined-s).0 b.id b.level b.bytes.now _ _ _ (fields-of (goal.at.returns-in-Refused-reply c).Joined-s) (between (goal.at.returns-in-Refused-reply c).Joined-s).1 d.tabled _ c.resolve-verdict.result
-    (resolved (goal.at.returns-in-Refused-reply c).After-resolve-verdict) _ c.check_verdict-reply.ensures _ e in
+    let t = checked (goal.at.returns-in-Refused-reply c).In_default in
+    let j = (goal.at.returns-in-Refused-reply c).Joined-s in
+    let d = dropped j t in
+    let e = c.in-Refused-reply.is in
     let (same, still, told) =
-    refused_parts b.p _ c.check_verdict-reply.result _ e
-    (addition_refused b.p c.requires.0 b.id b.level b.bytes.now (passed (goal.at.returns-in-Refused-reply c).In_default) d.accepts _ d.leaves c.enum_told-in-Refused-reply-1.given.0.0 refuses) in
-    rw c.kept-in-Refused-reply.ensures (record { panel = same; changed = still; reply = told; uncounted = subst Uncounted (sym e) tt; tabled = c.requires.1; scan = worked-is (goal.at.returns-in-Refused-reply c).Joined-s ∙ counts (goal.at.returns-in-Refused-reply c).In_default })
-
-number_at : (c : goal.After-waiting_link) → c.wide-k.result < 128
-number_at c =
-    let passed : (let s = c.args in Passes (change_checks s.p s.id s.level s.bytes.now)) = checks_passed c.args.p c.args.id c.args.level c.args.bytes.now _ _ _ c.read_fields-fields.ensures c.args.old c.requires.2
-    c.check_link-checks.result c.check_link-checks.ensures _ c.enum_told-in_default-1.given.1 in
-    let number_small : c.args.id < 128 = let s = c.args in (changeable s.p s.id s.level s.bytes.now (passed)).number in
-    omega (arith, c.wide-k.ensures, number_small)
-
-put-new : (c : goal.After-waiting_link) → let b = c.args in let f = c.read_fields-fields.result in with_link c.match-s.q c.wide-k.result c.waiting_link.result ≡ with_link c.match-s.q b.id (waiting_link b.level f.covered f.outputs)
-put-new c = ap₂ (with_link c.match-s.q) c.wide-k.ensures c.waiting_link.ensures
-
-new-tables : (c : goal.After-waiting_link) → Tabled (with_link c.match-s.q c.wide-k.result c.waiting_link.result) c.match-s.fresh c.match-s.outs c.match-s.reading
-new-tables c =
-    let passed : (let s = c.args in Passes (change_checks s.p s.id s.level s.bytes.now)) = checks_passed c.args.p c.args.id c.args.level c.args.bytes.now _ _ _ c.read_fields-fields.ensures c.args.old c.requires.2
-    c.check_link-checks.result c.check_link-checks.ensures _ c.enum_told-in_default-1.given.1 in
-    let number_small : c.args.id < 128 = let s = c.args in (changeable s.p s.id s.level s.bytes.now (passed)).number in
-    let removes : (let s = c.args in Passes (remove_checks s.p s.id)) = let s = c.args in change_removes s.p s.id s.level s.bytes.now (passed) in
-    let is-old : (let s = c.args in s.old ≡ link_at s.p.links s.id) = named_link c.args.p.links c.args.id c.args.old c.requires.2 (number_small) in
-    let stands : {x : Standing} → c.args.old.standing ≡ x → let s = c.args in (link_at s.p.links s.id).standing ≡ x = λ e. ap (λ (l : Link). l.standing) (sym (is-old)) ∙ e in
-    let put : (let s = c.args in with_link s.p c.wide-k.result c.no_link.result ≡ with_link s.p s.id no_link) = ap₂ (with_link c.args.p) c.wide-k.ensures c.no_link.ensures in
-    let without : (v : ℕ) → let s = c.args in with_setter (with_link s.p c.wide-k.result c.no_link.result) v 128 ≡ with_setter (with_link s.p s.id no_link) v 128 = λ v. ap (λ (q : Panel). with_setter q v 128) (put) in
-    let dropped : (let s = c.args in let m = c.match-s in Done s.p (removing s.id) m.fresh m.outs m.reading m.path m.q) = let p = c.args.p in
-    ⊎_elim
-    (λ w.
-    let held = stands (w.1.given.1 ∙ ap Holding (sym w.3.ensures)) in
-    let turned = rw w.14.ensures at w.19.ensures in
-    rw (w.21, w.22, w.23, w.24, w.25)
-    (drop_reversed p c.requires.0 c.args.id (number_small) (removes) _ held _ w.9.result.number w.9.result.verdict w.9.ensures.0 (no_loop _ w.10.keys2) (without _) _
-    turned.0 turned.1))
-    (⊎_elim
-    (λ w.
-    let held = stands (w.1.given.1 ∙ ap Holding (sym w.3.ensures)) in
-    rw (w.13, w.14, w.15, w.16, w.17)
-    (drop_reversed p c.requires.0 c.args.id (number_small) (removes) _ held w.9.last.1.1.1.1.1.0 w.9.result.number w.9.result.verdict w.9.ensures.0 (no_loop _ w.10.keys2) (without _) _
-    (turned_free _ w.9.result.verdict _ w.9.last.1.1.1.1.1.0 w.11.keys2)
-    (without_tabled p c.requires.0 c.args.id (number_small) (removes) _ held w.9.ensures.1.0 (without _))))
-    (λ w. rw (w.3, w.4, w.5, w.6, w.7)
-    (drop_waits p c.requires.0 c.args.id (number_small) (removes) (stands w.1.given.1) c.requires.1 (replicate 64 0) refl _ (put))))
-    c.match-s.branch in
-    let between : (let s = c.args in let q = c.match-s.q in Legal q × Passes (add_checks q s.id s.level s.bytes.now)) = let b = c.args in
-    let d = dropped in (
-      legal_between b.p c.requires.0 b.id b.level b.bytes.now (passed) d.accepts _ d.leaves,
-      adds_between b.p c.requires.0 b.id b.level b.bytes.now (passed) d.accepts _ d.leaves,
-    ) in
-    let fields-of : (let s = c.args in let f = c.read_fields-fields.result in FieldsOf s.bytes.now f.covered f.outputs f.rising) = c.read_fields-fields.ensures in
-    let entered : (let s = c.args in let f = c.read_fields-fields.result in Entering c.match-s.q s.id s.level f.covered f.outputs (adding s.id s.level s.bytes.now)) = let s = c.args in
-    enters c.match-s.q (between).0 s.id s.level s.bytes.now _ _ _ (fields-of) (between).1 in
-    subst (λ (q : Panel). Tabled q c.match-s.fresh c.match-s.outs c.match-s.reading) (sym (put-new c)) (new_tabled (entered) (dropped).tabled)
-
-pub offset_bounds-q-k-2 : goal.offset_bounds-q-k-2
-offset_bounds-q-k-2 c = omega (arith, number_at (goal.at.offset_bounds-q-k-2 c).After-waiting_link)
+    refused_parts c.args.p _ c.check_verdict-reply.result _ e
+    (add_refused t d c.read_fields-fields.ensures _ _ c.resolve-verdict.ensures.resolved _ c.check_verdict-reply.ensures _ e) in
+    rw c.kept-in-Refused-reply.ensures (record {
+      panel = same;
+      changed = still;
+      reply = told;
+      uncounted = subst Uncounted (sym e) tt;
+      tabled = c.requires.1;
+      scan = worked-is j t;
+    })
 
 pub bounds-q-k-2 : goal.bounds-q-k-2
-bounds-q-k-2 c = number_at (goal.at.bounds-q-k-2 c).After-waiting_link
-
-pub path_step-step-requires-in-Path-verdict : goal.path_step-step-requires-in-Path-verdict
-path_step-step-requires-in-Path-verdict c = c.requires.0.place_length
+bounds-q-k-2 c = omega (arith, c.wide-k.ensures, (checked (goal.at.bounds-q-k-2 c).In_default).small)
 
 pub reverse-q-requires-in-Path-verdict : goal.reverse-q-requires-in-Path-verdict
 reverse-q-requires-in-Path-verdict c =
-    let b = c.args in
-    let d = dropped (goal.at.reverse-q-requires-in-Path-verdict c).Joined-s in
+    let t = checked (goal.at.reverse-q-requires-in-Path-verdict c).In_default in
+    let d = dropped (goal.at.reverse-q-requires-in-Path-verdict c).Joined-s t in
+    let f = c.read_fields-fields.ensures in
     rw c.path_step-step-in-Path-verdict.ensures (
-      enter_path c.match-s.q (between (goal.at.reverse-q-requires-in-Path-verdict c).Joined-s).0 b.id b.level b.bytes.now _ _ _ (fields-of (goal.at.reverse-q-requires-in-Path-verdict c).Joined-s) (between (goal.at.reverse-q-requires-in-Path-verdict c).Joined-s).1 d.tabled _ c.resolve-verdict.result (resolved (goal.at.reverse-q-requires-in-Path-verdict c).After-resolve-verdict) _
-          c.check_verdict-reply.ensures _ c.enum_told-in_default-reply-1.given.1,
-      places c.match-s.q (between (goal.at.reverse-q-requires-in-Path-verdict c).Joined-s).0,
-      tabled_but _ Waiting (λ x y. absurd (holding_not_waiting y refl)) (new-tables (goal.at.reverse-q-requires-in-Path-verdict c).After-waiting_link),
+      add_path t d f _ _ c.resolve-verdict.ensures.resolved _ c.check_verdict-reply.ensures _ c.in_default-reply.is,
+      places c.match-s.q (legal_q t d f),
+      tabled_but _ Waiting (λ x y. absurd (holding_not_waiting y refl)) (new_tables t d f c.wide-k.ensures c.waiting_link.ensures),
     )
-
--- ---- the add is carried out
-
--- with its path reversed in the panel with the link
-enters-with : (c : goal.After-waiting_link) {levels others reads : List ℕ} (r : Panel) → let m = c.match-s in let b = c.args in let path = path_of c in Turned (with_link m.q c.wide-k.result c.waiting_link.result) c.resolve-verdict.result b.id path r → Tabled r levels others reads → Done m.q (adding b.id b.level b.bytes.now) levels others reads path r
-enters-with c r turned tab =
-    let passed : (let s = c.args in Passes (change_checks s.p s.id s.level s.bytes.now)) = checks_passed c.args.p c.args.id c.args.level c.args.bytes.now _ _ _ c.read_fields-fields.ensures c.args.old c.requires.2
-    c.check_link-checks.result c.check_link-checks.ensures _ c.enum_told-in_default-1.given.1 in
-    let number_small : c.args.id < 128 = let s = c.args in (changeable s.p s.id s.level s.bytes.now (passed)).number in
-    let removes : (let s = c.args in Passes (remove_checks s.p s.id)) = let s = c.args in change_removes s.p s.id s.level s.bytes.now (passed) in
-    let is-old : (let s = c.args in s.old ≡ link_at s.p.links s.id) = named_link c.args.p.links c.args.id c.args.old c.requires.2 (number_small) in
-    let stands : {x : Standing} → c.args.old.standing ≡ x → let s = c.args in (link_at s.p.links s.id).standing ≡ x = λ e. ap (λ (l : Link). l.standing) (sym (is-old)) ∙ e in
-    let put : (let s = c.args in with_link s.p c.wide-k.result c.no_link.result ≡ with_link s.p s.id no_link) = ap₂ (with_link c.args.p) c.wide-k.ensures c.no_link.ensures in
-    let without : (v : ℕ) → let s = c.args in with_setter (with_link s.p c.wide-k.result c.no_link.result) v 128 ≡ with_setter (with_link s.p s.id no_link) v 128 = λ v. ap (λ (q : Panel). with_setter q v 128) (put) in
-    let dropped : (let s = c.args in let m = c.match-s in Done s.p (removing s.id) m.fresh m.outs m.reading m.path m.q) = let p = c.args.p in
-    ⊎_elim
-    (λ w.
-    let held = stands (w.1.given.1 ∙ ap Holding (sym w.3.ensures)) in
-    let turned = rw w.14.ensures at w.19.ensures in
-    rw (w.21, w.22, w.23, w.24, w.25)
-    (drop_reversed p c.requires.0 c.args.id (number_small) (removes) _ held _ w.9.result.number w.9.result.verdict w.9.ensures.0 (no_loop _ w.10.keys2) (without _) _
-    turned.0 turned.1))
-    (⊎_elim
-    (λ w.
-    let held = stands (w.1.given.1 ∙ ap Holding (sym w.3.ensures)) in
-    rw (w.13, w.14, w.15, w.16, w.17)
-    (drop_reversed p c.requires.0 c.args.id (number_small) (removes) _ held w.9.last.1.1.1.1.1.0 w.9.result.number w.9.result.verdict w.9.ensures.0 (no_loop _ w.10.keys2) (without _) _
-    (turned_free _ w.9.result.verdict _ w.9.last.1.1.1.1.1.0 w.11.keys2)
-    (without_tabled p c.requires.0 c.args.id (number_small) (removes) _ held w.9.ensures.1.0 (without _))))
-    (λ w. rw (w.3, w.4, w.5, w.6, w.7)
-    (drop_waits p c.requires.0 c.args.id (number_small) (removes) (stands w.1.given.1) c.requires.1 (replicate 64 0) refl _ (put))))
-    c.match-s.branch in
-    let between : (let s = c.args in let q = c.match-s.q in Legal q × Passes (add_checks q s.id s.level s.bytes.now)) = let b = c.args in
-    let d = dropped in (
-      legal_between b.p c.requires.0 b.id b.level b.bytes.now (passed) d.accepts _ d.leaves,
-      adds_between b.p c.requires.0 b.id b.level b.bytes.now (passed) d.accepts _ d.leaves,
-    ) in
-    let fields-of : (let s = c.args in let f = c.read_fields-fields.result in FieldsOf s.bytes.now f.covered f.outputs f.rising) = c.read_fields-fields.ensures in
-    let size-between : c.match-s.q.size ≡ c.args.p.size = let s = c.args in
-    ap (λ (q : Panel). q.size) (sym (dropped).leaves) ∙ performed_size s.p (removing s.id) (changeable s.p s.id s.level s.bytes.now (passed)).is_open in
-    let resolved : (let b = c.args in let f = c.read_fields-fields.result in Resolved c.match-s.fresh c.match-s.outs c.match-s.q.size b.level f.outputs f.covered c.match-s.reading (path_of c) c.resolve-verdict.result) = let f = c.read_fields-fields.result in
-    subst (λ n. Resolved c.match-s.fresh c.match-s.outs n c.args.level f.outputs f.covered c.match-s.reading (path_of c) c.resolve-verdict.result)
-    (sym (size-between)) c.resolve-verdict.ensures.0 in
-    let b = c.args in
-    enter_reversed c.match-s.q (between).0 b.id b.level b.bytes.now _ _ _ (fields-of) (between).1 (dropped).tabled _ c.resolve-verdict.result (resolved) _
-    c.check_verdict-reply.ensures _ c.enum_told-in_default-reply-1.given.1 (put-new c) r turned tab
-
-added : (c : goal.Joined-verdict-3) → let b = c.args in Done c.match-s.q (adding b.id b.level b.bytes.now) c.match-verdict-3.fresh c.match-verdict-3.outs c.match-verdict-3.reading (path_of c) c.match-verdict-3.q
-added c =
-    let passed : (let s = c.args in Passes (change_checks s.p s.id s.level s.bytes.now)) = checks_passed c.args.p c.args.id c.args.level c.args.bytes.now _ _ _ c.read_fields-fields.ensures c.args.old c.requires.2
-    c.check_link-checks.result c.check_link-checks.ensures _ c.enum_told-in_default-1.given.1 in
-    let number_small : c.args.id < 128 = let s = c.args in (changeable s.p s.id s.level s.bytes.now (passed)).number in
-    let removes : (let s = c.args in Passes (remove_checks s.p s.id)) = let s = c.args in change_removes s.p s.id s.level s.bytes.now (passed) in
-    let is-old : (let s = c.args in s.old ≡ link_at s.p.links s.id) = named_link c.args.p.links c.args.id c.args.old c.requires.2 (number_small) in
-    let stands : {x : Standing} → c.args.old.standing ≡ x → let s = c.args in (link_at s.p.links s.id).standing ≡ x = λ e. ap (λ (l : Link). l.standing) (sym (is-old)) ∙ e in
-    let put : (let s = c.args in with_link s.p c.wide-k.result c.no_link.result ≡ with_link s.p s.id no_link) = ap₂ (with_link c.args.p) c.wide-k.ensures c.no_link.ensures in
-    let without : (v : ℕ) → let s = c.args in with_setter (with_link s.p c.wide-k.result c.no_link.result) v 128 ≡ with_setter (with_link s.p s.id no_link) v 128 = λ v. ap (λ (q : Panel). with_setter q v 128) (put) in
-    let dropped : (let s = c.args in let m = c.match-s in Done s.p (removing s.id) m.fresh m.outs m.reading m.path m.q) = let p = c.args.p in
-    ⊎_elim
-    (λ w.
-    let held = stands (w.1.given.1 ∙ ap Holding (sym w.3.ensures)) in
-    let turned = rw w.14.ensures at w.19.ensures in
-    rw (w.21, w.22, w.23, w.24, w.25)
-    (drop_reversed p c.requires.0 c.args.id (number_small) (removes) _ held _ w.9.result.number w.9.result.verdict w.9.ensures.0 (no_loop _ w.10.keys2) (without _) _
-    turned.0 turned.1))
-    (⊎_elim
-    (λ w.
-    let held = stands (w.1.given.1 ∙ ap Holding (sym w.3.ensures)) in
-    rw (w.13, w.14, w.15, w.16, w.17)
-    (drop_reversed p c.requires.0 c.args.id (number_small) (removes) _ held w.9.last.1.1.1.1.1.0 w.9.result.number w.9.result.verdict w.9.ensures.0 (no_loop _ w.10.keys2) (without _) _
-    (turned_free _ w.9.result.verdict _ w.9.last.1.1.1.1.1.0 w.11.keys2)
-    (without_tabled p c.requires.0 c.args.id (number_small) (removes) _ held w.9.ensures.1.0 (without _))))
-    (λ w. rw (w.3, w.4, w.5, w.6, w.7)
-    (drop_waits p c.requires.0 c.args.id (number_small) (removes) (stands w.1.given.1) c.requires.1 (replicate 64 0) refl _ (put))))
-    c.match-s.branch in
-    let between : (let s = c.args in let q = c.match-s.q in Legal q × Passes (add_checks q s.id s.level s.bytes.now)) = let b = c.args in
-    let d = dropped in (
-      legal_between b.p c.requires.0 b.id b.level b.bytes.now (passed) d.accepts _ d.leaves,
-      adds_between b.p c.requires.0 b.id b.level b.bytes.now (passed) d.accepts _ d.leaves,
-    ) in
-    let fields-of : (let s = c.args in let f = c.read_fields-fields.result in FieldsOf s.bytes.now f.covered f.outputs f.rising) = c.read_fields-fields.ensures in
-    let entered : (let s = c.args in let f = c.read_fields-fields.result in Entering c.match-s.q s.id s.level f.covered f.outputs (adding s.id s.level s.bytes.now)) = let s = c.args in
-    enters c.match-s.q (between).0 s.id s.level s.bytes.now _ _ _ (fields-of) (between).1 in
-    let put-new : (let b = c.args in let f = c.read_fields-fields.result in with_link c.match-s.q c.wide-k.result c.waiting_link.result ≡ with_link c.match-s.q b.id (waiting_link b.level f.covered f.outputs)) = ap₂ (with_link c.match-s.q) c.wide-k.ensures c.waiting_link.ensures in
-    let new-tables : Tabled (with_link c.match-s.q c.wide-k.result c.waiting_link.result) c.match-s.fresh c.match-s.outs c.match-s.reading = subst (λ (q : Panel). Tabled q c.match-s.fresh c.match-s.outs c.match-s.reading) (sym (put-new)) (new_tabled (entered) (dropped).tabled) in
-    let size-between : c.match-s.q.size ≡ c.args.p.size = let s = c.args in
-    ap (λ (q : Panel). q.size) (sym (dropped).leaves) ∙ performed_size s.p (removing s.id) (changeable s.p s.id s.level s.bytes.now (passed)).is_open in
-    let resolved : (let b = c.args in let f = c.read_fields-fields.result in Resolved c.match-s.fresh c.match-s.outs c.match-s.q.size b.level f.outputs f.covered c.match-s.reading (path_of c) c.resolve-verdict.result) = let f = c.read_fields-fields.result in
-    subst (λ n. Resolved c.match-s.fresh c.match-s.outs n c.args.level f.outputs f.covered c.match-s.reading (path_of c) c.resolve-verdict.result)
-    (sym (size-between)) c.resolve-verdict.ensures.0 in
-    let enters-with : {levels others reads : List ℕ} (r : Panel) → let m = c.match-s in let b = c.args in let path = path_of c in Turned (with_link m.q c.wide-k.result c.waiting_link.result) c.resolve-verdict.result b.id path r → Tabled r levels others reads → Done m.q (adding b.id b.level b.bytes.now) levels others reads path r = λ r turned tab. let b = c.args in
-    enter_reversed c.match-s.q (between).0 b.id b.level b.bytes.now _ _ _ (fields-of) (between).1 (dropped).tabled _ c.resolve-verdict.result (resolved) _
-    c.check_verdict-reply.ensures _ c.enum_told-in_default-reply-1.given.1 (put-new) r turned tab in
-    ⊎_elim
-    (λ x. let turned = rw x.3.ensures at x.8.ensures in rw (x.9, x.10, x.11, x.12) (enters-with _ turned.0 turned.1))
-    (λ x. rw (x.1, x.2, x.3, x.4) (enters-with _ (turned_free _ c.resolve-verdict.result _ (path_of c) x.0.keys2) (new-tables)))
-    c.match-verdict-3.branch
-
-whole : (c : goal.Joined-verdict-3) → let s = c.args in accepted s.p c.match-verdict-3.q ≡ performed s.p (changing s.id s.level s.bytes.now)
-whole c =
-    let passed : (let s = c.args in Passes (change_checks s.p s.id s.level s.bytes.now)) = checks_passed c.args.p c.args.id c.args.level c.args.bytes.now _ _ _ c.read_fields-fields.ensures c.args.old c.requires.2
-    c.check_link-checks.result c.check_link-checks.ensures _ c.enum_told-in_default-1.given.1 in
-    let number_small : c.args.id < 128 = let s = c.args in (changeable s.p s.id s.level s.bytes.now (passed)).number in
-    let removes : (let s = c.args in Passes (remove_checks s.p s.id)) = let s = c.args in change_removes s.p s.id s.level s.bytes.now (passed) in
-    let is-old : (let s = c.args in s.old ≡ link_at s.p.links s.id) = named_link c.args.p.links c.args.id c.args.old c.requires.2 (number_small) in
-    let stands : {x : Standing} → c.args.old.standing ≡ x → let s = c.args in (link_at s.p.links s.id).standing ≡ x = λ e. ap (λ (l : Link). l.standing) (sym (is-old)) ∙ e in
-    let put : (let s = c.args in with_link s.p c.wide-k.result c.no_link.result ≡ with_link s.p s.id no_link) = ap₂ (with_link c.args.p) c.wide-k.ensures c.no_link.ensures in
-    let without : (v : ℕ) → let s = c.args in with_setter (with_link s.p c.wide-k.result c.no_link.result) v 128 ≡ with_setter (with_link s.p s.id no_link) v 128 = λ v. ap (λ (q : Panel). with_setter q v 128) (put) in
-    let dropped : (let s = c.args in let m = c.match-s in Done s.p (removing s.id) m.fresh m.outs m.reading m.path m.q) = let p = c.args.p in
-    ⊎_elim
-    (λ w.
-    let held = stands (w.1.given.1 ∙ ap Holding (sym w.3.ensures)) in
-    let turned = rw w.14.ensures at w.19.ensures in
-    rw (w.21, w.22, w.23, w.24, w.25)
-    (drop_reversed p c.requires.0 c.args.id (number_small) (removes) _ held _ w.9.result.number w.9.result.verdict w.9.ensures.0 (no_loop _ w.10.keys2) (without _) _
-    turned.0 turned.1))
-    (⊎_elim
-    (λ w.
-    let held = stands (w.1.given.1 ∙ ap Holding (sym w.3.ensures)) in
-    rw (w.13, w.14, w.15, w.16, w.17)
-    (drop_reversed p c.requires.0 c.args.id (number_small) (removes) _ held w.9.last.1.1.1.1.1.0 w.9.result.number w.9.result.verdict w.9.ensures.0 (no_loop _ w.10.keys2) (without _) _
-    (turned_free _ w.9.result.verdict _ w.9.last.1.1.1.1.1.0 w.11.keys2)
-    (without_tabled p c.requires.0 c.args.id (number_small) (removes) _ held w.9.ensures.1.0 (without _))))
-    (λ w. rw (w.3, w.4, w.5, w.6, w.7)
-    (drop_waits p c.requires.0 c.args.id (number_small) (removes) (stands w.1.given.1) c.requires.1 (replicate 64 0) refl _ (put))))
-    c.match-s.branch in
-    let between : (let s = c.args in let q = c.match-s.q in Legal q × Passes (add_checks q s.id s.level s.bytes.now)) = let b = c.args in
-    let d = dropped in (
-      legal_between b.p c.requires.0 b.id b.level b.bytes.now (passed) d.accepts _ d.leaves,
-      adds_between b.p c.requires.0 b.id b.level b.bytes.now (passed) d.accepts _ d.leaves,
-    ) in
-    let fields-of : (let s = c.args in let f = c.read_fields-fields.result in FieldsOf s.bytes.now f.covered f.outputs f.rising) = c.read_fields-fields.ensures in
-    let entered : (let s = c.args in let f = c.read_fields-fields.result in Entering c.match-s.q s.id s.level f.covered f.outputs (adding s.id s.level s.bytes.now)) = let s = c.args in
-    enters c.match-s.q (between).0 s.id s.level s.bytes.now _ _ _ (fields-of) (between).1 in
-    let put-new : (let b = c.args in let f = c.read_fields-fields.result in with_link c.match-s.q c.wide-k.result c.waiting_link.result ≡ with_link c.match-s.q b.id (waiting_link b.level f.covered f.outputs)) = ap₂ (with_link c.match-s.q) c.wide-k.ensures c.waiting_link.ensures in
-    let new-tables : Tabled (with_link c.match-s.q c.wide-k.result c.waiting_link.result) c.match-s.fresh c.match-s.outs c.match-s.reading = subst (λ (q : Panel). Tabled q c.match-s.fresh c.match-s.outs c.match-s.reading) (sym (put-new)) (new_tabled (entered) (dropped).tabled) in
-    let size-between : c.match-s.q.size ≡ c.args.p.size = let s = c.args in
-    ap (λ (q : Panel). q.size) (sym (dropped).leaves) ∙ performed_size s.p (removing s.id) (changeable s.p s.id s.level s.bytes.now (passed)).is_open in
-    let resolved : (let b = c.args in let f = c.read_fields-fields.result in Resolved c.match-s.fresh c.match-s.outs c.match-s.q.size b.level f.outputs f.covered c.match-s.reading (path_of c) c.resolve-verdict.result) = let f = c.read_fields-fields.result in
-    subst (λ n. Resolved c.match-s.fresh c.match-s.outs n c.args.level f.outputs f.covered c.match-s.reading (path_of c) c.resolve-verdict.result)
-    (sym (size-between)) c.resolve-verdict.ensures.0 in
-    let enters-with : {levels others reads : List ℕ} (r : Panel) → let m = c.match-s in let b = c.args in let path = path_of c in Turned (with_link m.q c.wide-k.result c.waiting_link.result) c.resolve-verdict.result b.id path r → Tabled r levels others reads → Done m.q (adding b.id b.level b.bytes.now) levels others reads path r = λ r turned tab. let b = c.args in
-    enter_reversed c.match-s.q (between).0 b.id b.level b.bytes.now _ _ _ (fields-of) (between).1 (dropped).tabled _ c.resolve-verdict.result (resolved) _
-    c.check_verdict-reply.ensures _ c.enum_told-in_default-reply-1.given.1 (put-new) r turned tab in
-    let d = dropped in
-    let a = added c in
-    both_accepted c.args.p c.requires.0 c.args.id c.args.level c.args.bytes.now (passed) d.accepts _ d.leaves a.accepts _ a.leaves
-
-legal_after : (c : goal.Joined-verdict-3) → Legal c.match-verdict-3.q
-legal_after c =
-    let passed : (let s = c.args in Passes (change_checks s.p s.id s.level s.bytes.now)) = checks_passed c.args.p c.args.id c.args.level c.args.bytes.now _ _ _ c.read_fields-fields.ensures c.args.old c.requires.2
-    c.check_link-checks.result c.check_link-checks.ensures _ c.enum_told-in_default-1.given.1 in
-    let number_small : c.args.id < 128 = let s = c.args in (changeable s.p s.id s.level s.bytes.now (passed)).number in
-    let removes : (let s = c.args in Passes (remove_checks s.p s.id)) = let s = c.args in change_removes s.p s.id s.level s.bytes.now (passed) in
-    let is-old : (let s = c.args in s.old ≡ link_at s.p.links s.id) = named_link c.args.p.links c.args.id c.args.old c.requires.2 (number_small) in
-    let stands : {x : Standing} → c.args.old.standing ≡ x → let s = c.args in (link_at s.p.links s.id).standing ≡ x = λ e. ap (λ (l : Link). l.standing) (sym (is-old)) ∙ e in
-    let put : (let s = c.args in with_link s.p c.wide-k.result c.no_link.result ≡ with_link s.p s.id no_link) = ap₂ (with_link c.args.p) c.wide-k.ensures c.no_link.ensures in
-    let without : (v : ℕ) → let s = c.args in with_setter (with_link s.p c.wide-k.result c.no_link.result) v 128 ≡ with_setter (with_link s.p s.id no_link) v 128 = λ v. ap (λ (q : Panel). with_setter q v 128) (put) in
-    let dropped : (let s = c.args in let m = c.match-s in Done s.p (removing s.id) m.fresh m.outs m.reading m.path m.q) = let p = c.args.p in
-    ⊎_elim
-    (λ w.
-    let held = stands (w.1.given.1 ∙ ap Holding (sym w.3.ensures)) in
-    let turned = rw w.14.ensures at w.19.ensures in
-    rw (w.21, w.22, w.23, w.24, w.25)
-    (drop_reversed p c.requires.0 c.args.id (number_small) (removes) _ held _ w.9.result.number w.9.result.verdict w.9.ensures.0 (no_loop _ w.10.keys2) (without _) _
-    turned.0 turned.1))
-    (⊎_elim
-    (λ w.
-    let held = stands (w.1.given.1 ∙ ap Holding (sym w.3.ensures)) in
-    rw (w.13, w.14, w.15, w.16, w.17)
-    (drop_reversed p c.requires.0 c.args.id (number_small) (removes) _ held w.9.last.1.1.1.1.1.0 w.9.result.number w.9.result.verdict w.9.ensures.0 (no_loop _ w.10.keys2) (without _) _
-    (turned_free _ w.9.result.verdict _ w.9.last.1.1.1.1.1.0 w.11.keys2)
-    (without_tabled p c.requires.0 c.args.id (number_small) (removes) _ held w.9.ensures.1.0 (without _))))
-    (λ w. rw (w.3, w.4, w.5, w.6, w.7)
-    (drop_waits p c.requires.0 c.args.id (number_small) (removes) (stands w.1.given.1) c.requires.1 (replicate 64 0) refl _ (put))))
-    c.match-s.branch in
-    let between : (let s = c.args in let q = c.match-s.q in Legal q × Passes (add_checks q s.id s.level s.bytes.now)) = let b = c.args in
-    let d = dropped in (
-      legal_between b.p c.requires.0 b.id b.level b.bytes.now (passed) d.accepts _ d.leaves,
-      adds_between b.p c.requires.0 b.id b.level b.bytes.now (passed) d.accepts _ d.leaves,
-    ) in
-    let fields-of : (let s = c.args in let f = c.read_fields-fields.result in FieldsOf s.bytes.now f.covered f.outputs f.rising) = c.read_fields-fields.ensures in
-    let entered : (let s = c.args in let f = c.read_fields-fields.result in Entering c.match-s.q s.id s.level f.covered f.outputs (adding s.id s.level s.bytes.now)) = let s = c.args in
-    enters c.match-s.q (between).0 s.id s.level s.bytes.now _ _ _ (fields-of) (between).1 in
-    let put-new : (let b = c.args in let f = c.read_fields-fields.result in with_link c.match-s.q c.wide-k.result c.waiting_link.result ≡ with_link c.match-s.q b.id (waiting_link b.level f.covered f.outputs)) = ap₂ (with_link c.match-s.q) c.wide-k.ensures c.waiting_link.ensures in
-    let new-tables : Tabled (with_link c.match-s.q c.wide-k.result c.waiting_link.result) c.match-s.fresh c.match-s.outs c.match-s.reading = subst (λ (q : Panel). Tabled q c.match-s.fresh c.match-s.outs c.match-s.reading) (sym (put-new)) (new_tabled (entered) (dropped).tabled) in
-    let size-between : c.match-s.q.size ≡ c.args.p.size = let s = c.args in
-    ap (λ (q : Panel). q.size) (sym (dropped).leaves) ∙ performed_size s.p (removing s.id) (changeable s.p s.id s.level s.bytes.now (passed)).is_open in
-    let resolved : (let b = c.args in let f = c.read_fields-fields.result in Resolved c.match-s.fresh c.match-s.outs c.match-s.q.size b.level f.outputs f.covered c.match-s.reading (path_of c) c.resolve-verdict.result) = let f = c.read_fields-fields.result in
-    subst (λ n. Resolved c.match-s.fresh c.match-s.outs n c.args.level f.outputs f.covered c.match-s.reading (path_of c) c.resolve-verdict.result)
-    (sym (size-between)) c.resolve-verdict.ensures.0 in
-    let enters-with : {levels others reads : List ℕ} (r : Panel) → let m = c.match-s in let b = c.args in let path = path_of c in Turned (with_link m.q c.wide-k.result c.waiting_link.result) c.resolve-verdict.result b.id path r → Tabled r levels others reads → Done m.q (adding b.id b.level b.bytes.now) levels others reads path r = λ r turned tab. let b = c.args in
-    enter_reversed c.match-s.q (between).0 b.id b.level b.bytes.now _ _ _ (fields-of) (between).1 (dropped).tabled _ c.resolve-verdict.result (resolved) _
-    c.check_verdict-reply.ensures _ c.enum_told-in_default-reply-1.given.1 (put-new) r turned tab in
-    subst (λ (a : Answer). Legal a.panel) (sym (whole c)) (legal_performed c.args.p (changing c.args.id c.args.level c.args.bytes.now) c.requires.0)
 
 pub changed_fields-changed-requires : goal.changed_fields-changed-requires
 changed_fields-changed-requires c =
-    (c.requires.0.setter_length, (legal_after (goal.at.changed_fields-changed-requires c).Joined-verdict-3).setter_length)
+    let t = checked (goal.at.changed_fields-changed-requires c).In_default in
+    let d = dropped (goal.at.changed_fields-changed-requires c).Joined-s t in
+    (c.requires.0.setter_length, (legal_whole t d c.read_fields-fields.ensures (added (goal.at.changed_fields-changed-requires c).Joined-verdict-3 t d)).setter_length)
 
 pub returns : goal.returns
 returns c =
     let b = c.args in
-    let w = whole (goal.at.returns c).Joined-verdict-3 in
+    let t = checked (goal.at.returns c).In_default in
+    let d = dropped (goal.at.returns c).Joined-s t in
+    let a = added (goal.at.returns c).Joined-verdict-3 t d in
+    let w = whole t d c.read_fields-fields.ensures a in
     let left = ap (λ (a : Answer). a.panel) (sym w) in
     let is = c.changed_fields-changed.ensures in
     record {
       panel = ap (λ (a : Answer). a.panel) w;
-      changed = changed_is b.p c.requires.0 b.id b.level b.bytes.now (passed (goal.at.returns c).In_default) _ left _ is;
-      reply = count_is b.p c.requires.0 b.id b.level b.bytes.now (passed (goal.at.returns c).In_default) _ left _ is ∙ ap (λ (a : Answer). a.reply) w;
+      changed = changed_is b.p t.legal b.id b.level b.bytes.now t.passes _ left _ is;
+      reply = count_is b.p t.legal b.id b.level b.bytes.now t.passes _ left _ is ∙ ap (λ (a : Answer). a.reply) w;
       uncounted = refl;
-      tabled = (added (goal.at.returns c).Joined-verdict-3).tabled;
-      scan = worked-is (goal.at.returns c).Joined-s ∙ counts (goal.at.returns c).In_default;
+      tabled = a.tabled;
+      scan = worked-is (goal.at.returns c).Joined-s t;
     }

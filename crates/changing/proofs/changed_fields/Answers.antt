@@ -18,8 +18,11 @@ pub loop-f-preserved : goal.loop-f-preserved
 loop-f-preserved c =
     let s = c.args in (
       omega arith,
-      set_of_step (λ f. not (eqb (at s.now f) (at s.after.now f))) c.loop-f.f (omega arith) c.loop-f.invariant.1
-          (elim c.if-before-f.branch [ then-before-f w ↦ let (branch, entered, set_is) = w in inl (ap not (ne_eqb _ _ branch.true), set_is ∙ entered.ensures) | else-before-f w ↦ let (branch, set_is) = w in inr (ap not (eq-eqb _ _ branch.false), set_is) ]),
+      set_of_step (λ f. not (eqb (at s.before.now f) (at s.after.now f))) c.loop-f.f (omega arith) c.loop-f.invariant.1
+          (elim c.if-before-f.branch [
+            | then-before-f w ↦ inl (ap not (ne_eqb _ _ w.if-before-f.true), w.set-is ∙ w.with-set.ensures)
+            | else-before-f w ↦ inr (ap not (eq-eqb _ _ w.if-before-f.false), w.set-is)
+          ]),
     )
 
 pub returns : goal.returns

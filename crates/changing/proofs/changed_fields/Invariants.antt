@@ -9,7 +9,7 @@ use Rattle.fieldset.specs.Fields.{set_of}
 use Rattle.changing.proofs.changed_fields.Given as goal
 
 abbrev pub invariant-loop-f : goal.invariant-loop-f
-invariant-loop-f l = (l.f ≤ 64) × (l.set ≡ set_of (λ l.f. not (eqb (at l.before l.f) (at l.after l.f))) l.f)
+invariant-loop-f l = (l.f ≤ 64) × (l.set ≡ set_of (λ f. not (eqb (at l.before f) (at l.after f))) l.f)
 
 abbrev pub decreases-loop-f : goal.decreases-loop-f
 decreases-loop-f l = 64 - l.f

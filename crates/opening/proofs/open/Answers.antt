@@ -1,16 +1,24 @@
 -- `opening::open` meets its contract: the reply of the checks is a refusal (`open_refused`) or the opening passes (`open_accepted`).
+use mathlib.Core.Path.{◌≡◌, refl}
+use mathlib.Core.Logic.{◌≢◌}
+use Prim.Native.Nat.{ℕ}
+use Rattle.panel.specs.declared.Refusal.{Refusal}
+use Rattle.panel.specs.declared.Reply.{Reply}
+use Rattle.panel.specs.declared.Reply.TheVariants.{Accepted, Refused}
 use Rattle.opening.proofs.Opened.{open_refused, open_accepted}
 use Rattle.opening.proofs.open.Goals as goal
 
--- ---- the places: the start, the checks made, the reply told
-
--- ---- the needs
+-- a reply that is no refusal
+accepted : (r : Reply) → ((x : Refusal) → r ≢ Refused x) → (m : ℕ) × (r ≡ Accepted m)
+accepted (Accepted m) h = (m, refl)
+accepted (Refused x) h = absurd (h x refl)
 
 pub returns-in-Refused : goal.returns-in-Refused
 returns-in-Refused c =
-    open_refused c.args.p c.args.n _ _ k same path long _ c.check_open-reply.ensures _ c.enum_told-1.given.1 c.unchanged.ensures
+    λ k path long same. open_refused c.args.p c.args.n _ _ k same path long _ c.check_open-reply.ensures _ c.in-Refused.is c.unchanged.ensures
 
 pub returns : goal.returns
 returns c =
-    open_accepted c.args.p c.args.n _ _ k same path long _ c.check_open-reply.ensures _ _ c.requires c.enum_told-in_default-1.given.1
-    c.wide.ensures c.unchanged-2.ensures
+    let (m, is) = accepted c.check_open-reply.result c.in_default.not-Refused in
+    λ k path long same.
+    open_accepted c.args.p c.args.n _ _ k same path long _ c.check_open-reply.ensures m _ c.requires is c.wide.ensures c.unchanged-2.ensures

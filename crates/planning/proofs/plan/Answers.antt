@@ -3,31 +3,22 @@ use mathlib.Core.Path.{refl, ◌∙◌}
 use mathlib.Core.List.{List}
 use native.Mathlib.Omega.{arith}
 use Rattle.fieldset.specs.Tables.{at}
+use Rattle.panel.specs.declared.Panel.{Panel}
+use Rattle.panel.specs.Legal.{Legal}
 use Rattle.tables.proofs.Tables.{panel_acyclic, panel_among, panel_table, table_strengths}
 use Rattle.planning.proofs.Rows.{rows, written_full, written_more}
 use Rattle.planning.proofs.Planned.{Listed, plan_listed, plan_closed, plan_done}
 use Rattle.planning.proofs.plan.Goals as goal
+use Rattle.planning.proofs.plan.Goals.{After-order-count}
+use Rattle.planning.proofs.plan.Goals.{After-order-count, In-loop-i}
 
--- ---- the places: the strengths worked out, the plan listed, the row that is written
-
--- the buffer with the plan's fields
-abbrev fields : tie.After-order invariant-loop decreases-loop → List ℕ
-fields c = c.order.new.1.1.0
-
-listing : (c : goal.After-order-count) → Listed c.args.p (fields c) c.order-count.result
-listing c =
-    plan_listed c.args.p c.requires.0 _ _ _ c.requires.1 _ _ _ refl c.order-count.ensures.0 c.order-count.ensures.1
+-- the plan is listed
+listing : (c : goal.After-order-count) → Listed c.args.p c.order-count.new.out c.order-count.result
+listing c = plan_listed c.args.p c.requires.0 _ _ _ c.requires.1 _ _ _ refl c.order-count.ensures.0 c.order-count.ensures.1
 
 -- the place of the row, and its field
-low : (c : goal.In-loop-i) → (c.loop-i.i < 64) × (at (fields c) c.loop-i.i < 64)
-low c =
-    let listing : Listed c.args.p (fields c) c.order-count.result = plan_listed c.args.p c.requires.0 _ _ _ c.requires.1 _ _ _ refl c.order-count.ensures.0 c.order-count.ensures.1 in
-    let i = c.loop-i.i in
-    let listed = listing in
-    let few = c.requires.0.few in
-    (omega (arith, c.loop-i-test.true, listed.counted, few), omega (arith, listed.low i c.loop-i-test.true, few))
-
--- ---- the needs
+low : {p : Panel} {listed : List ℕ} {count i : ℕ} → Legal p → Listed p listed count → i < count → (i < 64) × (at listed i < 64)
+low {i = i} h l k = (omega (arith, k, l.counted, h.few), omega (arith, l.low i k, h.few))
 
 pub returns-then-n-eq0 : goal.returns-then-n-eq0
 returns-then-n-eq0 c = plan_closed c.args.p _ c.if-n-eq0.true
@@ -43,26 +34,26 @@ unfolding rows
 loop-i-init c = record { within = omega arith; stored = refl }
 
 pub bounds-listed-i : goal.bounds-listed-i
-bounds-listed-i c = (low (goal.at.bounds-listed-i c).In-loop-i).0
+bounds-listed-i c = (low c.requires.0 (listing (goal.at.bounds-listed-i c).After-order-count) c.loop-i-test.true).0
 
 pub bounds-setter-k : goal.bounds-setter-k
-bounds-setter-k c = let l = low (goal.at.bounds-setter-k c).In-loop-i in omega (arith, c.wide-k.ensures, l.0, l.1)
+bounds-setter-k c = let l : (c.loop-i.i < 64) × (at c.order-count.new.out c.loop-i.i < 64) = low c.requires.0 (listing (goal.at.bounds-setter-k c).After-order-count) c.loop-i-test.true in omega (arith, c.wide-k.ensures, l.0, l.1)
 
 pub bounds-table-k : goal.bounds-table-k
-bounds-table-k c = let l = low (goal.at.bounds-table-k c).In-loop-i in omega (arith, c.wide-k.ensures, l.0, l.1)
+bounds-table-k c = let l : (c.loop-i.i < 64) × (at c.order-count.new.out c.loop-i.i < 64) = low c.requires.0 (listing (goal.at.bounds-table-k c).After-order-count) c.loop-i-test.true in omega (arith, c.wide-k.ensures, l.0, l.1)
 
 pub put_row-requires : goal.put_row-requires
-put_row-requires c = ((low (goal.at.put_row-requires c).In-loop-i).0, written_full c.loop-i.invariant ∙ c.requires.2)
+put_row-requires c = ((low c.requires.0 (listing (goal.at.put_row-requires c).After-order-count) c.loop-i-test.true).0, written_full c.loop-i.invariant ∙ c.requires.2)
 
 pub overflow_add-i : goal.overflow_add-i
-overflow_add-i c = omega (arith, (low (goal.at.overflow_add-i c).In-loop-i).0)
+overflow_add-i c = omega (arith, (low c.requires.0 (listing (goal.at.overflow_add-i c).After-order-count) c.loop-i-test.true).0)
 
 pub loop-i-smaller : goal.loop-i-smaller
 loop-i-smaller c = omega (arith, c.loop-i-test.true)
 
 pub loop-i-preserved : goal.loop-i-preserved
 loop-i-preserved c =
-    written_more c.loop-i.invariant _ _ c.loop-i-test.true (rw (listing (goal.at.loop-i-preserved c).After-order-count).full (low (goal.at.loop-i-preserved c).In-loop-i).0) c.wide-k.ensures
+    written_more c.loop-i.invariant _ _ c.loop-i-test.true (rw (listing (goal.at.loop-i-preserved c).After-order-count).full (low c.requires.0 (listing (goal.at.loop-i-preserved c).After-order-count) c.loop-i-test.true).0) c.wide-k.ensures
     c.put_row.ensures
 
 pub overflow_cast-result : goal.overflow_cast-result
@@ -71,5 +62,5 @@ overflow_cast-result c = omega (arith, c.requires.0.few)
 pub returns : goal.returns
 returns c =
     plan_done c.args.p _ _ _ _ _ c.loop-i.i c.requires.0 (omega (arith, c.if-n-eq0.false))
-    (table_strengths c.args.p _ _ (c.strengths.ensures.0 ∙ panel_table c.args.p c.requires.0 _ _ _ c.requires.1 _))
+    (table_strengths c.args.p _ _ (c.strengths.ensures.table_after ∙ panel_table c.args.p c.requires.0 _ _ _ c.requires.1 _))
     (listing (goal.at.returns c).After-order-count) c.loop-i.invariant c.loop-i-test.false

@@ -10,6 +10,7 @@ use Rattle.downstream.specs.Downstream.{gathered}
 use Rattle.panel.specs.declared.Reply.TheVariants.{Accepted}
 use Rattle.panel.proofs.Moved.{counted_empty}
 use Rattle.redrawing.proofs.count_reply.Goals as goal
+use Rattle.redrawing.proofs.count_reply.Goals.{After-union-set}
 
 -- the set that is counted
 counts : (c : goal.After-union-set) → let a = c.args in c.union-set.result ≡ union (gathered (at a.down.now) a.changed) a.revalued
@@ -24,4 +25,4 @@ overflow_cast-result c = record { fits = omega (arith, c.size.ensures, size_le c
 
 pub returns-in-Accepted : goal.returns-in-Accepted
 returns-in-Accepted c =
-    rw (← counts (goal.at.returns-in-Accepted c).After-union-set, c.enum_told-in-Accepted-1.given.1, ne_eqb c.union-set.result 0 c.if-set-eq0.false) (ap Accepted c.size.ensures)
+    rw (← counts (goal.at.returns-in-Accepted c).After-union-set, c.in-Accepted.is, ne_eqb c.union-set.result 0 c.if-set-eq0.false) (ap Accepted c.size.ensures)

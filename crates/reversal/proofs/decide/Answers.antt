@@ -9,17 +9,10 @@ use Rattle.panel.specs.Outcomes.{PathOf}
 use Rattle.reversal.specs.Reversals.{with_path, Found}
 use Rattle.reversal.proofs.Deciding.{start_small, start_known, path_stored, path_of, after_among, path_low, decided}
 use Rattle.reversal.proofs.decide.Goals as goal
+use Rattle.reversal.proofs.decide.Goals.{After-path_from-count, After-loops_through}
 
--- ---- the places: the path is found; its reversal is tried
-
--- the buffer with the path
-abbrev buffer : tie.After-path-from → List ℕ
-buffer w = w.path-from.new.1.1.1.1.1.1.0
-
-found-path : (w : goal.After-path_from-count) → PathOf (buffer w) w.path_from-count.result
+found-path : (w : goal.After-path_from-count) → PathOf w.path_from-count.new.path w.path_from-count.result
 found-path w = path_of w.ranges.outputs.fits w.requires w.lowest_at-v.ensures w.path_from-count.ensures
-
--- ---- the needs
 
 pub path_from-count-requires : goal.path_from-count-requires
 path_from-count-requires c =
@@ -37,24 +30,26 @@ path_fields-set-requires c = found-path (goal.at.path_fields-set-requires c).Aft
 pub loops_through-requires : goal.loops_through-requires
 loops_through-requires c =
     let v = c.lowest_at-v.ensures in (
-      rw c.reverse_reads.ensures (after_among c.fits.outputs.fits c.requires v c.path_from-count.ensures),
-      path_low c.fits.outputs.fits c.requires v c.path_from-count.ensures c.path_fields-set.ensures,
+      rw c.reverse_reads.ensures (after_among c.ranges.outputs.fits c.requires v c.path_from-count.ensures),
+      path_low c.ranges.outputs.fits c.requires v c.path_from-count.ensures c.path_fields-set.ensures,
     )
 
 -- the path is found, and it is known whether its reversal has a loop
-found : (h : goal.After-loops_through) (looped : Bool) → h.loops_through.result ≡ looped → let a = h.args in Found a.levels.now a.others.now a.n a.s a.outputs a.covered a.reads.now (buffer h) h.path_from-count.result looped
+found : (h : goal.After-loops_through) (looped : Bool) → h.loops_through.result ≡ looped → let a = h.args in Found a.levels.now a.others.now a.n a.s a.outputs a.covered a.reads.now h.path_from-count.new.path h.path_from-count.result looped
 found h looped e =
-    decided h.fits.outputs.fits h.requires h.lowest_at-v.ensures h.path_from-count.ensures h.reverse_reads.ensures h.path_fields-set.ensures
+    decided h.ranges.outputs.fits h.requires h.lowest_at-v.ensures h.path_from-count.ensures h.reverse_reads.ensures h.path_fields-set.ensures
     (sym e ∙ h.loops_through.ensures)
 
-stored : (h : goal.After-loops_through) → let a = h.args in buffer h ≡ with_path a.levels.now a.others.now a.n a.s a.outputs a.path.now
+stored : (h : goal.After-loops_through) → let a = h.args in h.path_from-count.new.path ≡ with_path a.levels.now a.others.now a.n a.s a.outputs a.path.now
 stored h =
-    path_stored h.fits.outputs.fits h.requires h.lowest_at-v.ensures h.path_from-count.ensures
+    path_stored h.ranges.outputs.fits h.requires h.lowest_at-v.ensures h.path_from-count.ensures
 
 pub returns-then-loops_through : goal.returns-then-loops_through
 returns-then-loops_through c =
-    ((_, found (goal.at.returns-then-loops_through c).After-loops_through true c.if-loops_through.true), stored (goal.at.returns-then-loops_through c).After-loops_through)
+    let h = (goal.at.returns-then-loops_through c).After-loops_through in
+    record { decided = (_, found h true c.if-loops_through.true); path_after = stored h }
 
 pub returns : goal.returns
 returns c =
-    ((found (goal.at.returns c).After-loops_through false c.if-loops_through.false, c.path_fields-set.ensures), stored (goal.at.returns c).After-loops_through)
+    let h = (goal.at.returns c).After-loops_through in
+    record { decided = (found h false c.if-loops_through.false, c.path_fields-set.ensures); path_after = stored h }

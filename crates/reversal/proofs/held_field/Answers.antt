@@ -7,7 +7,7 @@ use Rattle.reversal.specs.Reversals.{HeldField, held_field}
 use Rattle.reversal.proofs.held_field.Goals as goal
 
 pub only-requires : goal.only-requires
-only-requires c = let k = c.s-1 in omega (arith, c.wide.ensures, subst HeldField k.given.1 c.requires)
+only-requires c = omega (arith, c.wide.ensures, subst HeldField c.in-Holding.is c.requires)
 
 pub returns-in-Holding : goal.returns-in-Holding
-returns-in-Holding c = c.only.ensures ∙ ap only c.wide.ensures ∙ sym (ap held_field c.s-1.given.1)
+returns-in-Holding c = c.only.ensures ∙ ap only c.wide.ensures ∙ sym (ap held_field c.in-Holding.is)

@@ -6,10 +6,6 @@ use Rattle.reversal.specs.Reversals.{fields_of}
 use Rattle.reversal.proofs.Fields.{fields_none, fields_more}
 use Rattle.reversal.proofs.path_fields.Goals as goal
 
--- ---- the places: a round of the loop, whose field is read; the start
-
--- ---- the needs
-
 pub loop-i-init : goal.loop-i-init
 loop-i-init c = (omega arith, sym (fields_none c.args.path.now))
 

@@ -13,7 +13,10 @@ greatest-top-requires c = let u = c.requires in (u.acyclic, u.outputs_inside, re
 pub returns-then-s-level : goal.returns-then-s-level
 returns-then-s-level c =
     let t = c.greatest-top.ensures in
-    ((le-ltb _ _ (rw t.is_greatest at c.if-s-level.true), c.requires.path_length), free_path _ _ _ _ _ _ _ t.is_greatest c.if-s-level.true)
+    record {
+      resolved = (le-ltb _ _ (rw t.is_greatest at c.if-s-level.true), c.requires.path_length);
+      path_after = free_path _ _ _ _ _ _ _ t.is_greatest c.if-s-level.true;
+    }
 
 pub decide-requires : goal.decide-requires
 decide-requires c =
@@ -36,7 +39,7 @@ decide-requires c =
 pub returns : goal.returns
 returns c =
     let t = c.greatest-top.ensures in
-    let over : c.args.level < c.greatest-top.result.strength = omega (arith, c.if-s-level.false) in (
-      resolved _ _ _ _ _ _ _ _ _ c.decide.result t.is_greatest over c.decide.ensures.0,
-      blocked_path _ _ _ _ _ _ _ _ t.is_greatest over c.decide.ensures.1,
-    )
+    let over : c.args.level < c.greatest-top.result.strength = omega (arith, c.if-s-level.false) in record {
+      resolved = resolved _ _ _ _ _ _ _ _ _ c.decide.result t.is_greatest over c.decide.ensures.decided;
+      path_after = blocked_path _ _ _ _ _ _ _ _ t.is_greatest over c.decide.ensures.path_after;
+    }

@@ -4,34 +4,26 @@ use native.Mathlib.Omega.{arith}
 use Rattle.reversal.proofs.Fields.{reads_next, reads_end}
 use Rattle.reversal.proofs.reverse_reads.Goals as goal
 
--- ---- the places: a round of the loop, whose field is read; the start
-
--- a field of the path is one of 64
-small : (f : goal.After-wide-f) → f.wide-f.result < 64
-small f = omega (arith, f.requires.0.fields f.loop-i.i (omega arith))
-
--- ---- the needs
-
 pub loop-i-init : goal.loop-i-init
 loop-i-init c = (omega arith, refl)
 
 pub offset_bounds-reads-f : goal.offset_bounds-reads-f
-offset_bounds-reads-f c = omega (arith, small (goal.at.offset_bounds-reads-f c).After-wide-f)
+offset_bounds-reads-f c = omega (arith, c.requires.0.fields c.loop-i.i (omega arith))
 
 pub bounds-reads-f : goal.bounds-reads-f
-bounds-reads-f c = omega (arith, small (goal.at.bounds-reads-f c).After-wide-f)
+bounds-reads-f c = omega (arith, c.requires.0.fields c.loop-i.i (omega arith))
 
 pub with-old-requires : goal.with-old-requires
-with-old-requires c = omega (arith, small (goal.at.with-old-requires c).After-wide-f)
+with-old-requires c = omega (arith, c.requires.0.fields c.loop-i.i (omega arith))
 
 pub without-requires : goal.without-requires
-without-requires c = omega (arith, small (goal.at.without-requires c).After-wide-f)
+without-requires c = omega (arith, c.requires.0.fields c.loop-i.i (omega arith))
 
 pub offset_bounds-reads-f-in-loop-i : goal.offset_bounds-reads-f-in-loop-i
-offset_bounds-reads-f-in-loop-i c = omega (arith, small (goal.at.offset_bounds-reads-f-in-loop-i c).After-wide-f)
+offset_bounds-reads-f-in-loop-i c = omega (arith, c.requires.0.fields c.loop-i.i (omega arith))
 
 pub bounds-reads-f-in-loop-i : goal.bounds-reads-f-in-loop-i
-bounds-reads-f-in-loop-i c = omega (arith, small (goal.at.bounds-reads-f-in-loop-i c).After-wide-f)
+bounds-reads-f-in-loop-i c = omega (arith, c.requires.0.fields c.loop-i.i (omega arith))
 
 pub loop-i-preserved : goal.loop-i-preserved
 loop-i-preserved c =

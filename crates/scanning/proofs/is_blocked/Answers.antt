@@ -5,7 +5,7 @@ use Rattle.scanning.proofs.is_blocked.Goals as goal
 pub returns-then-l : goal.returns-then-l
 returns-then-l c =
     let s = c.args in
-    link_waits s.table.now s.l c.is_over.result c.if-l.true c.enum_told-1.given.1 c.is_over.ensures
+    link_waits s.table.now s.l c.is_over.result c.if-l.true c.in-Waiting.is c.is_over.ensures
 
 pub returns-else-l : goal.returns-else-l
 returns-else-l c =
@@ -15,4 +15,4 @@ returns-else-l c =
 pub returns-in-Holding : goal.returns-in-Holding
 returns-in-Holding c =
     let b = c.args in
-    link_holds b.table.now b.l c.enum_told-in-Holding-1.given.0.0 c.enum_told-in-Holding-1.given.1
+    link_holds b.table.now b.l _ c.in-Holding.is

@@ -5,8 +5,9 @@ use Rattle.fieldset.specs.Tables.{at}
 use Rattle.tables.proofs.Settings.{places}
 use Rattle.scanning.proofs.Dropped.{Held, rest_acyclic, scanned, tabled_dropped}
 use Rattle.scanning.proofs.scan_without.Goals as goal
+use Rattle.scanning.proofs.scan_without.Goals.{Start}
 
-held : (s : goal.Start) → let a = s.args in Held a.t1 (at a.t1.setter a.v) a.v a.levels.now a.others.now a.reads.now
+held : (s : goal.Start) → let a = s.args in Held a.p (at a.p.setter a.v) a.v a.levels.now a.others.now a.reads.now
 held s = record {
   legal = s.requires.0;
   tabled = s.requires.1;
@@ -25,4 +26,8 @@ find_blocked-blocked-requires c = c.requires.0
 
 pub returns : goal.returns
 returns c =
-    (scanned (held (goal.at.returns c).Start) _ _ c.strengths-worked.ensures.0 _ c.strengths-worked.ensures.1 _ c.find_blocked-blocked.ensures, tabled_dropped (held (goal.at.returns c).Start))
+    let h = held (goal.at.returns c).Start in
+    record {
+      scanned = scanned h _ _ c.strengths-worked.ensures.table_after _ c.strengths-worked.ensures.value _ c.find_blocked-blocked.ensures;
+      tabled = tabled_dropped h;
+    }

@@ -10,40 +10,36 @@ use Rattle.panel.specs.Steps.{touch_step}
 use Rattle.panel.specs.Commands.{performed, touching}
 use Rattle.panel.proofs.Outcomes.{decides_refused}
 use Rattle.tables.proofs.Settings.{places}
-use Rattle.reversal.proofs.Verdicts.{no_loop}
 use Rattle.touching.proofs.Touching.{touch_refused, touch_passes, Front, front_small, front_legal, front_unresolved, Judged, touch_looped, touch_done}
 use Rattle.touching.proofs.touch.Goals as goal
-use Rattle.touching.proofs.touch.Goals.{else-setter-v-lt-STAY, then-setter-v-lt-STAY}
+use Rattle.touching.proofs.touch.Goals.{After-wide-v, After-to_front, Joined-setter-v-lt-STAY, then-setter-v-lt-STAY, else-setter-v-lt-STAY}
 
--- ---- the places: the checks made, the checks passed, the stay in front, the verdict
+-- ---- the places: the checks passed, the stay in front, the verdict
 
-passed : (c : goal.After-wide-v) → let s = c.args in (c.wide-v.result < s.p.size) × (performed s.p (touching s.f) ≡ touch_step s.p c.wide-v.result)
-passed c =
-    let s = c.args in
-    rw c.wide-v.ensures (touch_passes s.p s.f _ c.check_touch-reply.ensures _ c.enum_told-in_default-1.given.1)
+passed : (c : goal.After-wide-v) → (c.wide-v.result < c.args.p.size) × (performed c.args.p (touching c.args.f) ≡ touch_step c.args.p c.wide-v.result)
+passed c = rw c.wide-v.ensures (touch_passes c.args.p c.args.f _ c.check_touch-reply.ensures _ c.in_default.is)
 
-front : (c : goal.After-to_front) → let s = c.args in Front s.p c.wide-v.result (touching s.f) c.to_front.new.0
+front : (c : goal.After-to_front) → Front c.args.p c.wide-v.result (touching c.args.f) c.to_front.new.place
 front c =
-    let passed : (let s = c.args in (c.wide-v.result < s.p.size) × (performed s.p (touching s.f) ≡ touch_step s.p c.wide-v.result)) = let s = c.args in
-    rw c.wide-v.ensures (touch_passes s.p s.f _ c.check_touch-reply.ensures _ c.enum_told-in_default-1.given.1) in
-    let (inside, step) = passed in
-    record { legal = c.requires.0; = inside; step = step; places = c.to_front.ensures }
+    let (inside, step) : (c.wide-v.result < c.args.p.size) × (performed c.args.p (touching c.args.f) ≡ touch_step c.args.p c.wide-v.result) =
+    rw c.wide-v.ensures (touch_passes c.args.p c.args.f _ c.check_touch-reply.ensures _ c.in_default.is) in
+    record { legal = c.requires.0; field = inside; step = step; places = c.to_front.ensures }
 
-judged : (c : goal.Joined-setter-v-lt-STAY) → let s = c.args in Judged (front c) s.others.now s.reads.now s.levels.now c.if-setter-v-lt-STAY.path c.if-setter-v-lt-STAY.verdict
-judged c =
-    let passed : (let s = c.args in (c.wide-v.result < s.p.size) × (performed s.p (touching s.f) ≡ touch_step s.p c.wide-v.result)) = let s = c.args in
-    rw c.wide-v.ensures (touch_passes s.p s.f _ c.check_touch-reply.ensures _ c.enum_told-in_default-1.given.1) in
-    let front : (let s = c.args in Front s.p c.wide-v.result (touching s.f) c.to_front.new.0) = let (inside, step) = passed in
-    record { legal = c.requires.0; = inside; step = step; places = c.to_front.ensures } in
-    elim c.if-setter-v-lt-STAY.branch [ then-setter-v-lt-STAY w ↦ let (branch, _, _, _, _, levels, set, _, _, resolved, path-is, verdict-is) = w in
-    inl (branch.true, _, levels.ensures, rw (← set.ensures, path-is, verdict-is) resolved.ensures.0) | else-setter-v-lt-STAY w ↦ let (branch, path-is, verdict-is) = w in inr (branch.false, verdict-is, ap length path-is ∙ c.requires.2) ]
+judged : (c : goal.Joined-setter-v-lt-STAY) (x : Front c.args.p c.wide-v.result (touching c.args.f) c.to_front.new.place)
+    → Judged x c.args.others.now c.args.reads.now c.args.levels.now c.if-setter-v-lt-STAY.path c.if-setter-v-lt-STAY.verdict
+judged c x =
+    elim c.if-setter-v-lt-STAY.branch [
+      | then-setter-v-lt-STAY w ↦
+          inl (w.if-setter-v-lt-STAY.true, _, w.stay_levels.ensures, rw (← w.only-set.ensures, w.path-is, w.verdict-is) w.resolve-verdict.ensures.resolved)
+      | else-setter-v-lt-STAY w ↦ inr (w.if-setter-v-lt-STAY.false, w.verdict-is, ap length w.path-is ∙ c.requires.2)
+    ]
 
 -- ---- the needs
 
 pub returns-in-Refused : goal.returns-in-Refused
-returns-in-Refused c =
-    decides_refused c.args.p k _ _ (touching c.args.f) _ c.requires.2 _ _ same c.enum_told-1.given.1
-    (touch_refused c.args.p c.args.f _ c.check_touch-reply.ensures _ c.enum_told-1.given.1) c.unchanged.ensures
+returns-in-Refused c k same =
+    decides_refused c.args.p k _ _ (touching c.args.f) _ c.requires.2 _ _ same c.in-Refused.is
+    (touch_refused c.args.p c.args.f _ c.check_touch-reply.ensures _ c.in-Refused.is) c.unchanged.ensures
 
 pub to_front-requires : goal.to_front-requires
 to_front-requires c =
@@ -65,12 +61,14 @@ resolve-verdict-requires c =
     rw c.only-set.ensures (front_unresolved (front (goal.at.resolve-verdict-requires c).After-to_front) c.if-setter-v-lt-STAY.true c.requires.1 c.stay_levels.ensures _ c.requires.2)
 
 pub returns-in-Looped : goal.returns-in-Looped
-returns-in-Looped c =
-    touch_looped (front (goal.at.returns-in-Looped c).After-to_front) c.requires.1 _ _ (judged (goal.at.returns-in-Looped c).Joined-setter-v-lt-STAY) k _ same _ c.enum_told-in-Looped-1.given.1 c.unchanged-in-Looped.ensures
+returns-in-Looped c k same =
+    let x = front (goal.at.returns-in-Looped c).After-to_front in
+    touch_looped x c.requires.1 _ _ (judged (goal.at.returns-in-Looped c).Joined-setter-v-lt-STAY x) k _ same _ c.in-Looped.is c.unchanged-in-Looped.ensures
 
 pub step_of-requires : goal.step_of-requires
 step_of-requires c = (ap length c.to_front.ensures ∙ length_tabulate _ 64, tt)
 
 pub returns : goal.returns
-returns c =
-    touch_done (front (goal.at.returns c).After-to_front) c.requires.1 _ _ (judged (goal.at.returns c).Joined-setter-v-lt-STAY) k _ same _ (no_loop _ c.in_default-verdict.keys2) c.step_of.ensures
+returns c k same =
+    let x = front (goal.at.returns c).After-to_front in
+    touch_done x c.requires.1 _ _ (judged (goal.at.returns c).Joined-setter-v-lt-STAY x) k _ same _ c.in_default-verdict.not-Looped c.step_of.ensures
