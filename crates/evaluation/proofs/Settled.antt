@@ -301,6 +301,7 @@ module _ (formula : ℕ → Formula) (reads : ℕ → ℕ) where
   -- a field that is run, or was within the limits, is within them at the end
   pub run_within : (fs : List ℕ) (v w : List ℤ) → Ends formula reads fs v w → (g : ℕ) → In g fs ⊎ (outside (value_at v g) ≡ false) → outside (value_at w g) ≡ false
   unfolding run
+  run_within [] v w e g (inl x3) = elim x3 [ ]
   run_within [] v w e g (inr h) = ap (λ (r : Run). outside (value_at r.values g)) (sym e) ∙ h
   run_within (f ∷ fs) v w e g h =
       let s = first_step f fs v w e in

@@ -4,10 +4,6 @@ use Rattle.fieldset.proofs.Emptying.{first_falls}
 use Rattle.strength.proofs.Way.{scan_pos, scan_pass, scan_found, scan_start, way_start, way_reversal, way_stop}
 use Rattle.strength.proofs.path_from.Goals as goal
 
--- ---- the places: the setter's level is another, and the scan of the other outputs
-
--- ---- the needs
-
 pub bounds-table-v : goal.bounds-table-v
 bounds-table-v c = omega (arith, c.requires.0.few, c.requires.2)
 

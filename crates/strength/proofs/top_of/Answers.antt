@@ -3,10 +3,6 @@ use Rattle.fieldset.proofs.Emptying.{first_falls}
 use Rattle.strength.proofs.Maxima.{top_start, top_step, top_end}
 use Rattle.strength.proofs.top_of.Goals as goal
 
--- ---- the places: a round of the loop and its field
-
--- ---- the needs
-
 pub loop-rest-init : goal.loop-rest-init
 loop-rest-init c = top_start
 
