@@ -227,6 +227,7 @@ module _ (s : Sheet) (h : LegalSheet s) where
   frame_reply bytes e = go (fits_kind_lem (at bytes 0) (at bytes 2) (length bytes) (and_left _ _ e))
     where
       go : Known (at bytes 0) → IsReply (at bytes 0) (answered s bytes (command_of bytes)).reply
+      go (inr (inr (inr (inr (inr (inr (inr (inr x8)))))))) = elim x8 [ ]
       go (inl k) = rw k (command_reply s.panel h.panel (opening (at bytes 1)))
       go (inr (inl k)) = rw k (command_reply s.panel h.panel (adding (at bytes 1) (at bytes 2) (drop 3 bytes)))
       go (inr (inr (inl k))) = rw k (command_reply s.panel h.panel (removing (at bytes 1)))

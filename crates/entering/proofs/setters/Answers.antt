@@ -9,36 +9,18 @@ use Rattle.taking.proofs.Taking.{places_taken, taken_reversed, tabled_altered, t
 use Rattle.entering.proofs.Entering.{setters_by}
 use Rattle.entering.proofs.setters.Goals as goal
 
--- ---- what is known at the start
-
-legal : (s : goal.Start) → Legal s.args.p
-legal s = s.requires.0.0
-
-tabled : (s : goal.Start) → let a = s.args in Tabled a.p a.levels.now a.others.now a.reads.now
-tabled s = s.requires.0.1
-
-legal_after : (s : goal.Start) → let a = s.args in Legal (taken a.p 0 a.step a.path.now)
-legal_after s = s.requires.1.0
-
-takes : (s : goal.Start) → let a = s.args in Takes a.p 0 a.path.now a.step (taken a.p 0 a.step a.path.now)
-takes s = s.requires.1.1
-
--- ---- the places: where setters change, and on the copies
-
--- ---- the needs
-
 pub stay_levels-requires : goal.stay_levels-requires
-stay_levels-requires c =
-    (places_taken (takes (goal.at.stay_levels-requires c).Start) (legal_after (goal.at.stay_levels-requires c).Start), (tabled (goal.at.stay_levels-requires c).Start).levels_full)
+stay_levels-requires c = let r = c.requires in (places_taken r.legal_2.1 r.legal_2.0, r.legal.1.levels_full)
 
 pub reverse-q-requires : goal.reverse-q-requires
 reverse-q-requires c =
-    ((takes (goal.at.reverse-q-requires c).Start).path_of, places_taken (takes (goal.at.reverse-q-requires c).Start) (legal_after (goal.at.reverse-q-requires c).Start), tabled_altered (takes (goal.at.reverse-q-requires c).Start) (legal_after (goal.at.reverse-q-requires c).Start) (legal (goal.at.reverse-q-requires c).Start) (omega arith) (tabled (goal.at.reverse-q-requires c).Start) c.stay_levels.ensures)
+    let r = c.requires in
+    (r.legal_2.1.path_of, places_taken r.legal_2.1 r.legal_2.0, tabled_altered r.legal_2.1 r.legal_2.0 r.legal.0 (omega arith) r.legal.1 c.stay_levels.ensures)
 
 pub returns-then-step-ne0 : goal.returns-then-step-ne0
-returns-then-step-ne0 c =
-    setters_by (taken_reversed (takes (goal.at.returns-then-step-ne0 c).Start) (legal_after (goal.at.returns-then-step-ne0 c).Start) c.reverse-q.ensures.0 c.reverse-q.ensures.1)
+returns-then-step-ne0 c = let r = c.requires in setters_by (taken_reversed r.legal_2.1 r.legal_2.0 c.reverse-q.ensures.0 c.reverse-q.ensures.1)
 
 pub returns-else-step-ne0 : goal.returns-else-step-ne0
 returns-else-step-ne0 c =
-    setters_by (taken_unmoved (takes (goal.at.returns-else-step-ne0 c).Start) (legal_after (goal.at.returns-else-step-ne0 c).Start) (legal (goal.at.returns-else-step-ne0 c).Start) (omega arith) (tabled (goal.at.returns-else-step-ne0 c).Start) refl c.if-step-ne0.false)
+    let r = c.requires in
+    setters_by (taken_unmoved r.legal_2.1 r.legal_2.0 r.legal.0 (omega arith) r.legal.1 refl c.if-step-ne0.false)
