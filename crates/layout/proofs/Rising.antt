@@ -46,6 +46,7 @@ module _ {A : Type 0} (key : A → ℕ) where
 
   -- where keys are distinct, a key has one entry
   pub once : (xs : List A) → Distinct (map key xs) → (x y : A) → In x xs → In y xs → key x ≡ key y → x ≡ y
+  once [] _ x y x7 _ k = elim x7 [ ]
   once (z ∷ xs) (a, d) x y (inl e) (inl f) k = e ∙ sym f
   once (z ∷ xs) (a, d) x y (inl e) (inr m) k =
       absurd (all_in (λ b. key z ≢ b) (map key xs) (key y) a (in_map key y xs m) (ap key (sym e) ∙ k))
@@ -245,6 +246,7 @@ place_of (x ∷ xs) (a, d) (suc i) l =
     place_later (at xs i) x xs (all_at (λ y. x ≢ y) 0 xs a i (omega arith)) ∙ ap suc (place_of xs d i (omega arith))
 
 pub at_place : (xs : List ℕ) (f : ℕ) → In f xs → at xs (place xs f) ≡ f
+at_place [] f m = elim m [ ]
 at_place (x ∷ xs) f m = go (ℕ_discrete x f) m (at_place xs f)
   where
     go : Dec (x ≡ f) → In f (x ∷ xs) → (In f xs → at xs (place xs f) ≡ f) → at (x ∷ xs) (place (x ∷ xs) f) ≡ f

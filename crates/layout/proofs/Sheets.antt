@@ -49,6 +49,7 @@ use Rattle.layout.proofs.Images.{line_of, link_line, is_line, rule_line, is_rule
 
 any_of_lem : (q : ℕ → Bool) (bytes : List ℕ) (b : ℕ) → In b bytes → q b ≡ true → any_of q bytes ≡ true
 unfolding any_of
+any_of_lem q [] b x'' t = elim x'' [ ]
 any_of_lem q (a ∷ bs) b (inl e) t = rw (← e, t)
 any_of_lem q (a ∷ bs) b (inr m) t = rw (any_of_lem q bs b m t) (or-true (q a))
 

@@ -1,13 +1,21 @@
-use borrow.Author.Tests.{leb-true, leb-false}
 use mathlib.Core.Path.{◌≡◌, refl, sym, ap, ◌∙◌, subst}
-use mathlib.Core.Logic.{⊎_elim}
+use mathlib.Core.Logic.{◌⊎◌, inl, inr}
 use mathlib.Core.List.{List, [], ◌∷◌}
 use Prim.Native.Nat.{ℕ, ◌+◌, ◌-◌, ◌^◌, ◌≤◌, ◌<◌}
 use native.Mathlib.Omega.{arith}
+use borrow.Author.Rules.{rules}
 use mir.Facts.{to_z-of_z}
+use mir.Val.{SFits}
+use mir.Syntax.{w32}
+use lib.IntN.{ℤ}
 use lib.ListN.{length, take, drop, replicate}
 use lib.Seq.{sets, length-sets}
+use Rattle.fieldset.specs.Fields.{below, union}
+use Rattle.fieldset.specs.Tables.{at}
+use Rattle.downstream.specs.Downstream.{gathered}
 use Rattle.panel.specs.declared.Panel.{Panel}
+use Rattle.panel.specs.declared.Reply.{Reply}
+use Rattle.panel.specs.declared.Step.{Step}
 use Rattle.panel.specs.Items.{link_at}
 use Rattle.panel.specs.Legal.{Legal}
 use Rattle.panel.proofs.Moved.{turned_lt}
@@ -19,783 +27,451 @@ use Rattle.sheet.specs.Legal.{LegalSheet}
 use Rattle.tables.proofs.Settings.{places}
 use Rattle.tables.specs.Tables.{Tabled}
 use Rattle.taking.proofs.Taking.{Taken, places_taken, taken_reversed, tabled_altered, taken_unmoved}
+use Rattle.keeping.specs.Keeping.{Kept}
 use Rattle.redrawing.proofs.Redrawing.{Stale, Sizes, redrawn_is, stale_start, stale_change, stale_step}
 use Rattle.hexadecimal.specs.Hex.{line_of}
 use Rattle.tally.specs.Tallies.{tallied}
+use Rattle.changing.specs.declared.Changed.{Changed}
 use Rattle.frames.specs.declared.Command.{Command}
-use Rattle.frames.specs.declared.Command.TheVariants.{Change}
+use Rattle.frames.specs.declared.Command.TheVariants.{Open, Add, Remove, Touch, Plan, Change, Enter, Relate, Refused}
 use Rattle.frames.specs.contracts.Command.{the_type}
 use denote.Enum.Declared.{tag_of}
-use Rattle.frames.specs.Frames.{number_of, command_answer, line_answer}
+use Rattle.frames.specs.Frames.{frame_of, command_bytes, number_of, command_answer, line_answer}
 use Rattle.lines.proofs.Lines.{end_within, behind_on}
 use Rattle.replies.specs.Replies.{rest_of, whole_reply}
 use Rattle.replies.proofs.Replies.{rows_tell_none, reply_short}
 use Rattle.frames.specs.Reading.{tail_of}
-use Rattle.deciding.specs.Lines.{Framed, formula_after, sets_formula, AnswerRest, TouchStep}
+use Rattle.deciding.specs.Lines.{formula_after, sets_formula, AnswerRest, ChangedLine}
 use Rattle.deciding.proofs.Arms.{OneOf, framed, entered_touch}
 use Rattle.answering.specs.Scans.{line_scan}
 use Rattle.answering.proofs.LineAnswers.{removal_no_change, removed_scan, no_scan, removed_step, touch_taken, touch_setters, entered_step, step_panel, Stepped, step_legal, step_sizes, answer_legal, answer_sizes, decided_stepped, step_panel_lem, changed_panel, changed_turned, changed_tabled, changed_rest, changed_worked, formulas_same, did}
 use Rattle.answering.proofs.Going.{Did, start, line_done, finish_end, finish_full}
 use Rattle.answering.proofs.answer_lines.Goals as goal
-use Rattle.answering.proofs.answer_lines.Goals.{else-sets_formula, then-sets_formula}
+use Rattle.answering.proofs.answer_lines.Goals.{
+  After-count_reply-reply,
+  Joined-command,
+  Joined-turned-ne0,
+  Joined-command-3,
+  Joined-sets_formula,
+  in-Remove,
+  in_default+in-Enter,
+  in_default+in_default-command,
+  then-turned-ne0,
+  else-turned-ne0,
+  in-Change,
+  in_default-command-2,
+  then-sets_formula,
+  else-sets_formula,
+  then-loop-at-test+else-room-n-ge-LONGEST,
+  else-loop-at-test,
+}
+
+-- ---- what the tests of the command leave
+
+no_removal : (c : Command) → ((id : ℕ) → c ≡ Remove id → ⊥) → OneOf (0 ∷ 1 ∷ 3 ∷ 4 ∷ 5 ∷ 6 ∷ 7 ∷ 8 ∷ []) (tag_of the_type c)
+no_removal (Open n) h = inl refl
+no_removal (Add id level) h = inr (inl refl)
+no_removal (Remove id) h = absurd (h id refl)
+no_removal (Touch f) h = inr (inr (inl refl))
+no_removal Plan h = inr (inr (inr (inl refl)))
+no_removal (Change id level) h = inr (inr (inr (inr (inl refl))))
+no_removal (Enter f b) h = inr (inr (inr (inr (inr (inl refl)))))
+no_removal (Relate id form) h = inr (inr (inr (inr (inr (inr (inl refl))))))
+no_removal (Refused r) h = inr (inr (inr (inr (inr (inr (inr refl))))))
+
+no_entry : (c : Command) → ((f b : ℕ) → c ≡ Enter f b → ⊥) → OneOf (0 ∷ 1 ∷ 2 ∷ 3 ∷ 4 ∷ 5 ∷ 7 ∷ 8 ∷ []) (tag_of the_type c)
+no_entry (Open n) h = inl refl
+no_entry (Add id level) h = inr (inl refl)
+no_entry (Remove id) h = inr (inr (inl refl))
+no_entry (Touch f) h = inr (inr (inr (inl refl)))
+no_entry Plan h = inr (inr (inr (inr (inl refl))))
+no_entry (Change id level) h = inr (inr (inr (inr (inr (inl refl)))))
+no_entry (Enter f b) h = absurd (h f b refl)
+no_entry (Relate id form) h = inr (inr (inr (inr (inr (inr (inl refl))))))
+no_entry (Refused r) h = inr (inr (inr (inr (inr (inr (inr refl))))))
+
+no_change : (c : Command) → ((id level : ℕ) → c ≡ Change id level → ⊥) → OneOf (0 ∷ 1 ∷ 2 ∷ 3 ∷ 4 ∷ 6 ∷ 7 ∷ 8 ∷ []) (tag_of the_type c)
+no_change (Open n) h = inl refl
+no_change (Add id level) h = inr (inl refl)
+no_change (Remove id) h = inr (inr (inl refl))
+no_change (Touch f) h = inr (inr (inr (inl refl)))
+no_change Plan h = inr (inr (inr (inr (inl refl))))
+no_change (Change id level) h = absurd (h id level refl)
+no_change (Enter f b) h = inr (inr (inr (inr (inr (inl refl)))))
+no_change (Relate id form) h = inr (inr (inr (inr (inr (inr (inl refl))))))
+no_change (Refused r) h = inr (inr (inr (inr (inr (inr (inr refl))))))
+
+-- ---- the laws, with the values that the code has for theirs
+
+moved : {s : Sheet} {tail path path' rows rows' : List ℕ} {c c' : Command} {values values' : List ℤ} {step step' : Step} → c ≡ c' → path ≡ path' → rows ≡ rows'
+    → values ≡ values' → step ≡ step' → Stepped s (number_of c') c' tail path' rows' values' step' → Stepped s (number_of c) c tail path rows values step
+moved e ep er ev es d = rw (e, ep, er, ev, es) d
+
+taken_as : {after q q' : Panel} {levels levels' others others' reads reads' : List ℕ} → q ≡ q' → levels ≡ levels' → others ≡ others' → reads ≡ reads'
+    → Taken after q' levels' others' reads' → Taken after q levels others reads
+taken_as e el eo er d = rw (e, el, eo, er) d
+
+-- the panel after the line and its tables, the rest of the answer, and what is kept from before it
+record Settled (s : Sheet) (k : Command) (tail rows : List ℕ) (values : List ℤ) (revalued : ℕ) (line : List ℕ) (before : ℕ) (q : Panel) (levels others reads : List ℕ)
+    (reply : Reply) (turned stale worked : ℕ) (shown readers down : List ℕ) : Type 0 where
+  panel : q ≡ (command_answer s k tail).state.panel
+  legal : Legal q
+  tabled : Tabled q levels others reads
+  rest : AnswerRest s (number_of k) k tail rows values (counted reply (redrawn_by turned revalued q))
+  small : turned < 2 ^ 64
+  due : Stale q.size stale reads shown readers down
+  scan : worked ≡ line_scan before s line
+
+settled_as : {s : Sheet} {k : Command} {tail rows : List ℕ} {values : List ℤ} {revalued : ℕ} {line : List ℕ} {before : ℕ} {q q' : Panel}
+    {levels levels' others others' reads reads' : List ℕ} {reply reply' : Reply} {turned turned' stale stale' worked worked' : ℕ} {shown readers down : List ℕ}
+    → q ≡ q' → levels ≡ levels' → others ≡ others' → reads ≡ reads' → reply ≡ reply' → turned ≡ turned' → stale ≡ stale' → worked ≡ worked'
+    → Settled s k tail rows values revalued line before q' levels' others' reads' reply' turned' stale' worked' shown readers down
+    → Settled s k tail rows values revalued line before q levels others reads reply turned stale worked shown readers down
+settled_as eq el eo er ey et es ew d = rw (eq, el, eo, er, ey, et, es, ew) d
+
+module _ {s : Sheet} {k : Command} {tail path rows : List ℕ} {values : List ℤ} {step : Step} (d : Stepped s (number_of k) k tail path rows values step) (h : LegalSheet s)
+    {levels others reads readers down : List ℕ} (tabled : Tabled s.panel levels others reads) (kept : Kept s.panel.size reads readers down)
+    {line : List ℕ} (read : command_bytes k tail ≡ frame_of line) {before : ℕ} where
+  -- after a change; the reads may differ from those that are kept in any field
+  change_settled : {id level : ℕ} → k ≡ Change id level → {p : Panel} → p ≡ step_panel s tail k → {levels' others' reads' : List ℕ} {was worked : ℕ} {r : Changed}
+      → was ≡ before → ChangedLine p tail levels' others' reads' was worked r k
+      → Settled s k tail rows values step.revalued line before r.panel levels' others' reads' r.reply r.changed (below r.panel.size) worked reads readers down
+  change_settled {id} {level} is {p} same {levels'} {others'} {reads'} {was} {worked} {r} same_scan done =
+      let panel : r.panel ≡ (command_answer s k tail).state.panel = changed_panel s k tail path rows values step d id level is p same levels' others' reads' was worked r done in
+      let now : Tabled r.panel levels' others' reads' = changed_tabled s k tail path rows values step d id level is p same levels' others' reads' was worked r done in
+      let legal : Legal r.panel = subst Legal (sym panel) (answer_legal s k tail h).panel in
+      record {
+        panel = panel;
+        legal = legal;
+        tabled = now;
+        rest = changed_rest s k tail path rows values step d id level is p same levels' others' reads' was worked r done;
+        small =
+            subst (λ (x : ℕ). x < 2 ^ 64) (sym (changed_turned s k tail path rows values step d id level is p same levels' others' reads' was worked r done))
+            (turned_lt _ _ legal.few);
+        due = stale_change h.panel legal (subst (Sizes s.panel) (sym panel) (answer_sizes s k tail)) tabled kept now;
+        scan =
+            changed_worked s k tail path rows values step d id level is p same levels' others' reads' was worked r done line read
+            ∙ ap (λ (b : ℕ). line_scan b s line) same_scan;
+      }
+
+  -- after another line; in the fields that got another setter
+  step_settled : OneOf (0 ∷ 1 ∷ 2 ∷ 3 ∷ 4 ∷ 6 ∷ 7 ∷ 8 ∷ []) (tag_of the_type k) → {n : ℕ} → n < 128 → Takes s.panel n path step (step_panel s tail k)
+      → {q : Panel} {levels' others' reads' : List ℕ} {worked : ℕ} → Taken (step_panel s tail k) q levels' others' reads' → worked ≡ line_scan before s line
+      → Settled s k tail rows values step.revalued line before q levels' others' reads' step.reply step.changed step.changed worked reads readers down
+  step_settled other {n} small takes {q} {levels'} {others'} {reads'} t scan =
+      let after : Panel = step_panel s tail k in
+      let legal : Legal after = step_legal s tail k h in
+      let same = step_panel_lem k other d in
+      record {
+        panel = t.panel ∙ same.0;
+        legal = t.legal;
+        tabled = t.tabled;
+        rest =
+            subst (λ (p : Panel). AnswerRest s (number_of k) k tail rows values (counted step.reply (redrawn_by step.changed step.revalued p))) (sym t.panel) same.1;
+        small = subst (λ (x : ℕ). x < 2 ^ 64) (sym takes.changed) (turned_lt _ _ legal.few);
+        due =
+            subst (λ (p : Panel). Stale p.size step.changed reads' reads readers down) (sym t.panel)
+            (stale_step h.panel legal (step_sizes s tail k) tabled kept (subst (λ (p : Panel). Tabled p levels' others' reads') t.panel t.tabled) takes small);
+        scan = scan;
+      }
 
 -- ---- the places: the line is read, and the link that its command names is known
 
-abbrev text_of : tie.At-loop invariant-loop decreases-loop → List ℕ
-text_of c = (begin (filled c)).args.text.now
+pub refresh-requires-clause-kept : goal.refresh-requires-clause-kept
+refresh-requires-clause-kept c =
+    let k : Stale c.args.s.panel.size c.below-all.result c.fill_tables.new.reads (replicate 64 0) (replicate 64 0) (replicate 64 0) =
+    rw c.below-all.ensures (stale_start c.requires.0.panel c.fill_tables.ensures) in
+    (k.kept, k.full, k.among, k.loopless)
 
--- the sheet that the line meets
-abbrev sheet-of : tie.After-old invariant-loop decreases-loop → Sheet
-sheet-of c = let l = (looped c).loop in sheet_of l.q l.formulas l.values
-
-is-legal : (c : goal.After-old-1) → LegalSheet (sheet-of c)
-is-legal c = c.loop-at.invariant.3.legal
-
-number_small : (c : goal.After-wide-k) → c.wide-k.result < 128
-number_small c = omega (arith, c.wide-k.ensures, c.number_of.ensures.1)
-
--- the link of the command's number
-abbrev command-of : tie.After-old invariant-loop decreases-loop → Command
-command-of c = (read c).read-line.result.command
-
-number_is : (c : goal.After-old-1) → c.wide-k.result ≡ number_of (command-of c)
-number_is c = c.wide-k.ensures ∙ c.number_of.ensures.0
-
-named-at : (c : goal.After-old-1) → link_at c.loop-at.q.links c.wide-k.result ≡ link_at c.loop-at.q.links (number_of (command-of c))
-named-at c = ap (link_at c.loop-at.q.links) (number_is c)
-
--- where the line ends, and where the next begins
-ends : (c : goal.After-line_end-end) → c.line_end-end.result ≤ length (text_of c)
-ends c = end_within (text_of c) c.loop-at.at c.line_end-end.result c.loop-at-test.true c.line_end-end.ensures
-
-pub fill_tables-requires : goal.fill_tables-requires
-fill_tables-requires c = (places _ c.requires.0.panel, refl, refl, refl)
-
-pub below-all-requires : goal.below-all-requires
-below-all-requires c = c.requires.0.panel.few
-
--- nothing is kept yet
-starts : (c : goal.After-below-all) → let p = c.args.s.panel in Stale p.size c.below-all.result c.fill_tables.new.1.1.1.0 (replicate 64 0) (replicate 64 0) (replicate 64 0)
-starts c = rw c.below-all.ensures (stale_start c.requires.0.panel c.fill_tables.ensures)
-
-pub refresh-requires : goal.refresh-requires
-refresh-requires c =
-    let k = starts (goal.at.refresh-requires c).After-below-all in ((k.kept, k.full, k.among, k.loopless), (k.low, k.differ))
+pub refresh-requires-clause-within : goal.refresh-requires-clause-within
+refresh-requires-clause-within c =
+    let k : Stale c.args.s.panel.size c.below-all.result c.fill_tables.new.reads (replicate 64 0) (replicate 64 0) (replicate 64 0) =
+    rw c.below-all.ensures (stale_start c.requires.0.panel c.fill_tables.ensures) in
+    (k.low, k.differ)
 
 pub loop-at-init : goal.loop-at-init
 loop-at-init c =
     (refl, refl, c.fill_tables.ensures, start _ _ _ _ _ _ _ _ _ c.requires.0, c.refresh.ensures.0, c.refresh.ensures.1)
 
-pub overflow_sub-room : goal.overflow_sub-room
-overflow_sub-room c = c.loop-at.invariant.3.fits
-
-pub TODO-slice-bounds-read-line-end : goal.TODO-slice-bounds-read-line-end
-TODO-slice-bounds-read-line-end c = ends (goal.at.TODO-slice-bounds-read-line-end c).After-line_end-end
-
-pub offset_bounds-q-k : goal.offset_bounds-q-k
-offset_bounds-q-k c = omega (arith, number_small (goal.at.offset_bounds-q-k c).After-wide-k)
-
-pub bounds-q-k : goal.bounds-q-k
-bounds-q-k c = omega (arith, number_small (goal.at.bounds-q-k c).After-wide-k)
-
--- the touch of a value that is entered
-touches : (c : goal.In-Enter-2) → let r = c.decide_line-step in TouchStep c.loop-at.q 0 c.command-in-Enter-1.given.0.0 r.new.1.1.1.1.1.1.0 r.new.1.1.1.1.1.1.1.0 r.result
-touches c =
-    entered_touch _ _ (tail_of c.read_line-line.result) _ _ _ (command-of c) _ _ c.command-in-Enter-1.given.1 c.decide_line-step.ensures
-
-pub remove-step-requires : goal.remove-step-requires
-remove-step-requires c =
-    let l = c.loop-at.invariant in
-    ((is-legal (goal.at.remove-step-requires c).After-old-1).panel, l.2, named-at (goal.at.remove-step-requires c).After-old-1 ∙ ap (λ (x : Command). link_at c.loop-at.q.links (number_of x)) c.command-1.given.1, l.1)
-
-framed_at : (c : goal.After-old-1) → Framed c.read_line-line.result
-framed_at c = framed _ _ c.read_line-line.ensures
-
-pub setters-setter-requires : goal.setters-setter-requires
-setters-setter-requires c =
-    (((is-legal (goal.at.setters-setter-requires c).After-old-1).panel, c.loop-at.invariant.2), touch_taken (is-legal (goal.at.setters-setter-requires c).After-old-1).panel (touches (goal.at.setters-setter-requires c).In-Enter-2).decides)
-
-pub value_of-v-requires : goal.value_of-v-requires
-value_of-v-requires c = let f = framed_at (goal.at.value_of-v-requires c).After-old-1 in (f.full, f.short)
-
-pub enter-requires : goal.enter-requires
-enter-requires c =
-    let d = (touches (goal.at.enter-requires c).In-Enter-2).decides in (
-      (is-legal (goal.at.enter-requires c).After-old-1, named-at (goal.at.enter-requires c).After-old-1 ∙ ap (λ (x : Command). link_at c.loop-at.q.links (number_of x)) c.command-in-Enter-1.given.1),
-      ((_, d), touch_setters d c.setters-setter.ensures),
-    )
+pub slice_bounds-read_line-end : goal.slice_bounds-read_line-end
+slice_bounds-read_line-end c = end_within c.args.text.now c.loop-at.at c.line_end-end.result c.loop-at-test.true c.line_end-end.ensures
 
 pub decide_line-step-requires : goal.decide_line-step-requires
 decide_line-step-requires c =
     let l = c.loop-at.invariant in
-    (((is-legal (goal.at.decide_line-step-requires c).After-old-1).panel, l.2, named-at (goal.at.decide_line-step-requires c).After-old-1), (framed_at (goal.at.decide_line-step-requires c).After-old-1, l.1, l.0))
+    record {
+      legal = (l.3.legal.panel, l.2, ap (link_at c.loop-at.q.links) (c.wide-k.ensures ∙ c.number_of.ensures.0));
+      framed = (framed _ _ c.read_line-line.ensures, l.1, l.0);
+    }
+
+pub setters-setter-requires : goal.setters-setter-requires
+setters-setter-requires c =
+    let l = c.loop-at.invariant in
+    let t = entered_touch _ _ (tail_of c.read_line-line.result) _ _ _ c.read_line-line.result.command _ _ c.in-Enter.is c.decide_line-step.ensures in
+    record { legal = (l.3.legal.panel, l.2); legal_2 = touch_taken l.3.legal.panel t.decides }
+
+pub value_of-v-requires : goal.value_of-v-requires
+value_of-v-requires c = let f = framed _ _ c.read_line-line.ensures in (f.full, f.short)
+
+pub enter-requires : goal.enter-requires
+enter-requires c =
+    let l = c.loop-at.invariant in
+    let t = entered_touch _ _ (tail_of c.read_line-line.result) _ _ _ c.read_line-line.result.command _ _ c.in-Enter.is c.decide_line-step.ensures in
+    record {
+      legal_sheet =
+          (l.3.legal, ap (link_at c.loop-at.q.links) (c.wide-k.ensures ∙ c.number_of.ensures.0) ∙ ap (λ (x : Command). link_at c.loop-at.q.links (number_of x)) c.in-Enter.is);
+      by_index = ((_, t.decides), touch_setters t.decides c.setters-setter.ensures);
+    }
 
 -- ---- the step of the line, and the panel that has taken it
 
-abbrev tail_at : tie.After-old invariant-loop decreases-loop → List ℕ
-tail_at c = tail_of (read c).read-line.result
+same_command : (c : Joined-command) → c.match-command.command ≡ c.read_line-line.result.command
+same_command c =
+    elim c.match-command.branch [
+      | in-Remove w ↦ w.command-is ∙ sym w.in-Remove.is
+      | in_default+in-Enter w ↦ w.command-is ∙ sym w.in-Enter.is
+      | in_default+in_default-command w ↦ w.command-is
+    ]
 
-same-command : (c : goal.Joined-command) → c.match-command.command ≡ command-of c
-same-command c = ⊎_elim (λ w. w.14 ∙ sym w.1.given.1) (⊎_elim (λ w. w.26 ∙ sym w.8.given.1) (λ w. w.13)) c.match-command.branch
-
-stepped : (c : goal.Joined-command) → let m = c.match-command in Stepped (sheet-of c) (number_of (command-of c)) (command-of c) (tail_at c) m.path m.rows m.values m.step
+stepped : (c : Joined-command) → let l = c.loop-at in let n = c.read_line-line.result in let m = c.match-command in
+    Stepped (sheet_of l.q l.formulas l.values) (number_of n.command) n.command (tail_of n) m.path m.rows m.values m.step
 stepped c =
-    let number_is : c.wide-k.result ≡ number_of (command-of c) = c.wide-k.ensures ∙ c.number_of.ensures.0 in
-    let named-at : link_at c.loop-at.q.links c.wide-k.result ≡ link_at c.loop-at.q.links (number_of (command-of c)) = ap (link_at c.loop-at.q.links) (number_is) in
-    let m = c.match-command in
     let l = c.loop-at in
-    ⊎_elim
-    (λ w.
-    let path = w.8.last.1.1.1.1.1.1.0 in
-    rw (w.9, w.11, w.12, w.15)
-    (subst (λ (x : Command). Stepped (sheet-of c) (number_of x) x (tail_at c) path l.rows l.values w.8.result) (sym w.1.given.1)
-    (removed_step (sheet-of c) _ _ _ _ l.invariant.0 _ w.8.ensures.0)))
-    (⊎_elim
-    (λ w.
-    let path = w.6.last.1.1.1.1.1.1.0 in
-    let rows = w.6.last.1.1.1.1.1.1.1.0 in
-    let after = w.20.last.1.1.1.1.1.1.1.1.0 in
-    let t = entered_touch _ _ (tail_at c) _ _ _ (command-of c) _ _ w.8.given.1 w.6.ensures in
-    rw (w.21, w.23, w.24, w.27)
-    (subst (λ (x : Command). Stepped (sheet-of c) (number_of x) x (tail_at c) path rows after w.20.result) (sym w.8.given.1)
-    (entered_step (sheet-of c) _ _ (tail_at c) path rows _ (to_z-of_z (record { sfits = w.16.ok }) ∙ w.16.ensures) t.rows_full _ t.decides after _ w.20.ensures)))
-    (λ w. rw (w.8, w.10, w.11, w.14)
-    (decided_stepped _ _ _ _ _ _ _ (command-of c) w.0.keys2 w.7.keys2 (named-at) w.6.ensures l.formulas l.values)))
-    m.branch
+    let n = c.read_line-line.result in
+    let s : Sheet = sheet_of l.q l.formulas l.values in
+    elim c.match-command.branch [
+      | in-Remove w ↦ moved w.in-Remove.is w.path-is w.rows-is w.values-is w.step-is
+          (removed_step s _ (tail_of n) _ _ l.invariant.0 _ w.remove-step.ensures.decides)
+      | in_default+in-Enter w ↦
+          let t = entered_touch _ _ (tail_of n) _ _ _ n.command _ _ w.in-Enter.is w.decide_line-step.ensures in
+          let fits : SFits w32 w.value_of-v.result = search rules in
+          moved w.in-Enter.is w.path-is w.rows-is w.values-is w.step-is
+          (entered_step s _ _ (tail_of n) _ _ _ (to_z-of_z fits ∙ w.value_of-v.ensures) t.rows_full _ t.decides _ _ w.enter.ensures)
+      | in_default+in_default-command w ↦ moved refl w.path-is w.rows-is w.values-is w.step-is
+          (decided_stepped _ _ _ _ _ _ _ n.command (no_removal n.command w.in_default.not-Remove) (no_entry n.command w.in_default-command.not-Enter)
+          (ap (link_at l.q.links) (c.wide-k.ensures ∙ c.number_of.ensures.0)) w.decide_line-step.ensures l.formulas l.values)
+    ]
 
 -- the step, of the link that the code names
-takes_at : (c : goal.Joined-command) → let m = c.match-command in Takes c.loop-at.q c.wide-k.result m.path m.step (step_panel (sheet-of c) (tail_at c) (command-of c))
+takes_at : (c : Joined-command) → let l = c.loop-at in let n = c.read_line-line.result in let m = c.match-command in
+    Takes l.q c.wide-k.result m.path m.step (step_panel (sheet_of l.q l.formulas l.values) (tail_of n) n.command)
 takes_at c =
-    let number_is : c.wide-k.result ≡ number_of (command-of c) = c.wide-k.ensures ∙ c.number_of.ensures.0 in
-    let named-at : link_at c.loop-at.q.links c.wide-k.result ≡ link_at c.loop-at.q.links (number_of (command-of c)) = ap (link_at c.loop-at.q.links) (number_is) in
+    let l = c.loop-at in
+    let n = c.read_line-line.result in
     let m = c.match-command in
-    subst (λ (k : ℕ). Takes c.loop-at.q k m.path m.step (step_panel (sheet-of c) (tail_at c) (command-of c))) (sym (number_is)) (stepped c).takes
+    subst (λ (k : ℕ). Takes l.q k m.path m.step (step_panel (sheet_of l.q l.formulas l.values) (tail_of n) n.command)) (sym (c.wide-k.ensures ∙ c.number_of.ensures.0))
+    (stepped c).takes
 
-abbrev after-of : tie.At-match-branch invariant-loop decreases-loop → Panel
-after-of c = let n = c.before in step_panel (sheet-of n) (tail_at n) (command-of n)
-
-legal_after : (c : goal.Joined-command) → Legal (after-of c)
+legal_after : (c : Joined-command) → let l = c.loop-at in let n = c.read_line-line.result in
+    Legal (step_panel (sheet_of l.q l.formulas l.values) (tail_of n) n.command)
 legal_after c =
-    let is-legal : LegalSheet (sheet-of c) = c.loop-at.invariant.3.legal in
-    step_legal (sheet-of c) (tail_at c) (command-of c) (is-legal)
-
-pub offset_bounds-q-k-in-loop-at : goal.offset_bounds-q-k-in-loop-at
-offset_bounds-q-k-in-loop-at c = omega (arith, number_small (goal.at.offset_bounds-q-k-in-loop-at c).After-wide-k)
-
-pub bounds-q-k-in-loop-at : goal.bounds-q-k-in-loop-at
-bounds-q-k-in-loop-at c = number_small (goal.at.bounds-q-k-in-loop-at c).After-wide-k
+    let l = c.loop-at in
+    let n = c.read_line-line.result in
+    step_legal (sheet_of l.q l.formulas l.values) (tail_of n) n.command l.invariant.3.legal
 
 pub stay_levels-requires : goal.stay_levels-requires
 stay_levels-requires c =
-    (places_taken (takes_at (goal.at.stay_levels-requires c).Joined-command) (legal_after (goal.at.stay_levels-requires c).Joined-command), c.loop-at.invariant.2.levels_full)
+    let j = (goal.at.stay_levels-requires c).Joined-command in
+    (places_taken (takes_at j) (legal_after j), c.loop-at.invariant.2.levels_full)
 
 pub reverse-q-requires : goal.reverse-q-requires
 reverse-q-requires c =
-    let t = takes_at (goal.at.reverse-q-requires c).Joined-command in (
+    let j = (goal.at.reverse-q-requires c).Joined-command in
+    let t = takes_at j in
+    let small : c.wide-k.result < 128 = omega (arith, c.wide-k.ensures, c.number_of.ensures.1) in (
       t.path_of,
-      places_taken t (legal_after (goal.at.reverse-q-requires c).Joined-command),
-      tabled_altered t (legal_after (goal.at.reverse-q-requires c).Joined-command) (is-legal (goal.at.reverse-q-requires c).After-old-1).panel (number_small (goal.at.reverse-q-requires c).After-wide-k) c.loop-at.invariant.2 c.stay_levels.ensures,
+      places_taken t (legal_after j),
+      tabled_altered t (legal_after j) c.loop-at.invariant.3.legal.panel small c.loop-at.invariant.2 c.stay_levels.ensures,
     )
 
-taken : (j : goal.Joined-turned-ne0) → let t = j.if-turned-ne0 in Taken (after-of j) t.q t.levels t.others t.reads
-taken j =
-    let is-legal : LegalSheet (sheet-of j) = j.loop-at.invariant.3.legal in
-    let number_small : j.wide-k.result < 128 = omega (arith, j.wide-k.ensures, j.number_of.ensures.1) in
-    let number_is : j.wide-k.result ≡ number_of (command-of j) = j.wide-k.ensures ∙ j.number_of.ensures.0 in
-    let named-at : link_at j.loop-at.q.links j.wide-k.result ≡ link_at j.loop-at.q.links (number_of (command-of j)) = ap (link_at j.loop-at.q.links) (number_is) in
-    let stepped : (let m = j.match-command in Stepped (sheet-of j) (number_of (command-of j)) (command-of j) (tail_at j) m.path m.rows m.values m.step) = let m = j.match-command in
-    let l = j.loop-at in
-    ⊎_elim
-    (λ w.
-    let path = w.8.last.1.1.1.1.1.1.0 in
-    rw (w.9, w.11, w.12, w.15)
-    (subst (λ (x : Command). Stepped (sheet-of j) (number_of x) x (tail_at j) path l.rows l.values w.8.result) (sym w.1.given.1)
-    (removed_step (sheet-of j) _ _ _ _ l.invariant.0 _ w.8.ensures.0)))
-    (⊎_elim
-    (λ w.
-    let path = w.6.last.1.1.1.1.1.1.0 in
-    let rows = w.6.last.1.1.1.1.1.1.1.0 in
-    let after = w.20.last.1.1.1.1.1.1.1.1.0 in
-    let t = entered_touch _ _ (tail_at j) _ _ _ (command-of j) _ _ w.8.given.1 w.6.ensures in
-    rw (w.21, w.23, w.24, w.27)
-    (subst (λ (x : Command). Stepped (sheet-of j) (number_of x) x (tail_at j) path rows after w.20.result) (sym w.8.given.1)
-    (entered_step (sheet-of j) _ _ (tail_at j) path rows _ (to_z-of_z (record { sfits = w.16.ok }) ∙ w.16.ensures) t.rows_full _ t.decides after _ w.20.ensures)))
-    (λ w. rw (w.8, w.10, w.11, w.14)
-    (decided_stepped _ _ _ _ _ _ _ (command-of j) w.0.keys2 w.7.keys2 (named-at) w.6.ensures l.formulas l.values)))
-    m.branch in
-    let takes_at : (let m = j.match-command in Takes j.loop-at.q j.wide-k.result m.path m.step (step_panel (sheet-of j) (tail_at j) (command-of j))) = let m = j.match-command in
-    subst (λ (k : ℕ). Takes j.loop-at.q k m.path m.step (step_panel (sheet-of j) (tail_at j) (command-of j))) (sym (number_is)) (stepped).takes in
-    let legal_after : Legal (after-of j) = step_legal (sheet-of j) (tail_at j) (command-of j) (is-legal) in
-    let l = j.stay_levels.ensures in
-    ⊎_elim
-    (λ w. rw (w.6, w.7, w.8, w.9) (taken_reversed (takes_at) (legal_after) w.5.ensures.0 w.5.ensures.1))
-    (λ w. rw (w.1, w.2, w.3, w.4)
-    (taken_unmoved (takes_at) (legal_after) (is-legal).panel (number_small) j.loop-at.invariant.2 l w.0.false))
-    j.if-turned-ne0.branch
+-- the panel after the step, where the link that it names takes it
+taken : (c : Joined-turned-ne0) → let l = c.loop-at in let n = c.read_line-line.result in let m = c.match-command in
+    let after = step_panel (sheet_of l.q l.formulas l.values) (tail_of n) n.command in
+    Takes l.q c.wide-k.result m.path m.step after → Legal after
+    → let t = c.if-turned-ne0 in Taken after t.q t.levels t.others t.reads
+taken c takes legal =
+    let l = c.loop-at.invariant in
+    let small : c.wide-k.result < 128 = omega (arith, c.wide-k.ensures, c.number_of.ensures.1) in
+    elim c.if-turned-ne0.branch [
+      | then-turned-ne0 w ↦ taken_as w.q-is w.levels-is w.others-is w.reads-is (taken_reversed takes legal w.reverse-q.ensures.0 w.reverse-q.ensures.1)
+      | else-turned-ne0 w ↦ taken_as w.q-is w.levels-is w.others-is w.reads-is
+          (taken_unmoved takes legal l.3.legal.panel small l.2 c.stay_levels.ensures w.if-turned-ne0.false)
+    ]
 
 -- ---- a change, where it is asked
 
 pub changed-c-requires : goal.changed-c-requires
 changed-c-requires c =
-    let t = taken (goal.at.changed-c-requires c).Joined-turned-ne0 in
-    (t.legal, t.tabled, framed_at (goal.at.changed-c-requires c).After-old-1)
-
--- the command is no change
-other : (c : goal.In_default-command-2) → OneOf (0 ∷ 1 ∷ 2 ∷ 3 ∷ 4 ∷ 6 ∷ 7 ∷ 8 ∷ []) (tag_of the_type (command-of c))
-other c =
-    let same-command : c.match-command.command ≡ command-of c = ⊎_elim (λ w. w.14 ∙ sym w.1.given.1) (⊎_elim (λ w. w.26 ∙ sym w.8.given.1) (λ w. w.13)) c.match-command.branch in
-    subst (λ (x : Command). OneOf (0 ∷ 1 ∷ 2 ∷ 3 ∷ 4 ∷ 6 ∷ 7 ∷ 8 ∷ []) (tag_of the_type x)) (same-command) c.match-command-3.keys2
-
-rest_is : (c : goal.Joined-command-3) → let t = c.match-command-3 in AnswerRest (sheet-of c) (number_of (command-of c)) (command-of c) (tail_at c) c.match-command.rows c.match-command.values (counted t.reply (redrawn_by t.turned c.match-command.step.revalued t.q))
-rest_is c =
-    let same-command : c.match-command.command ≡ command-of c = ⊎_elim (λ w. w.14 ∙ sym w.1.given.1) (⊎_elim (λ w. w.26 ∙ sym w.8.given.1) (λ w. w.13)) c.match-command.branch in
-    let number_is : c.wide-k.result ≡ number_of (command-of c) = c.wide-k.ensures ∙ c.number_of.ensures.0 in
-    let named-at : link_at c.loop-at.q.links c.wide-k.result ≡ link_at c.loop-at.q.links (number_of (command-of c)) = ap (link_at c.loop-at.q.links) (number_is) in
-    let stepped : (let m = c.match-command in Stepped (sheet-of c) (number_of (command-of c)) (command-of c) (tail_at c) m.path m.rows m.values m.step) = let m = c.match-command in
-    let l = c.loop-at in
-    ⊎_elim
-    (λ w.
-    let path = w.8.last.1.1.1.1.1.1.0 in
-    rw (w.9, w.11, w.12, w.15)
-    (subst (λ (x : Command). Stepped (sheet-of c) (number_of x) x (tail_at c) path l.rows l.values w.8.result) (sym w.1.given.1)
-    (removed_step (sheet-of c) _ _ _ _ l.invariant.0 _ w.8.ensures.0)))
-    (⊎_elim
-    (λ w.
-    let path = w.6.last.1.1.1.1.1.1.0 in
-    let rows = w.6.last.1.1.1.1.1.1.1.0 in
-    let after = w.20.last.1.1.1.1.1.1.1.1.0 in
-    let t = entered_touch _ _ (tail_at c) _ _ _ (command-of c) _ _ w.8.given.1 w.6.ensures in
-    rw (w.21, w.23, w.24, w.27)
-    (subst (λ (x : Command). Stepped (sheet-of c) (number_of x) x (tail_at c) path rows after w.20.result) (sym w.8.given.1)
-    (entered_step (sheet-of c) _ _ (tail_at c) path rows _ (to_z-of_z (record { sfits = w.16.ok }) ∙ w.16.ensures) t.rows_full _ t.decides after _ w.20.ensures)))
-    (λ w. rw (w.8, w.10, w.11, w.14)
-    (decided_stepped _ _ _ _ _ _ _ (command-of c) w.0.keys2 w.7.keys2 (named-at) w.6.ensures l.formulas l.values)))
-    m.branch in
-    let is-legal : LegalSheet (sheet-of c) = c.loop-at.invariant.3.legal in
-    let number_small : c.wide-k.result < 128 = omega (arith, c.wide-k.ensures, c.number_of.ensures.1) in
-    let takes_at : (let m = c.match-command in Takes c.loop-at.q c.wide-k.result m.path m.step (step_panel (sheet-of c) (tail_at c) (command-of c))) = let m = c.match-command in
-    subst (λ (k : ℕ). Takes c.loop-at.q k m.path m.step (step_panel (sheet-of c) (tail_at c) (command-of c))) (sym (number_is)) (stepped).takes in
-    let legal_after : Legal (after-of c) = step_legal (sheet-of c) (tail_at c) (command-of c) (is-legal) in
-    let taken : (let t = c.if-turned-ne0 in Taken (after-of c) t.q t.levels t.others t.reads) = let l = c.stay_levels.ensures in
-    ⊎_elim
-    (λ w. rw (w.6, w.7, w.8, w.9) (taken_reversed (takes_at) (legal_after) w.5.ensures.0 w.5.ensures.1))
-    (λ w. rw (w.1, w.2, w.3, w.4)
-    (taken_unmoved (takes_at) (legal_after) (is-legal).panel (number_small) c.loop-at.invariant.2 l w.0.false))
-    c.if-turned-ne0.branch in
-    ⊎_elim
-    (λ w. rw (w.9, w.14, w.15)
-    (changed_rest (sheet-of c) (command-of c) (tail_at c) _ _ _ _ (stepped) _ _ (sym (same-command) ∙ w.1.given.1) _ (taken).panel _ _ _ _ _ w.6.result
-    w.6.ensures))
-    (λ w. rw (w.1 ∙ (taken).panel, w.6, w.7) (step_panel_lem (command-of c) (other (record { before = c; match3 = w.0 })) (stepped)).1) c.match-command-3.branch
-
-panel-is : (c : goal.Joined-command-3) → c.match-command-3.q ≡ (command_answer (sheet-of c) (command-of c) (tail_at c)).state.panel
-panel-is c =
-    let same-command : c.match-command.command ≡ command-of c = ⊎_elim (λ w. w.14 ∙ sym w.1.given.1) (⊎_elim (λ w. w.26 ∙ sym w.8.given.1) (λ w. w.13)) c.match-command.branch in
-    let number_is : c.wide-k.result ≡ number_of (command-of c) = c.wide-k.ensures ∙ c.number_of.ensures.0 in
-    let named-at : link_at c.loop-at.q.links c.wide-k.result ≡ link_at c.loop-at.q.links (number_of (command-of c)) = ap (link_at c.loop-at.q.links) (number_is) in
-    let stepped : (let m = c.match-command in Stepped (sheet-of c) (number_of (command-of c)) (command-of c) (tail_at c) m.path m.rows m.values m.step) = let m = c.match-command in
-    let l = c.loop-at in
-    ⊎_elim
-    (λ w.
-    let path = w.8.last.1.1.1.1.1.1.0 in
-    rw (w.9, w.11, w.12, w.15)
-    (subst (λ (x : Command). Stepped (sheet-of c) (number_of x) x (tail_at c) path l.rows l.values w.8.result) (sym w.1.given.1)
-    (removed_step (sheet-of c) _ _ _ _ l.invariant.0 _ w.8.ensures.0)))
-    (⊎_elim
-    (λ w.
-    let path = w.6.last.1.1.1.1.1.1.0 in
-    let rows = w.6.last.1.1.1.1.1.1.1.0 in
-    let after = w.20.last.1.1.1.1.1.1.1.1.0 in
-    let t = entered_touch _ _ (tail_at c) _ _ _ (command-of c) _ _ w.8.given.1 w.6.ensures in
-    rw (w.21, w.23, w.24, w.27)
-    (subst (λ (x : Command). Stepped (sheet-of c) (number_of x) x (tail_at c) path rows after w.20.result) (sym w.8.given.1)
-    (entered_step (sheet-of c) _ _ (tail_at c) path rows _ (to_z-of_z (record { sfits = w.16.ok }) ∙ w.16.ensures) t.rows_full _ t.decides after _ w.20.ensures)))
-    (λ w. rw (w.8, w.10, w.11, w.14)
-    (decided_stepped _ _ _ _ _ _ _ (command-of c) w.0.keys2 w.7.keys2 (named-at) w.6.ensures l.formulas l.values)))
-    m.branch in
-    let is-legal : LegalSheet (sheet-of c) = c.loop-at.invariant.3.legal in
-    let number_small : c.wide-k.result < 128 = omega (arith, c.wide-k.ensures, c.number_of.ensures.1) in
-    let takes_at : (let m = c.match-command in Takes c.loop-at.q c.wide-k.result m.path m.step (step_panel (sheet-of c) (tail_at c) (command-of c))) = let m = c.match-command in
-    subst (λ (k : ℕ). Takes c.loop-at.q k m.path m.step (step_panel (sheet-of c) (tail_at c) (command-of c))) (sym (number_is)) (stepped).takes in
-    let legal_after : Legal (after-of c) = step_legal (sheet-of c) (tail_at c) (command-of c) (is-legal) in
-    let taken : (let t = c.if-turned-ne0 in Taken (after-of c) t.q t.levels t.others t.reads) = let l = c.stay_levels.ensures in
-    ⊎_elim
-    (λ w. rw (w.6, w.7, w.8, w.9) (taken_reversed (takes_at) (legal_after) w.5.ensures.0 w.5.ensures.1))
-    (λ w. rw (w.1, w.2, w.3, w.4)
-    (taken_unmoved (takes_at) (legal_after) (is-legal).panel (number_small) c.loop-at.invariant.2 l w.0.false))
-    c.if-turned-ne0.branch in
-    ⊎_elim
-    (λ w. w.9
-    ∙ changed_panel (sheet-of c) (command-of c) (tail_at c) _ _ _ _ (stepped) _ _ (sym (same-command) ∙ w.1.given.1) _ (taken).panel _ _ _ _ _ w.6.result
-    w.6.ensures)
-    (λ w. w.1 ∙ (taken).panel ∙ (step_panel_lem (command-of c) (other (record { before = c; match3 = w.0 })) (stepped)).0) c.match-command-3.branch
-
-tabled-is : (c : goal.Joined-command-3) → let t = c.match-command-3 in Tabled t.q t.levels t.others t.reads
-tabled-is c =
-    let same-command : c.match-command.command ≡ command-of c = ⊎_elim (λ w. w.14 ∙ sym w.1.given.1) (⊎_elim (λ w. w.26 ∙ sym w.8.given.1) (λ w. w.13)) c.match-command.branch in
-    let number_is : c.wide-k.result ≡ number_of (command-of c) = c.wide-k.ensures ∙ c.number_of.ensures.0 in
-    let named-at : link_at c.loop-at.q.links c.wide-k.result ≡ link_at c.loop-at.q.links (number_of (command-of c)) = ap (link_at c.loop-at.q.links) (number_is) in
-    let stepped : (let m = c.match-command in Stepped (sheet-of c) (number_of (command-of c)) (command-of c) (tail_at c) m.path m.rows m.values m.step) = let m = c.match-command in
-    let l = c.loop-at in
-    ⊎_elim
-    (λ w.
-    let path = w.8.last.1.1.1.1.1.1.0 in
-    rw (w.9, w.11, w.12, w.15)
-    (subst (λ (x : Command). Stepped (sheet-of c) (number_of x) x (tail_at c) path l.rows l.values w.8.result) (sym w.1.given.1)
-    (removed_step (sheet-of c) _ _ _ _ l.invariant.0 _ w.8.ensures.0)))
-    (⊎_elim
-    (λ w.
-    let path = w.6.last.1.1.1.1.1.1.0 in
-    let rows = w.6.last.1.1.1.1.1.1.1.0 in
-    let after = w.20.last.1.1.1.1.1.1.1.1.0 in
-    let t = entered_touch _ _ (tail_at c) _ _ _ (command-of c) _ _ w.8.given.1 w.6.ensures in
-    rw (w.21, w.23, w.24, w.27)
-    (subst (λ (x : Command). Stepped (sheet-of c) (number_of x) x (tail_at c) path rows after w.20.result) (sym w.8.given.1)
-    (entered_step (sheet-of c) _ _ (tail_at c) path rows _ (to_z-of_z (record { sfits = w.16.ok }) ∙ w.16.ensures) t.rows_full _ t.decides after _ w.20.ensures)))
-    (λ w. rw (w.8, w.10, w.11, w.14)
-    (decided_stepped _ _ _ _ _ _ _ (command-of c) w.0.keys2 w.7.keys2 (named-at) w.6.ensures l.formulas l.values)))
-    m.branch in
-    let is-legal : LegalSheet (sheet-of c) = c.loop-at.invariant.3.legal in
-    let number_small : c.wide-k.result < 128 = omega (arith, c.wide-k.ensures, c.number_of.ensures.1) in
-    let takes_at : (let m = c.match-command in Takes c.loop-at.q c.wide-k.result m.path m.step (step_panel (sheet-of c) (tail_at c) (command-of c))) = let m = c.match-command in
-    subst (λ (k : ℕ). Takes c.loop-at.q k m.path m.step (step_panel (sheet-of c) (tail_at c) (command-of c))) (sym (number_is)) (stepped).takes in
-    let legal_after : Legal (after-of c) = step_legal (sheet-of c) (tail_at c) (command-of c) (is-legal) in
-    let taken : (let t = c.if-turned-ne0 in Taken (after-of c) t.q t.levels t.others t.reads) = let l = c.stay_levels.ensures in
-    ⊎_elim
-    (λ w. rw (w.6, w.7, w.8, w.9) (taken_reversed (takes_at) (legal_after) w.5.ensures.0 w.5.ensures.1))
-    (λ w. rw (w.1, w.2, w.3, w.4)
-    (taken_unmoved (takes_at) (legal_after) (is-legal).panel (number_small) c.loop-at.invariant.2 l w.0.false))
-    c.if-turned-ne0.branch in
-    ⊎_elim
-    (λ w. rw (w.9, w.11, w.12, w.13)
-    (changed_tabled (sheet-of c) (command-of c) (tail_at c) _ _ _ _ (stepped) _ _ (sym (same-command) ∙ w.1.given.1) _ (taken).panel _ _ _ _ _ w.6.result
-    w.6.ensures))
-    (λ w. rw (w.1, w.3, w.4, w.5) (taken).tabled) c.match-command-3.branch
-
-legal-is : (c : goal.Joined-command-3) → Legal c.match-command-3.q
-legal-is c =
-    let is-legal : LegalSheet (sheet-of c) = c.loop-at.invariant.3.legal in
-    let same-command : c.match-command.command ≡ command-of c = ⊎_elim (λ w. w.14 ∙ sym w.1.given.1) (⊎_elim (λ w. w.26 ∙ sym w.8.given.1) (λ w. w.13)) c.match-command.branch in
-    let number_is : c.wide-k.result ≡ number_of (command-of c) = c.wide-k.ensures ∙ c.number_of.ensures.0 in
-    let named-at : link_at c.loop-at.q.links c.wide-k.result ≡ link_at c.loop-at.q.links (number_of (command-of c)) = ap (link_at c.loop-at.q.links) (number_is) in
-    let stepped : (let m = c.match-command in Stepped (sheet-of c) (number_of (command-of c)) (command-of c) (tail_at c) m.path m.rows m.values m.step) = let m = c.match-command in
-    let l = c.loop-at in
-    ⊎_elim
-    (λ w.
-    let path = w.8.last.1.1.1.1.1.1.0 in
-    rw (w.9, w.11, w.12, w.15)
-    (subst (λ (x : Command). Stepped (sheet-of c) (number_of x) x (tail_at c) path l.rows l.values w.8.result) (sym w.1.given.1)
-    (removed_step (sheet-of c) _ _ _ _ l.invariant.0 _ w.8.ensures.0)))
-    (⊎_elim
-    (λ w.
-    let path = w.6.last.1.1.1.1.1.1.0 in
-    let rows = w.6.last.1.1.1.1.1.1.1.0 in
-    let after = w.20.last.1.1.1.1.1.1.1.1.0 in
-    let t = entered_touch _ _ (tail_at c) _ _ _ (command-of c) _ _ w.8.given.1 w.6.ensures in
-    rw (w.21, w.23, w.24, w.27)
-    (subst (λ (x : Command). Stepped (sheet-of c) (number_of x) x (tail_at c) path rows after w.20.result) (sym w.8.given.1)
-    (entered_step (sheet-of c) _ _ (tail_at c) path rows _ (to_z-of_z (record { sfits = w.16.ok }) ∙ w.16.ensures) t.rows_full _ t.decides after _ w.20.ensures)))
-    (λ w. rw (w.8, w.10, w.11, w.14)
-    (decided_stepped _ _ _ _ _ _ _ (command-of c) w.0.keys2 w.7.keys2 (named-at) w.6.ensures l.formulas l.values)))
-    m.branch in
-    let number_small : c.wide-k.result < 128 = omega (arith, c.wide-k.ensures, c.number_of.ensures.1) in
-    let takes_at : (let m = c.match-command in Takes c.loop-at.q c.wide-k.result m.path m.step (step_panel (sheet-of c) (tail_at c) (command-of c))) = let m = c.match-command in
-    subst (λ (k : ℕ). Takes c.loop-at.q k m.path m.step (step_panel (sheet-of c) (tail_at c) (command-of c))) (sym (number_is)) (stepped).takes in
-    let legal_after : Legal (after-of c) = step_legal (sheet-of c) (tail_at c) (command-of c) (is-legal) in
-    let taken : (let t = c.if-turned-ne0 in Taken (after-of c) t.q t.levels t.others t.reads) = let l = c.stay_levels.ensures in
-    ⊎_elim
-    (λ w. rw (w.6, w.7, w.8, w.9) (taken_reversed (takes_at) (legal_after) w.5.ensures.0 w.5.ensures.1))
-    (λ w. rw (w.1, w.2, w.3, w.4)
-    (taken_unmoved (takes_at) (legal_after) (is-legal).panel (number_small) c.loop-at.invariant.2 l w.0.false))
-    c.if-turned-ne0.branch in
-    subst Legal (sym (panel-is c)) (answer_legal (sheet-of c) (command-of c) (tail_at c) (is-legal)).panel
-
--- ---- the count, and the kept tables
+    let a = goal.at.changed-c-requires c in
+    let j = a.Joined-command in
+    let t = taken a.Joined-turned-ne0 (takes_at j) (legal_after j) in
+    (t.legal, t.tabled, framed _ _ c.read_line-line.ensures)
 
 pub below-stale-requires : goal.below-stale-requires
 below-stale-requires c =
-    let is = changed_panel (sheet-of c) (command-of c) (tail_at c) _ _ _ _ (stepped (goal.at.below-stale-requires c).Joined-command) _ _ (sym (same-command (goal.at.below-stale-requires c).Joined-command) ∙ c.enum_told-1.given.1) _ (taken (goal.at.below-stale-requires c).Joined-turned-ne0).panel _ _ _ _ _
-    c.changed-c.result c.changed-c.ensures in
-    (subst Legal (sym is) (answer_legal (sheet-of c) (command-of c) (tail_at c) (is-legal (goal.at.below-stale-requires c).After-old-1)).panel).few
+    let a = goal.at.below-stale-requires c in
+    let j = a.Joined-command in
+    let l = c.loop-at in
+    let n = c.read_line-line.result in
+    let t = taken a.Joined-turned-ne0 (takes_at j) (legal_after j) in
+    let z = change_settled (stepped j) l.invariant.3.legal l.invariant.2 l.invariant.5 c.read_line-line.ensures.bytes (sym (same_command j) ∙ c.in-Change.is) t.panel refl
+    c.changed-c.ensures in
+    z.legal.few
 
--- the reads may differ from those that are kept in the fields that got another setter; after a change in any
-stale-is : (c : goal.Joined-command-3) → let l = c.loop-at in let t = c.match-command-3 in Stale t.q.size t.stale t.reads l.reads l.readers l.down
-stale-is c =
-    let is-legal : LegalSheet (sheet-of c) = c.loop-at.invariant.3.legal in
-    let number_small : c.wide-k.result < 128 = omega (arith, c.wide-k.ensures, c.number_of.ensures.1) in
-    let number_is : c.wide-k.result ≡ number_of (command-of c) = c.wide-k.ensures ∙ c.number_of.ensures.0 in
-    let named-at : link_at c.loop-at.q.links c.wide-k.result ≡ link_at c.loop-at.q.links (number_of (command-of c)) = ap (link_at c.loop-at.q.links) (number_is) in
-    let stepped : (let m = c.match-command in Stepped (sheet-of c) (number_of (command-of c)) (command-of c) (tail_at c) m.path m.rows m.values m.step) = let m = c.match-command in
-    let l = c.loop-at in
-    ⊎_elim
-    (λ w.
-    let path = w.8.last.1.1.1.1.1.1.0 in
-    rw (w.9, w.11, w.12, w.15)
-    (subst (λ (x : Command). Stepped (sheet-of c) (number_of x) x (tail_at c) path l.rows l.values w.8.result) (sym w.1.given.1)
-    (removed_step (sheet-of c) _ _ _ _ l.invariant.0 _ w.8.ensures.0)))
-    (⊎_elim
-    (λ w.
-    let path = w.6.last.1.1.1.1.1.1.0 in
-    let rows = w.6.last.1.1.1.1.1.1.1.0 in
-    let after = w.20.last.1.1.1.1.1.1.1.1.0 in
-    let t = entered_touch _ _ (tail_at c) _ _ _ (command-of c) _ _ w.8.given.1 w.6.ensures in
-    rw (w.21, w.23, w.24, w.27)
-    (subst (λ (x : Command). Stepped (sheet-of c) (number_of x) x (tail_at c) path rows after w.20.result) (sym w.8.given.1)
-    (entered_step (sheet-of c) _ _ (tail_at c) path rows _ (to_z-of_z (record { sfits = w.16.ok }) ∙ w.16.ensures) t.rows_full _ t.decides after _ w.20.ensures)))
-    (λ w. rw (w.8, w.10, w.11, w.14)
-    (decided_stepped _ _ _ _ _ _ _ (command-of c) w.0.keys2 w.7.keys2 (named-at) w.6.ensures l.formulas l.values)))
-    m.branch in
-    let takes_at : (let m = c.match-command in Takes c.loop-at.q c.wide-k.result m.path m.step (step_panel (sheet-of c) (tail_at c) (command-of c))) = let m = c.match-command in
-    subst (λ (k : ℕ). Takes c.loop-at.q k m.path m.step (step_panel (sheet-of c) (tail_at c) (command-of c))) (sym (number_is)) (stepped).takes in
-    let legal_after : Legal (after-of c) = step_legal (sheet-of c) (tail_at c) (command-of c) (is-legal) in
-    let taken : (let t = c.if-turned-ne0 in Taken (after-of c) t.q t.levels t.others t.reads) = let l = c.stay_levels.ensures in
-    ⊎_elim
-    (λ w. rw (w.6, w.7, w.8, w.9) (taken_reversed (takes_at) (legal_after) w.5.ensures.0 w.5.ensures.1))
-    (λ w. rw (w.1, w.2, w.3, w.4)
-    (taken_unmoved (takes_at) (legal_after) (is-legal).panel (number_small) c.loop-at.invariant.2 l w.0.false))
-    c.if-turned-ne0.branch in
-    let same-command : c.match-command.command ≡ command-of c = ⊎_elim (λ w. w.14 ∙ sym w.1.given.1) (⊎_elim (λ w. w.26 ∙ sym w.8.given.1) (λ w. w.13)) c.match-command.branch in
-    let l = c.loop-at in
-    let p = (is-legal).panel in
-    let t = taken in
-    ⊎_elim
-    (λ w. rw (w.16, w.8.ensures, ← w.9)
-    (stale_change p (legal-is c) (subst (Sizes l.q) (sym (panel-is c)) (answer_sizes (sheet-of c) (command-of c) (tail_at c))) l.invariant.2 l.invariant.5 (tabled-is c)))
-    (λ w. rw w.8
-    (subst (λ (q : Panel). Stale q.size c.match-command.step.changed c.match-command-3.reads l.reads l.readers l.down) (sym (w.1 ∙ t.panel))
-    (stale_step p (legal_after) (step_sizes (sheet-of c) (tail_at c) (command-of c)) l.invariant.2 l.invariant.5
-    (subst (λ (q : Panel). Tabled q c.match-command-3.levels c.match-command-3.others c.match-command-3.reads) (w.1 ∙ t.panel) (tabled-is c)) (takes_at) (number_small))))
-    c.match-command-3.branch
+-- ---- the count, and the kept tables
 
-turned-small : (c : goal.Joined-command-3) → c.match-command-3.turned < 2 ^ 64
-turned-small c =
-    let same-command : c.match-command.command ≡ command-of c = ⊎_elim (λ w. w.14 ∙ sym w.1.given.1) (⊎_elim (λ w. w.26 ∙ sym w.8.given.1) (λ w. w.13)) c.match-command.branch in
-    let number_is : c.wide-k.result ≡ number_of (command-of c) = c.wide-k.ensures ∙ c.number_of.ensures.0 in
-    let named-at : link_at c.loop-at.q.links c.wide-k.result ≡ link_at c.loop-at.q.links (number_of (command-of c)) = ap (link_at c.loop-at.q.links) (number_is) in
-    let stepped : (let m = c.match-command in Stepped (sheet-of c) (number_of (command-of c)) (command-of c) (tail_at c) m.path m.rows m.values m.step) = let m = c.match-command in
+-- the scan before: before a change none was made
+scanned : (c : Joined-command) → let l = c.loop-at in let n = c.read_line-line.result in let s = sheet_of l.q l.formulas l.values in
+    let line = take (c.line_end-end.result - l.at) (drop l.at c.args.text.now) in
+    ((id level : ℕ) → n.command ≡ Change id level → c.match-command.worked ≡ l.worked)
+    × (OneOf (0 ∷ 1 ∷ 2 ∷ 3 ∷ 4 ∷ 6 ∷ 7 ∷ 8 ∷ []) (tag_of the_type n.command) → c.match-command.worked ≡ line_scan l.worked s line)
+scanned c =
     let l = c.loop-at in
-    ⊎_elim
-    (λ w.
-    let path = w.8.last.1.1.1.1.1.1.0 in
-    rw (w.9, w.11, w.12, w.15)
-    (subst (λ (x : Command). Stepped (sheet-of c) (number_of x) x (tail_at c) path l.rows l.values w.8.result) (sym w.1.given.1)
-    (removed_step (sheet-of c) _ _ _ _ l.invariant.0 _ w.8.ensures.0)))
-    (⊎_elim
-    (λ w.
-    let path = w.6.last.1.1.1.1.1.1.0 in
-    let rows = w.6.last.1.1.1.1.1.1.1.0 in
-    let after = w.20.last.1.1.1.1.1.1.1.1.0 in
-    let t = entered_touch _ _ (tail_at c) _ _ _ (command-of c) _ _ w.8.given.1 w.6.ensures in
-    rw (w.21, w.23, w.24, w.27)
-    (subst (λ (x : Command). Stepped (sheet-of c) (number_of x) x (tail_at c) path rows after w.20.result) (sym w.8.given.1)
-    (entered_step (sheet-of c) _ _ (tail_at c) path rows _ (to_z-of_z (record { sfits = w.16.ok }) ∙ w.16.ensures) t.rows_full _ t.decides after _ w.20.ensures)))
-    (λ w. rw (w.8, w.10, w.11, w.14)
-    (decided_stepped _ _ _ _ _ _ _ (command-of c) w.0.keys2 w.7.keys2 (named-at) w.6.ensures l.formulas l.values)))
-    m.branch in
-    let takes_at : (let m = c.match-command in Takes c.loop-at.q c.wide-k.result m.path m.step (step_panel (sheet-of c) (tail_at c) (command-of c))) = let m = c.match-command in
-    subst (λ (k : ℕ). Takes c.loop-at.q k m.path m.step (step_panel (sheet-of c) (tail_at c) (command-of c))) (sym (number_is)) (stepped).takes in
-    let is-legal : LegalSheet (sheet-of c) = c.loop-at.invariant.3.legal in
-    let legal_after : Legal (after-of c) = step_legal (sheet-of c) (tail_at c) (command-of c) (is-legal) in
-    let number_small : c.wide-k.result < 128 = omega (arith, c.wide-k.ensures, c.number_of.ensures.1) in
-    let taken : (let t = c.if-turned-ne0 in Taken (after-of c) t.q t.levels t.others t.reads) = let l = c.stay_levels.ensures in
-    ⊎_elim
-    (λ w. rw (w.6, w.7, w.8, w.9) (taken_reversed (takes_at) (legal_after) w.5.ensures.0 w.5.ensures.1))
-    (λ w. rw (w.1, w.2, w.3, w.4)
-    (taken_unmoved (takes_at) (legal_after) (is-legal).panel (number_small) c.loop-at.invariant.2 l w.0.false))
-    c.if-turned-ne0.branch in
-    let few = (legal-is c).few in
-    ⊎_elim
-    (λ w. rw (
-      w.15,
-      changed_turned (sheet-of c) (command-of c) (tail_at c) _ _ _ _ (stepped) _ _ (sym (same-command) ∙ w.1.given.1) _ (taken).panel _ _ _ _ _ w.6.result
-          w.6.ensures,
-    )
-    (turned_lt _ _ (rw w.9 at few)))
-    (λ w. rw (w.7, (takes_at).changed) (turned_lt _ _ (legal_after).few)) c.match-command-3.branch
+    let n = c.read_line-line.result in
+    let s : Sheet = sheet_of l.q l.formulas l.values in
+    let line : List ℕ = take (c.line_end-end.result - l.at) (drop l.at c.args.text.now) in
+    let read : command_bytes n.command (tail_of n) ≡ frame_of line = c.read_line-line.ensures.bytes in
+    elim c.match-command.branch [
+      | in-Remove w ↦ (
+        λ id level e. absurd (removal_no_change (sym w.in-Remove.is ∙ e)),
+        λ other. w.worked-is ∙ w.remove-step.ensures.worked_after ∙ removed_scan l.worked s line n.command (tail_of n) read _ w.in-Remove.is,
+      )
+      | in_default+in-Enter w ↦ (
+        λ id level e. w.worked-is,
+        λ other. w.worked-is ∙ no_scan l.worked s line n.command (tail_of n) read (no_removal n.command w.in_default.not-Remove) other,
+      )
+      | in_default+in_default-command w ↦ (
+        λ id level e. w.worked-is,
+        λ other. w.worked-is ∙ no_scan l.worked s line n.command (tail_of n) read (no_removal n.command w.in_default.not-Remove) other,
+      )
+    ]
 
-pub refresh-requires-in-loop-at : goal.refresh-requires-in-loop-at
-refresh-requires-in-loop-at c =
+settled : (c : Joined-command-3) → let l = c.loop-at in let n = c.read_line-line.result in let m = c.match-command in let s = sheet_of l.q l.formulas l.values in
+    let line = take (c.line_end-end.result - l.at) (drop l.at c.args.text.now) in let after = step_panel s (tail_of n) n.command in
+    m.command ≡ n.command → Stepped s (number_of n.command) n.command (tail_of n) m.path m.rows m.values m.step → Takes l.q c.wide-k.result m.path m.step after
+    → (let t = c.if-turned-ne0 in Taken after t.q t.levels t.others t.reads)
+    → ((id level : ℕ) → n.command ≡ Change id level → m.worked ≡ l.worked)
+    × (OneOf (0 ∷ 1 ∷ 2 ∷ 3 ∷ 4 ∷ 6 ∷ 7 ∷ 8 ∷ []) (tag_of the_type n.command) → m.worked ≡ line_scan l.worked s line)
+    → let t = c.match-command-3 in
+    Settled s n.command (tail_of n) m.rows m.values m.step.revalued line l.worked t.q t.levels t.others t.reads t.reply t.turned t.stale t.worked l.reads l.readers l.down
+settled c same d takes t scan =
     let l = c.loop-at in
-    let k = stale-is (goal.at.refresh-requires-in-loop-at c).Joined-command-3 in
-    rw l.invariant.4 ((k.kept, k.full, k.among, k.loopless), (k.low, k.differ))
+    let n = c.read_line-line.result in
+    let i = l.invariant in
+    let small : c.wide-k.result < 128 = omega (arith, c.wide-k.ensures, c.number_of.ensures.1) in
+    elim c.match-command-3.branch [
+      | in-Change w ↦
+          let is : n.command ≡ Change _ _ = sym same ∙ w.in-Change.is in
+          settled_as w.q-is w.levels-is w.others-is w.reads-is w.reply-is w.turned-is (w.stale-is ∙ w.below-stale.ensures) w.worked-is
+          (change_settled d i.3.legal i.2 i.5 c.read_line-line.ensures.bytes is t.panel (scan.0 _ _ is) w.changed-c.ensures)
+      | in_default-command-2 w ↦
+          let other = no_change n.command (λ id level e. w.in_default-command-2.not-Change id level (same ∙ e)) in
+          settled_as w.q-is w.levels-is w.others-is w.reads-is w.reply-is w.turned-is w.stale-is w.worked-is
+          (step_settled d i.3.legal i.2 i.5 c.read_line-line.ensures.bytes other small takes t (scan.1 other))
+    ]
+
+pub refresh-requires-in-loop-at-clause-kept : goal.refresh-requires-in-loop-at-clause-kept
+refresh-requires-in-loop-at-clause-kept c =
+    let a = goal.at.refresh-requires-in-loop-at-clause-kept c in
+    let j = a.Joined-command in
+    let t = takes_at j in
+    let z = settled a.Joined-command-3 (same_command j) (stepped j) t (taken a.Joined-turned-ne0 t (legal_after j)) (scanned j) in
+    rw c.loop-at.invariant.4 (z.due.kept, z.due.full, z.due.among, z.due.loopless)
+
+pub refresh-requires-in-loop-at-clause-within : goal.refresh-requires-in-loop-at-clause-within
+refresh-requires-in-loop-at-clause-within c =
+    let a = goal.at.refresh-requires-in-loop-at-clause-within c in
+    let j = a.Joined-command in
+    let t = takes_at j in
+    let z = settled a.Joined-command-3 (same_command j) (stepped j) t (taken a.Joined-turned-ne0 t (legal_after j)) (scanned j) in
+    rw c.loop-at.invariant.4 (z.due.low, z.due.differ)
 
 -- ---- what one line does
 
--- the line, and its reply
-abbrev line-of : tie.After-old invariant-loop decreases-loop → List ℕ
-line-of c = let l = looped c in take ((ended c).line-end.result - l.loop.at) (drop l.loop.at (text_of l))
-
-abbrev reply-of : tie.After-count-reply invariant-loop decreases-loop → List ℕ
-reply-of j = let m = met-then j in whole_reply (command-of m.before) j.count_reply.result m.match.rows
-
-counted_is : (c : goal.After-count_reply-reply) → AnswerRest (sheet-of c) (number_of (command-of c)) (command-of c) (tail_at c) c.match-command.rows c.match-command.values c.count_reply-reply.result
-counted_is c =
-    let same-command : c.match-command.command ≡ command-of c = ⊎_elim (λ w. w.14 ∙ sym w.1.given.1) (⊎_elim (λ w. w.26 ∙ sym w.8.given.1) (λ w. w.13)) c.match-command.branch in
-    let number_is : c.wide-k.result ≡ number_of (command-of c) = c.wide-k.ensures ∙ c.number_of.ensures.0 in
-    let named-at : link_at c.loop-at.q.links c.wide-k.result ≡ link_at c.loop-at.q.links (number_of (command-of c)) = ap (link_at c.loop-at.q.links) (number_is) in
-    let stepped : (let m = c.match-command in Stepped (sheet-of c) (number_of (command-of c)) (command-of c) (tail_at c) m.path m.rows m.values m.step) = let m = c.match-command in
-    let l = c.loop-at in
-    ⊎_elim
-    (λ w.
-    let path = w.8.last.1.1.1.1.1.1.0 in
-    rw (w.9, w.11, w.12, w.15)
-    (subst (λ (x : Command). Stepped (sheet-of c) (number_of x) x (tail_at c) path l.rows l.values w.8.result) (sym w.1.given.1)
-    (removed_step (sheet-of c) _ _ _ _ l.invariant.0 _ w.8.ensures.0)))
-    (⊎_elim
-    (λ w.
-    let path = w.6.last.1.1.1.1.1.1.0 in
-    let rows = w.6.last.1.1.1.1.1.1.1.0 in
-    let after = w.20.last.1.1.1.1.1.1.1.1.0 in
-    let t = entered_touch _ _ (tail_at c) _ _ _ (command-of c) _ _ w.8.given.1 w.6.ensures in
-    rw (w.21, w.23, w.24, w.27)
-    (subst (λ (x : Command). Stepped (sheet-of c) (number_of x) x (tail_at c) path rows after w.20.result) (sym w.8.given.1)
-    (entered_step (sheet-of c) _ _ (tail_at c) path rows _ (to_z-of_z (record { sfits = w.16.ok }) ∙ w.16.ensures) t.rows_full _ t.decides after _ w.20.ensures)))
-    (λ w. rw (w.8, w.10, w.11, w.14)
-    (decided_stepped _ _ _ _ _ _ _ (command-of c) w.0.keys2 w.7.keys2 (named-at) w.6.ensures l.formulas l.values)))
-    m.branch in
-    let is-legal : LegalSheet (sheet-of c) = c.loop-at.invariant.3.legal in
-    let number_small : c.wide-k.result < 128 = omega (arith, c.wide-k.ensures, c.number_of.ensures.1) in
-    let takes_at : (let m = c.match-command in Takes c.loop-at.q c.wide-k.result m.path m.step (step_panel (sheet-of c) (tail_at c) (command-of c))) = let m = c.match-command in
-    subst (λ (k : ℕ). Takes c.loop-at.q k m.path m.step (step_panel (sheet-of c) (tail_at c) (command-of c))) (sym (number_is)) (stepped).takes in
-    let legal_after : Legal (after-of c) = step_legal (sheet-of c) (tail_at c) (command-of c) (is-legal) in
-    let taken : (let t = c.if-turned-ne0 in Taken (after-of c) t.q t.levels t.others t.reads) = let l = c.stay_levels.ensures in
-    ⊎_elim
-    (λ w. rw (w.6, w.7, w.8, w.9) (taken_reversed (takes_at) (legal_after) w.5.ensures.0 w.5.ensures.1))
-    (λ w. rw (w.1, w.2, w.3, w.4)
-    (taken_unmoved (takes_at) (legal_after) (is-legal).panel (number_small) c.loop-at.invariant.2 l w.0.false))
-    c.if-turned-ne0.branch in
-    let rest_is : (let t = c.match-command-3 in AnswerRest (sheet-of c) (number_of (command-of c)) (command-of c) (tail_at c) c.match-command.rows c.match-command.values (counted t.reply (redrawn_by t.turned c.match-command.step.revalued t.q))) = ⊎_elim
-    (λ w. rw (w.9, w.14, w.15)
-    (changed_rest (sheet-of c) (command-of c) (tail_at c) _ _ _ _ (stepped) _ _ (sym (same-command) ∙ w.1.given.1) _ (taken).panel _ _ _ _ _ w.6.result
-    w.6.ensures))
-    (λ w. rw (w.1 ∙ (taken).panel, w.6, w.7) (step_panel_lem (command-of c) (other (record { before = c; match3 = w.0 })) (stepped)).1) c.match-command-3.branch in
-    let tabled-is : (let t = c.match-command-3 in Tabled t.q t.levels t.others t.reads) = ⊎_elim
-    (λ w. rw (w.9, w.11, w.12, w.13)
-    (changed_tabled (sheet-of c) (command-of c) (tail_at c) _ _ _ _ (stepped) _ _ (sym (same-command) ∙ w.1.given.1) _ (taken).panel _ _ _ _ _ w.6.result
-    w.6.ensures))
-    (λ w. rw (w.1, w.3, w.4, w.5) (taken).tabled) c.match-command-3.branch in
-    let panel-is : c.match-command-3.q ≡ (command_answer (sheet-of c) (command-of c) (tail_at c)).state.panel = ⊎_elim
-    (λ w. w.9
-    ∙ changed_panel (sheet-of c) (command-of c) (tail_at c) _ _ _ _ (stepped) _ _ (sym (same-command) ∙ w.1.given.1) _ (taken).panel _ _ _ _ _ w.6.result
-    w.6.ensures)
-    (λ w. w.1 ∙ (taken).panel ∙ (step_panel_lem (command-of c) (other (record { before = c; match3 = w.0 })) (stepped)).0) c.match-command-3.branch in
-    let legal-is : Legal c.match-command-3.q = subst Legal (sym (panel-is)) (answer_legal (sheet-of c) (command-of c) (tail_at c) (is-legal)).panel in
-    let turned-small : c.match-command-3.turned < 2 ^ 64 = let few = (legal-is).few in
-    ⊎_elim
-    (λ w. rw (
-      w.15,
-      changed_turned (sheet-of c) (command-of c) (tail_at c) _ _ _ _ (stepped) _ _ (sym (same-command) ∙ w.1.given.1) _ (taken).panel _ _ _ _ _ w.6.result
-          w.6.ensures,
-    )
-    (turned_lt _ _ (rw w.9 at few)))
-    (λ w. rw (w.7, (takes_at).changed) (turned_lt _ _ (legal_after).few)) c.match-command-3.branch in
-    let t = c.match-command-3 in
-    subst (AnswerRest (sheet-of c) (number_of (command-of c)) (command-of c) (tail_at c) c.match-command.rows c.match-command.values)
-    (sym (c.count_reply-reply.ensures
-    ∙ ap (counted t.reply) (redrawn_is (legal-is) (tabled-is) c.refresh-in-loop-at.ensures.1 t.turned (turned-small) c.match-command.step.revalued))) (rest_is)
-
-pub offset_bounds-formulas-k : goal.offset_bounds-formulas-k
-offset_bounds-formulas-k c = omega (arith, number_small (goal.at.offset_bounds-formulas-k c).After-wide-k)
-
-pub bounds-formulas-k : goal.bounds-formulas-k
-bounds-formulas-k c = number_small (goal.at.bounds-formulas-k c).After-wide-k
+-- the rest of the answer, with the count that was taken
+rest_counted : {s : Sheet} {k : Command} {tail rows : List ℕ} {values : List ℤ} {revalued : ℕ} {line : List ℕ} {before : ℕ} {q : Panel} {levels others reads : List ℕ}
+    {reply r : Reply} {turned stale worked : ℕ} {shown readers down readers' down' : List ℕ}
+    → Settled s k tail rows values revalued line before q levels others reads reply turned stale worked shown readers down
+    → Kept q.size reads readers' down' → r ≡ counted reply (union (gathered (at down') turned) revalued) → AnswerRest s (number_of k) k tail rows values r
+rest_counted {s} {k} {tail} {rows} {values} {revalued} {reply = reply} {turned = turned} z kept e =
+    subst (AnswerRest s (number_of k) k tail rows values) (sym (e ∙ ap (counted reply) (redrawn_is z.legal z.tabled kept turned z.small revalued))) z.rest
 
 pub rule_after-requires : goal.rule_after-requires
-rule_after-requires c = framed_at (goal.at.rule_after-requires c).After-old-1
+rule_after-requires c = framed _ _ c.read_line-line.ensures
 
-pub TODO-overflow-mul-t117 : goal.TODO-overflow-mul-t117
-TODO-overflow-mul-t117 c = omega (arith, number_small (goal.at.TODO-overflow-mul-t117 c).After-wide-k)
-
-pub bounds-formulas-k-then-sets_formula : goal.bounds-formulas-k-then-sets_formula
-bounds-formulas-k-then-sets_formula c = number_small (goal.at.bounds-formulas-k-then-sets_formula c).After-wide-k
-
--- with the formula that the line leaves the link of number k
-abbrev ruledBy : tie.After-count-reply invariant-loop decreases-loop → ℕ → Formulas
-ruledBy j k =
-    let n = (met-then j).before in
-    let l = (looped n).loop in
-    with_formula l.formulas k (formula_after (command-of n) (tail_at n) j.count_reply.result (link_at l.q.links k).covered (formula_at l.formulas k))
-
-rule-at : (c : goal.Joined-sets_formula) → c.if-sets_formula.formulas ≡ ruledBy c c.wide-k.result
-rule-at c =
-    let same-command : c.match-command.command ≡ command-of c = ⊎_elim (λ w. w.14 ∙ sym w.1.given.1) (⊎_elim (λ w. w.26 ∙ sym w.8.given.1) (λ w. w.13)) c.match-command.branch in
+-- with the formula that the line leaves the link that it names
+rule_is : (c : Joined-sets_formula) → c.match-command.command ≡ c.read_line-line.result.command → let l = c.loop-at in let n = c.read_line-line.result in let k = number_of n.command in
+    c.if-sets_formula.formulas
+    ≡ with_formula l.formulas k (formula_after n.command (tail_of n) c.count_reply-reply.result (link_at l.q.links k).covered (formula_at l.formulas k))
+rule_is c same =
+    let l = c.loop-at in
+    let n = c.read_line-line.result in
     let k = c.wide-k.result in
+    let ruled : c.if-sets_formula.formulas ≡ with_formula l.formulas k (formula_after n.command (tail_of n) c.count_reply-reply.result (link_at l.q.links k).covered (formula_at l.formulas k)) =
     elim c.if-sets_formula.branch [
-      | then-sets_formula w ↦ w.3 ∙ ap (with_formula c.loop-at.formulas k) w.2.ensures
-      | else-sets_formula w ↦ w.1 ∙ formulas_same (sheet-of c) k (command-of c) (tail_at c) c.count_reply-reply.result _
-          (ap sets_formula (sym (same-command)) ∙ sym c.sets_formula.ensures ∙ w.0.false)
-    ]
-
-rule-is : (c : goal.Joined-sets_formula) → c.if-sets_formula.formulas ≡ ruledBy c (number_of (command-of c))
-rule-is c =
-    let number_is : c.wide-k.result ≡ number_of (command-of c) = c.wide-k.ensures ∙ c.number_of.ensures.0 in
-    let same-command : c.match-command.command ≡ command-of c = ⊎_elim (λ w. w.14 ∙ sym w.1.given.1) (⊎_elim (λ w. w.26 ∙ sym w.8.given.1) (λ w. w.13)) c.match-command.branch in
-    rule-at c ∙ ap (ruledBy c) (number_is)
-
-line_does : (c : goal.Joined-sets_formula) → Did line_answer LegalSheet (sheet-of c) (line-of c) (sheet_of c.match-command-3.q c.if-sets_formula.formulas c.match-command.values) (reply-of c)
-line_does c =
-    let is-legal : LegalSheet (sheet-of c) = c.loop-at.invariant.3.legal in
-    let same-command : c.match-command.command ≡ command-of c = ⊎_elim (λ w. w.14 ∙ sym w.1.given.1) (⊎_elim (λ w. w.26 ∙ sym w.8.given.1) (λ w. w.13)) c.match-command.branch in
-    let number_is : c.wide-k.result ≡ number_of (command-of c) = c.wide-k.ensures ∙ c.number_of.ensures.0 in
-    let named-at : link_at c.loop-at.q.links c.wide-k.result ≡ link_at c.loop-at.q.links (number_of (command-of c)) = ap (link_at c.loop-at.q.links) (number_is) in
-    let stepped : (let m = c.match-command in Stepped (sheet-of c) (number_of (command-of c)) (command-of c) (tail_at c) m.path m.rows m.values m.step) = let m = c.match-command in
-    let l = c.loop-at in
-    ⊎_elim
-    (λ w.
-    let path = w.8.last.1.1.1.1.1.1.0 in
-    rw (w.9, w.11, w.12, w.15)
-    (subst (λ (x : Command). Stepped (sheet-of c) (number_of x) x (tail_at c) path l.rows l.values w.8.result) (sym w.1.given.1)
-    (removed_step (sheet-of c) _ _ _ _ l.invariant.0 _ w.8.ensures.0)))
-    (⊎_elim
-    (λ w.
-    let path = w.6.last.1.1.1.1.1.1.0 in
-    let rows = w.6.last.1.1.1.1.1.1.1.0 in
-    let after = w.20.last.1.1.1.1.1.1.1.1.0 in
-    let t = entered_touch _ _ (tail_at c) _ _ _ (command-of c) _ _ w.8.given.1 w.6.ensures in
-    rw (w.21, w.23, w.24, w.27)
-    (subst (λ (x : Command). Stepped (sheet-of c) (number_of x) x (tail_at c) path rows after w.20.result) (sym w.8.given.1)
-    (entered_step (sheet-of c) _ _ (tail_at c) path rows _ (to_z-of_z (record { sfits = w.16.ok }) ∙ w.16.ensures) t.rows_full _ t.decides after _ w.20.ensures)))
-    (λ w. rw (w.8, w.10, w.11, w.14)
-    (decided_stepped _ _ _ _ _ _ _ (command-of c) w.0.keys2 w.7.keys2 (named-at) w.6.ensures l.formulas l.values)))
-    m.branch in
-    let number_small : c.wide-k.result < 128 = omega (arith, c.wide-k.ensures, c.number_of.ensures.1) in
-    let takes_at : (let m = c.match-command in Takes c.loop-at.q c.wide-k.result m.path m.step (step_panel (sheet-of c) (tail_at c) (command-of c))) = let m = c.match-command in
-    subst (λ (k : ℕ). Takes c.loop-at.q k m.path m.step (step_panel (sheet-of c) (tail_at c) (command-of c))) (sym (number_is)) (stepped).takes in
-    let legal_after : Legal (after-of c) = step_legal (sheet-of c) (tail_at c) (command-of c) (is-legal) in
-    let taken : (let t = c.if-turned-ne0 in Taken (after-of c) t.q t.levels t.others t.reads) = let l = c.stay_levels.ensures in
-    ⊎_elim
-    (λ w. rw (w.6, w.7, w.8, w.9) (taken_reversed (takes_at) (legal_after) w.5.ensures.0 w.5.ensures.1))
-    (λ w. rw (w.1, w.2, w.3, w.4)
-    (taken_unmoved (takes_at) (legal_after) (is-legal).panel (number_small) c.loop-at.invariant.2 l w.0.false))
-    c.if-turned-ne0.branch in
-    let panel-is : c.match-command-3.q ≡ (command_answer (sheet-of c) (command-of c) (tail_at c)).state.panel = ⊎_elim
-    (λ w. w.9
-    ∙ changed_panel (sheet-of c) (command-of c) (tail_at c) _ _ _ _ (stepped) _ _ (sym (same-command) ∙ w.1.given.1) _ (taken).panel _ _ _ _ _ w.6.result
-    w.6.ensures)
-    (λ w. w.1 ∙ (taken).panel ∙ (step_panel_lem (command-of c) (other (record { before = c; match3 = w.0 })) (stepped)).0) c.match-command-3.branch in
-    let rest_is : (let t = c.match-command-3 in AnswerRest (sheet-of c) (number_of (command-of c)) (command-of c) (tail_at c) c.match-command.rows c.match-command.values (counted t.reply (redrawn_by t.turned c.match-command.step.revalued t.q))) = ⊎_elim
-    (λ w. rw (w.9, w.14, w.15)
-    (changed_rest (sheet-of c) (command-of c) (tail_at c) _ _ _ _ (stepped) _ _ (sym (same-command) ∙ w.1.given.1) _ (taken).panel _ _ _ _ _ w.6.result
-    w.6.ensures))
-    (λ w. rw (w.1 ∙ (taken).panel, w.6, w.7) (step_panel_lem (command-of c) (other (record { before = c; match3 = w.0 })) (stepped)).1) c.match-command-3.branch in
-    let tabled-is : (let t = c.match-command-3 in Tabled t.q t.levels t.others t.reads) = ⊎_elim
-    (λ w. rw (w.9, w.11, w.12, w.13)
-    (changed_tabled (sheet-of c) (command-of c) (tail_at c) _ _ _ _ (stepped) _ _ (sym (same-command) ∙ w.1.given.1) _ (taken).panel _ _ _ _ _ w.6.result
-    w.6.ensures))
-    (λ w. rw (w.1, w.3, w.4, w.5) (taken).tabled) c.match-command-3.branch in
-    let legal-is : Legal c.match-command-3.q = subst Legal (sym (panel-is)) (answer_legal (sheet-of c) (command-of c) (tail_at c) (is-legal)).panel in
-    let turned-small : c.match-command-3.turned < 2 ^ 64 = let few = (legal-is).few in
-    ⊎_elim
-    (λ w. rw (
-      w.15,
-      changed_turned (sheet-of c) (command-of c) (tail_at c) _ _ _ _ (stepped) _ _ (sym (same-command) ∙ w.1.given.1) _ (taken).panel _ _ _ _ _ w.6.result
-          w.6.ensures,
-    )
-    (turned_lt _ _ (rw w.9 at few)))
-    (λ w. rw (w.7, (takes_at).changed) (turned_lt _ _ (legal_after).few)) c.match-command-3.branch in
-    let counted_is : AnswerRest (sheet-of c) (number_of (command-of c)) (command-of c) (tail_at c) c.match-command.rows c.match-command.values c.count_reply-reply.result = let t = c.match-command-3 in
-    subst (AnswerRest (sheet-of c) (number_of (command-of c)) (command-of c) (tail_at c) c.match-command.rows c.match-command.values)
-    (sym (c.count_reply-reply.ensures
-    ∙ ap (counted t.reply) (redrawn_is (legal-is) (tabled-is) c.refresh-in-loop-at.ensures.1 t.turned (turned-small) c.match-command.step.revalued))) (rest_is) in
-    did (sheet-of c) (line-of c) _ (tail_at c) c.read_line-line.ensures.bytes _ _ _ _ (counted_is) _ (panel-is) _ (rule-is c) (is-legal)
-
--- the scan of the line: before a change none was made
-unscanned : (c : goal.Joined-command) (id level : ℕ) → command-of c ≡ Change id level → c.match-command.worked ≡ c.loop-at.worked
-unscanned c id level e =
-    ⊎_elim (λ w. absurd (removal_no_change (sym w.1.given.1 ∙ e))) (⊎_elim (λ w. w.22) (λ w. w.9)) c.match-command.branch
-
-scans : (c : goal.Joined-command-3) → c.match-command-3.worked ≡ line_scan c.loop-at.worked (sheet-of c) (line-of c)
-scans c =
-    let same-command : c.match-command.command ≡ command-of c = ⊎_elim (λ w. w.14 ∙ sym w.1.given.1) (⊎_elim (λ w. w.26 ∙ sym w.8.given.1) (λ w. w.13)) c.match-command.branch in
-    let number_is : c.wide-k.result ≡ number_of (command-of c) = c.wide-k.ensures ∙ c.number_of.ensures.0 in
-    let named-at : link_at c.loop-at.q.links c.wide-k.result ≡ link_at c.loop-at.q.links (number_of (command-of c)) = ap (link_at c.loop-at.q.links) (number_is) in
-    let stepped : (let m = c.match-command in Stepped (sheet-of c) (number_of (command-of c)) (command-of c) (tail_at c) m.path m.rows m.values m.step) = let m = c.match-command in
-    let l = c.loop-at in
-    ⊎_elim
-    (λ w.
-    let path = w.8.last.1.1.1.1.1.1.0 in
-    rw (w.9, w.11, w.12, w.15)
-    (subst (λ (x : Command). Stepped (sheet-of c) (number_of x) x (tail_at c) path l.rows l.values w.8.result) (sym w.1.given.1)
-    (removed_step (sheet-of c) _ _ _ _ l.invariant.0 _ w.8.ensures.0)))
-    (⊎_elim
-    (λ w.
-    let path = w.6.last.1.1.1.1.1.1.0 in
-    let rows = w.6.last.1.1.1.1.1.1.1.0 in
-    let after = w.20.last.1.1.1.1.1.1.1.1.0 in
-    let t = entered_touch _ _ (tail_at c) _ _ _ (command-of c) _ _ w.8.given.1 w.6.ensures in
-    rw (w.21, w.23, w.24, w.27)
-    (subst (λ (x : Command). Stepped (sheet-of c) (number_of x) x (tail_at c) path rows after w.20.result) (sym w.8.given.1)
-    (entered_step (sheet-of c) _ _ (tail_at c) path rows _ (to_z-of_z (record { sfits = w.16.ok }) ∙ w.16.ensures) t.rows_full _ t.decides after _ w.20.ensures)))
-    (λ w. rw (w.8, w.10, w.11, w.14)
-    (decided_stepped _ _ _ _ _ _ _ (command-of c) w.0.keys2 w.7.keys2 (named-at) w.6.ensures l.formulas l.values)))
-    m.branch in
-    let is-legal : LegalSheet (sheet-of c) = c.loop-at.invariant.3.legal in
-    let number_small : c.wide-k.result < 128 = omega (arith, c.wide-k.ensures, c.number_of.ensures.1) in
-    let takes_at : (let m = c.match-command in Takes c.loop-at.q c.wide-k.result m.path m.step (step_panel (sheet-of c) (tail_at c) (command-of c))) = let m = c.match-command in
-    subst (λ (k : ℕ). Takes c.loop-at.q k m.path m.step (step_panel (sheet-of c) (tail_at c) (command-of c))) (sym (number_is)) (stepped).takes in
-    let legal_after : Legal (after-of c) = step_legal (sheet-of c) (tail_at c) (command-of c) (is-legal) in
-    let taken : (let t = c.if-turned-ne0 in Taken (after-of c) t.q t.levels t.others t.reads) = let l = c.stay_levels.ensures in
-    ⊎_elim
-    (λ w. rw (w.6, w.7, w.8, w.9) (taken_reversed (takes_at) (legal_after) w.5.ensures.0 w.5.ensures.1))
-    (λ w. rw (w.1, w.2, w.3, w.4)
-    (taken_unmoved (takes_at) (legal_after) (is-legal).panel (number_small) c.loop-at.invariant.2 l w.0.false))
-    c.if-turned-ne0.branch in
-    let unscanned : (id level : ℕ) → command-of c ≡ Change id level → c.match-command.worked ≡ c.loop-at.worked = λ id level e. ⊎_elim (λ w. absurd (removal_no_change (sym w.1.given.1 ∙ e))) (⊎_elim (λ w. w.22) (λ w. w.9)) c.match-command.branch in
-    let l = c.loop-at in
-    let framed = c.read_line-line.ensures.bytes in
-    ⊎_elim
-    (λ w.
-    let is = sym (same-command) ∙ w.1.given.1 in
-    w.10 ∙ changed_worked (sheet-of c) (command-of c) (tail_at c) _ _ _ _ (stepped) _ _ is _ (taken).panel _ _ _ _ _ w.6.result w.6.ensures (line-of c) framed
-    ∙ ap (λ (b : ℕ). line_scan b (sheet-of c) (line-of c)) (unscanned _ _ is))
-    (λ v.
-    let not-change = other (record { before = c; match3 = v.0 }) in
-    v.2
-    ∙ ⊎_elim (λ w. w.10 ∙ w.8.ensures.1 ∙ removed_scan l.worked (sheet-of c) (line-of c) (command-of c) (tail_at c) framed _ w.1.given.1)
-    (⊎_elim (λ w. w.22 ∙ no_scan l.worked (sheet-of c) (line-of c) (command-of c) (tail_at c) framed w.0.keys2 not-change)
-    (λ w. w.9 ∙ no_scan l.worked (sheet-of c) (line-of c) (command-of c) (tail_at c) framed w.0.keys2 not-change)) c.match-command.came)
-    c.match-command-3.branch
-
-is-written : (j : goal.After-count_reply-reply) → whole_reply j.match-command.command j.count_reply-reply.result j.match-command.rows ≡ reply-of j
-is-written j =
-    let same-command : j.match-command.command ≡ command-of j = ⊎_elim (λ w. w.14 ∙ sym w.1.given.1) (⊎_elim (λ w. w.26 ∙ sym w.8.given.1) (λ w. w.13)) j.match-command.branch in
-    ap (λ (k : Command). whole_reply k j.count_reply-reply.result j.match-command.rows) (same-command)
-
-pub slice_bounds-put_reply-end : goal.slice_bounds-put_reply-end
-slice_bounds-put_reply-end c = sym (stepped (goal.at.slice_bounds-put_reply-end c).Joined-command).rows_full
+      | then-sets_formula w ↦ w.formulas-is ∙ ap (with_formula l.formulas k) w.rule_after.ensures
+      | else-sets_formula w ↦ w.formulas-is ∙ formulas_same (sheet_of l.q l.formulas l.values) k n.command (tail_of n) c.count_reply-reply.result _
+          (ap sets_formula (sym same) ∙ sym c.sets_formula.ensures ∙ w.if-sets_formula.false)
+    ] in
+    ruled
+    ∙ ap (λ (k : ℕ). with_formula l.formulas k (formula_after n.command (tail_of n) c.count_reply-reply.result (link_at l.q.links k).covered (formula_at l.formulas k)))
+    (c.wide-k.ensures ∙ c.number_of.ensures.0)
 
 pub put_reply-n-requires : goal.put_reply-n-requires
 put_reply-n-requires c =
-    let few = ap (λ (k : Command). rest_of k c.count_reply-reply.result) (same-command (goal.at.put_reply-n-requires c).Joined-command) in
-    let rest = (counted_is (goal.at.put_reply-n-requires c).After-count_reply-reply).rest in
+    let a = goal.at.put_reply-n-requires c in
+    let j = a.Joined-command in
+    let t = takes_at j in
+    let z = settled a.Joined-command-3 (same_command j) (stepped j) t (taken a.Joined-turned-ne0 t (legal_after j)) (scanned j) in
+    let few = ap (λ (k : Command). rest_of k c.count_reply-reply.result) (same_command j) in
+    let rest = (rest_counted z c.refresh-in-loop-at.ensures.1 c.count_reply-reply.ensures).rest in
     let short = reply_short c.match-command.command c.count_reply-reply.result c.match-command.rows (omega (arith, few, rest)) in
-    (omega (arith, few, rest, (stepped (goal.at.put_reply-n-requires c).Joined-command).rows_full), omega (arith, short, c.loop-at.invariant.3.fits, c.requires.1))
+    (omega (arith, few, rest, (stepped j).rows_full), omega (arith, short, c.loop-at.invariant.3.fits, c.requires.1))
 
 pub loop-at-smaller : goal.loop-at-smaller
 loop-at-smaller c =
-    omega (arith, c.behind-at.ensures, behind_on (text_of c) c.loop-at.at c.line_end-end.result c.loop-at-test.true c.line_end-end.ensures, ends (goal.at.loop-at-smaller c).After-line_end-end)
+    let text = c.args.text.now in
+    omega (
+      arith,
+      c.behind-at.ensures,
+      behind_on text c.loop-at.at c.line_end-end.result c.loop-at-test.true c.line_end-end.ensures,
+      end_within text c.loop-at.at c.line_end-end.result c.loop-at-test.true c.line_end-end.ensures,
+    )
 
 pub loop-at-preserved : goal.loop-at-preserved
 loop-at-preserved c =
+    let a = goal.at.loop-at-preserved c in
+    let j = a.Joined-command in
+    let t = takes_at j in
+    let d = stepped j in
+    let same = same_command j in
+    let z = settled a.Joined-command-3 same d t (taken a.Joined-turned-ne0 t (legal_after j)) (scanned j) in
     let l = c.loop-at in
-    let w = c.put_reply-n.ensures in (
-      (stepped (goal.at.loop-at-preserved c).Joined-command).rows_full,
-      (stepped (goal.at.loop-at-preserved c).Joined-command).takes.path_of.full,
-      tabled-is (goal.at.loop-at-preserved c).Joined-command-3,
-      line_done _ _ _ _ _ _ _ _ _ _ _ l.invariant.3 c.loop-at-test.true (leb-true _ _ c.if-room-n-ge-LONGEST.true) c.line_end-end.result c.line_end-end.ensures
-          (line-of c) refl _ _ (reply-of c) (line_does (goal.at.loop-at-preserved c).Joined-sets_formula)
-          (w.0 ∙ ap (λ (b : List ℕ). sets l.out l.n (line_of b)) (is-written (goal.at.loop-at-preserved c).After-count_reply-reply)) (w.1 ∙ ap (λ (b : List ℕ). l.n + length (line_of b)) (is-written (goal.at.loop-at-preserved c).After-count_reply-reply))
-          (c.tallied_line-t.ensures ∙ ap (tallied l.t) (c.refusal_of.ensures ∙ rows_tell_none (command-of c) c.count_reply-reply.result c.match-command.rows)) c.behind-at.ensures
-          (scans (goal.at.loop-at-preserved c).Joined-command-3),
+    let n = c.read_line-line.result in
+    let s : Sheet = sheet_of l.q l.formulas l.values in
+    let line : List ℕ = take (c.line_end-end.result - l.at) (drop l.at c.args.text.now) in
+    let r = c.count_reply-reply.result in
+    let w = c.put_reply-n.ensures in
+    let written = ap (λ (k : Command). whole_reply k r c.match-command.rows) same in
+    let does =
+    did s line n.command (tail_of n) c.read_line-line.ensures.bytes _ _ _ _ (rest_counted z c.refresh-in-loop-at.ensures.1 c.count_reply-reply.ensures) _ z.panel _
+    (rule_is a.Joined-sets_formula same) l.invariant.3.legal in (
+      d.rows_full,
+      d.takes.path_of.full,
+      z.tabled,
+      line_done _ _ _ _ _ _ _ _ _ _ _ l.invariant.3 c.loop-at-test.true c.if-room-n-ge-LONGEST.true c.line_end-end.result c.line_end-end.ensures
+          line refl _ _ (whole_reply n.command r c.match-command.rows) does
+          (w.out_after ∙ ap (λ (b : List ℕ). sets l.out l.n (line_of b)) written) (w.value ∙ ap (λ (b : List ℕ). l.n + length (line_of b)) written)
+          (c.tallied_line-t.ensures ∙ ap (tallied l.t) (c.refusal_of.ensures ∙ rows_tell_none n.command r c.match-command.rows)) c.behind-at.ensures
+          z.scan,
       c.refresh-in-loop-at.ensures.0,
       c.refresh-in-loop-at.ensures.1,
     )
 
-pub shape_of-out : goal.shape_of-out
-shape_of-out c = ap length c.loop-at.invariant.3.stored ∙ simp length-sets
-
 pub returns : goal.returns
 returns c =
     rw c.progress_of.ensures
-    (⊎_elim (λ w. finish_full _ _ _ _ _ _ _ _ _ _ _ c.loop-at.invariant.3 (omega (arith, leb-false)))
-    (λ w. finish_end _ _ _ _ _ _ _ _ _ _ _ c.loop-at.invariant.3 (omega arith)) c.loop-at-test.branch)
+    (elim c.loop-at-test.branch [
+      | then-loop-at-test+else-room-n-ge-LONGEST w ↦ finish_full _ _ _ _ _ _ _ _ _ _ _ c.loop-at.invariant.3 w.if-room-n-ge-LONGEST.false
+      | else-loop-at-test w ↦ finish_end _ _ _ _ _ _ _ _ _ _ _ c.loop-at.invariant.3 w.loop-at-test.false
+    ])

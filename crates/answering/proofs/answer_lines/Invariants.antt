@@ -17,7 +17,7 @@ use Rattle.answering.proofs.answer_lines.Given as goal
 
 abbrev pub invariant-loop-at : goal.invariant-loop-at
 invariant-loop-at l = (length l.rows ≡ rows_length) × (length l.path ≡ 64) × Tabled l.q l.levels l.others l.reads
-    × Going line_answer line_scan LegalSheet l.text l.initial.at l.room (sheet_of l.initial.q l.initial.formulas l.initial.values) l.initial.t l.initial.out l.out (record { next = l.at; state = sheet_of l.q l.formulas l.values; tally = l.t; written = l.n; l.worked = l.worked })
+    × Going line_answer line_scan LegalSheet l.text l.initial.at l.room (sheet_of l.initial.q l.initial.formulas l.initial.values) l.initial.t l.initial.out l.out (record { next = l.at; state = sheet_of l.q l.formulas l.values; tally = l.t; written = l.n; worked = l.worked })
     × (l.shown ≡ l.reads) × Kept l.q.size l.reads l.readers l.down
 
 abbrev pub decreases-loop-at : goal.decreases-loop-at

@@ -5,4 +5,4 @@ use Rattle.answering.proofs.lines_from.Goals as goal
 pub returns : goal.returns
 returns c =
     let a = c.answer_lines.ensures in
-    (a.0, resumed _ _ _ _ _ _ _ _ _ _ _ a.0 a.1)
+    record { ran_from = a.0; resumed = resumed _ _ _ _ _ _ _ _ _ _ _ a.0 a.1 }

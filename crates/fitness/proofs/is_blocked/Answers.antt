@@ -11,14 +11,14 @@ strengths-requires c = (panel_acyclic c.args.p c.requires.0 _ _ _ c.requires.1, 
 
 pub returns-in-Nothing : goal.returns-in-Nothing
 returns-in-Nothing c =
-    found_none c.args.p c.requires.0 _ _ _ c.requires.1 _ _ c.strengths.ensures.0 c.find_blocked-found.result c.find_blocked-found.ensures c.enum_told-1.given.1
+    found_none c.args.p c.requires.0 _ _ _ c.requires.1 _ _ c.strengths.ensures.table_after c.find_blocked-found.result c.find_blocked-found.ensures c.in-Nothing.is
 
 pub returns-in-Link : goal.returns-in-Link
 returns-in-Link c =
-    found_some c.args.p c.requires.0 _ _ _ c.requires.1 _ _ c.strengths.ensures.0 c.find_blocked-found.result c.find_blocked-found.ensures
-    (ap (λ b. is_some (found_of b)) c.enum_told-in-Link-1.given.1)
+    found_some c.args.p c.requires.0 _ _ _ c.requires.1 _ _ c.strengths.ensures.table_after c.find_blocked-found.result c.find_blocked-found.ensures
+    (ap (λ b. is_some (found_of b)) c.in-Link.is)
 
 pub returns-in-Stay : goal.returns-in-Stay
 returns-in-Stay c =
-    found_some c.args.p c.requires.0 _ _ _ c.requires.1 _ _ c.strengths.ensures.0 c.find_blocked-found.result c.find_blocked-found.ensures
-    (ap (λ b. is_some (found_of b)) c.enum_told-in-Stay-1.given.1)
+    found_some c.args.p c.requires.0 _ _ _ c.requires.1 _ _ c.strengths.ensures.table_after c.find_blocked-found.result c.find_blocked-found.ensures
+    (ap (λ b. is_some (found_of b)) c.in-Stay.is)

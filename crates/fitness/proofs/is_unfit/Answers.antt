@@ -5,14 +5,15 @@ use Rattle.panel.specs.Solution.{is_looped}
 use Rattle.images.specs.Reading.{is_short}
 use Rattle.fitness.proofs.Fitting.{formed_places, formed_among, looped, loopless, fit_legal, unfit_by_short, unfit_by_loop, unfit_by_scan}
 use Rattle.fitness.proofs.is_unfit.Goals as goal
+use Rattle.fitness.proofs.is_unfit.Goals.{Else-is_short, Else-order-p}
 
 -- ---- the places: no required link waits, the tables are filled, the plan is made
 
 -- no required link waits, and there is no loop
-none-short : (c : goal.Else-is_short) → false ≡ is_short c.args.s.panel
+none-short : (c : Else-is_short) → false ≡ is_short c.args.s.panel
 none-short c = sym c.if-is_short.false ∙ c.is_short.ensures
 
-no_loop : (c : goal.Else-order-p) → is_looped c.args.s.panel ≡ false
+no_loop : (c : Else-order-p) → is_looped c.args.s.panel ≡ false
 no_loop c =
     loopless c.args.s c.requires _ _ _ c.fill_tables.ensures c.order.result c.order.ensures.0 c.if-order-p.false
 

@@ -1,7 +1,6 @@
 -- `frames::read_frame` meets its contract. Bytes that do not fit their kind are refused (`unfit_read`); so are field bytes with bit 6 set
 -- (`bit6_read`). Else a kind of one or two bytes has its first bytes (`exact_read`), a longer one all of them (`long_read`); another kind would not
 -- have fitted (`fits_other`). Assumes nothing.
-use borrow.Author.Tests.{not-true, not-false}
 use mathlib.Core.Path.{◌≡◌, refl, sym, ap, ◌∙◌}
 use mathlib.Core.Bool.{true, false, ◌&&◌}
 use mathlib.Core.Logic.{inl, inr}
@@ -14,39 +13,38 @@ use native.Mathlib.Omega.{arith}
 use Rattle.fieldset.specs.Tables.{at}
 use Rattle.frames.specs.Frames.{fits_kind, has_fields, checked_frame}
 use Rattle.frames.proofs.Reading.{fits_other, fits_short, fits_at, long_link, long_value, long_formula, unfit_read, bit6_read, exact_read, long_read}
+use borrow.Author.Rules.{rules}
 use Rattle.frames.proofs.read_frame.Goals as goal
-use Rattle.frames.proofs.read_frame.Goals.{else-has_fields, then-has_fields}
+use Rattle.frames.proofs.read_frame.Goals.{Else-not-fits_kind, Joined-has_fields, else-has_fields, then-has_fields+else-has_bit6}
 
 -- ---- the places: the kind is looked at, its length fits, and of field bytes bit 6 is looked for
 
 -- the length fits the kind
-fits : (c : goal.Else-not-fits_kind) → let s = c.args in fits_kind (at s.frame.now 0) (at s.frame.now 2) s.n ≡ true
-fits c = sym c.fits_kind.ensures ∙ not-false _ c.if-not-fits_kind.false
+fits : (c : Else-not-fits_kind) → let s = c.args in fits_kind (at s.frame.now 0) (at s.frame.now 2) s.n ≡ true
+fits c = sym c.fits_kind.ensures ∙ c.if-not-fits_kind.false
 
 -- where the match begins, no field byte has bit 6 set
-low : (c : goal.Joined-has_fields) → let s = c.args in (k : ℕ) → at s.frame.now 0 ≡ k → has_fields k && any_of has_bit6 (drop 3 (take s.n s.frame.now)) ≡ false
+low : (c : Joined-has_fields) → let s = c.args in (k : ℕ) → at s.frame.now 0 ≡ k → has_fields k && any_of has_bit6 (drop 3 (take s.n s.frame.now)) ≡ false
 low c k kind =
     let has : c.has_fields.result ≡ has_fields k = c.has_fields.ensures ∙ ap has_fields kind in
-    elim c.if-has_fields.branch [ then-has_fields w ↦ rw (sym has ∙ w.0.true) (sym w.1.ensures ∙ w.2.false) | else-has_fields w ↦ rw (sym has ∙ w.false) refl ]
+    elim c.if-has_fields.branch [ then-has_fields+else-has_bit6 w ↦ rw (sym has ∙ w.if-has_fields.true) (sym w.has_bit6.ensures ∙ w.if-has_bit6.false) | else-has_fields w ↦ rw (sym has ∙ w.if-has_fields.false) refl ]
 
 -- a kind with one length
-exactly : (c : goal.Joined-has_fields) → let s = c.args in (k : ℕ) → at s.frame.now 0 ≡ k → (m : ℕ) → fits_kind k (at s.frame.now 2) s.n ≡ eqb s.n m → take m (k ∷ at s.frame.now 1 ∷ at s.frame.now 2 ∷ drop 3 s.frame.now) ≡ checked_frame (take s.n s.frame.now)
+exactly : (c : Joined-has_fields) → let s = c.args in (k : ℕ) → at s.frame.now 0 ≡ k → (m : ℕ) → fits_kind k (at s.frame.now 2) s.n ≡ eqb s.n m → take m (k ∷ at s.frame.now 1 ∷ at s.frame.now 2 ∷ drop 3 s.frame.now) ≡ checked_frame (take s.n s.frame.now)
 exactly c k kind m one =
-    let fits : (let s = c.args in fits_kind (at s.frame.now 0) (at s.frame.now 2) s.n ≡ true) = sym c.fits_kind.ensures ∙ not-false _ c.if-not-fits_kind.false in
-    exact_read c.args.frame.now c.args.n c.requires k kind (fits) m one (low c k kind)
+    exact_read c.args.frame.now c.args.n c.requires k kind (sym c.fits_kind.ensures ∙ c.if-not-fits_kind.false) m one (low c k kind)
 
 -- a kind with two values and further bytes, which is long enough
-further : (c : goal.Joined-has_fields) → let s = c.args in (k : ℕ) → at s.frame.now 0 ≡ k → ((form n : ℕ) → fits_kind k form n ≡ true → 4 ≤ n) → k ∷ at s.frame.now 1 ∷ at s.frame.now 2 ∷ drop 3 (take s.n s.frame.now) ≡ checked_frame (take s.n s.frame.now)
+further : (c : Joined-has_fields) → let s = c.args in (k : ℕ) → at s.frame.now 0 ≡ k → ((form n : ℕ) → fits_kind k form n ≡ true → 4 ≤ n) → k ∷ at s.frame.now 1 ∷ at s.frame.now 2 ∷ drop 3 (take s.n s.frame.now) ≡ checked_frame (take s.n s.frame.now)
 further c k kind long =
-    let fits : (let s = c.args in fits_kind (at s.frame.now 0) (at s.frame.now 2) s.n ≡ true) = sym c.fits_kind.ensures ∙ not-false _ c.if-not-fits_kind.false in
-    let f = fits in
+    let f = sym c.fits_kind.ensures ∙ c.if-not-fits_kind.false in
     long_read c.args.frame.now c.args.n c.requires k kind f (long _ _ (fits_at k _ _ _ kind ∙ f)) (low c k kind)
 
 -- ---- the needs
 
 pub returns-then-not-fits_kind : goal.returns-then-not-fits_kind
 returns-then-not-fits_kind c =
-    unfit_read c.args.frame.now c.args.n c.requires (sym c.fits_kind.ensures ∙ not-true _ c.if-not-fits_kind.true)
+    unfit_read c.args.frame.now c.args.n c.requires (sym c.fits_kind.ensures ∙ c.if-not-fits_kind.true)
 
 pub has_bit6-requires : goal.has_bit6-requires
 has_bit6-requires c =
@@ -59,33 +57,33 @@ returns-then-has_bit6 c =
 
 pub returns-in-1 : goal.returns-in-1
 unfolding fits_kind
-returns-in-1 c = exactly (goal.at.returns-in-1 c).Joined-has_fields 0x01 c.in_default.keys1 2 refl
+returns-in-1 c = exactly (goal.at.returns-in-1 c).Joined-has_fields 0x01 c.in-1.is 2 refl
 
 pub returns-in-2 : goal.returns-in-2
 returns-in-2 c =
-    further (goal.at.returns-in-2 c).Joined-has_fields 0x02 c.in_default.keys2 (long_link 0x02 (inl refl))
+    further (goal.at.returns-in-2 c).Joined-has_fields 0x02 c.in-2.is (long_link 0x02 (inl refl))
 
 pub returns-in-3 : goal.returns-in-3
 unfolding fits_kind
-returns-in-3 c = exactly (goal.at.returns-in-3 c).Joined-has_fields 0x03 c.in_default.keys3 2 refl
+returns-in-3 c = exactly (goal.at.returns-in-3 c).Joined-has_fields 0x03 c.in-3.is 2 refl
 
 pub returns-in-4 : goal.returns-in-4
 unfolding fits_kind
-returns-in-4 c = exactly (goal.at.returns-in-4 c).Joined-has_fields 0x04 c.in_default.keys4 2 refl
+returns-in-4 c = exactly (goal.at.returns-in-4 c).Joined-has_fields 0x04 c.in-4.is 2 refl
 
 pub returns-in-5 : goal.returns-in-5
 unfolding fits_kind
-returns-in-5 c = exactly (goal.at.returns-in-5 c).Joined-has_fields 0x05 c.in_default.keys5 1 refl
+returns-in-5 c = exactly (goal.at.returns-in-5 c).Joined-has_fields 0x05 c.in-5.is 1 refl
 
 pub returns-in-6 : goal.returns-in-6
 returns-in-6 c =
-    further (goal.at.returns-in-6 c).Joined-has_fields 0x06 c.in_default.keys6 (long_link 0x06 (inr refl))
+    further (goal.at.returns-in-6 c).Joined-has_fields 0x06 c.in-6.is (long_link 0x06 (inr refl))
 
 pub returns-in-7 : goal.returns-in-7
-returns-in-7 c = further (goal.at.returns-in-7 c).Joined-has_fields 0x07 c.in_default.keys7 long_value
+returns-in-7 c = further (goal.at.returns-in-7 c).Joined-has_fields 0x07 c.in-7.is long_value
 
 pub returns-in-8 : goal.returns-in-8
-returns-in-8 c = further (goal.at.returns-in-8 c).Joined-has_fields 0x08 c.in_default.keys8 long_formula
+returns-in-8 c = further (goal.at.returns-in-8 c).Joined-has_fields 0x08 c.in-8.is long_formula
 
 pub returns-in_default : goal.returns-in_default
-returns-in_default c = unfit_read c.args.frame.now c.args.n c.requires (sym (fits_other _ _ _ c.in_default.rest))
+returns-in_default c = unfit_read c.args.frame.now c.args.n c.requires (sym (fits_other _ _ _ (search rules)))

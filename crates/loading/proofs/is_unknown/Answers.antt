@@ -13,14 +13,14 @@ slice_bounds-decode-end c = sym (length-take-le 4 c.args.text.now c.if-text-lt4.
 
 pub returns-in-BadHex : goal.returns-in-BadHex
 returns-in-BadHex c =
-    bad_known c.args.text.now c.if-text-lt4.false c.decode-d.result c.decode-d.ensures.0 c.enum_told-1.given.0.0 c.enum_told-1.given.1
+    bad_known c.args.text.now c.if-text-lt4.false c.decode-d.result c.decode-d.ensures.result_value _ c.in-BadHex.is
 
 pub returns-then-frame-eq10 : goal.returns-then-frame-eq10
 returns-then-frame-eq10 c =
-    version_known c.args.text.now c.if-text-lt4.false c.decode-d.result c.decode-d.ensures.0 c.enum_told-in-Frame-1.given.0.0
-    c.enum_told-in-Frame-1.given.1 _ _ refl c.decode-d.ensures.1 c.if-frame-eq10.true
+    version_known c.args.text.now c.if-text-lt4.false c.decode-d.result c.decode-d.ensures.result_value _
+    c.in-Frame.is _ _ refl c.decode-d.ensures.frame_after c.if-frame-eq10.true
 
 pub returns-else-frame-eq10 : goal.returns-else-frame-eq10
 returns-else-frame-eq10 c =
-    other_known c.args.text.now c.if-text-lt4.false c.decode-d.result c.decode-d.ensures.0 c.enum_told-in-Frame-1.given.0.0
-    c.enum_told-in-Frame-1.given.1 _ _ refl c.decode-d.ensures.1 _ refl (ne_eqb _ 10 c.if-frame-eq10.false)
+    other_known c.args.text.now c.if-text-lt4.false c.decode-d.result c.decode-d.ensures.result_value _
+    c.in-Frame.is _ _ refl c.decode-d.ensures.frame_after _ refl (ne_eqb _ 10 c.if-frame-eq10.false)

@@ -5,16 +5,17 @@ use Rattle.frames.specs.Texts.{is_too_long}
 use Rattle.images.specs.Reading.{is_unknown, is_bad}
 use Rattle.loading.proofs.Loading.{too_long, already_open_lem, unknown, bad, taken_formed, unfit, taken}
 use Rattle.loading.proofs.load.Goals as goal
+use Rattle.loading.proofs.load.Goals.{Else-is_bad, Else-is_too_long, Else-is_unknown}
 
 -- ---- the places, and what is known there
 
-short : (c : goal.Else-is_too_long) → is_too_long c.args.text.now ≡ false
+short : (c : Else-is_too_long) → is_too_long c.args.text.now ≡ false
 short c = sym c.is_too_long.ensures ∙ c.if-is_too_long.false
 
-known : (c : goal.Else-is_unknown) → is_unknown c.args.text.now ≡ false
+known : (c : Else-is_unknown) → is_unknown c.args.text.now ≡ false
 known c = sym c.is_unknown.ensures ∙ c.if-is_unknown.false
 
-good : (c : goal.Else-is_bad) → is_bad c.args.text.now ≡ false
+good : (c : Else-is_bad) → is_bad c.args.text.now ≡ false
 good c = sym c.is_bad.ensures ∙ c.if-is_bad.false
 
 -- ---- the needs
@@ -40,20 +41,20 @@ is_bad-requires c = c.read_lines-c.ensures
 pub returns-then-is_bad : goal.returns-then-is_bad
 returns-then-is_bad c =
     let s = c.args in
-    c.refused-then-is_bad.ensures ∙ bad s.s s.text.now (short (goal.at.returns-then-is_bad c).Else-is_too_long) c.if-p-gt0.left (known (goal.at.returns-then-is_bad c).Else-is_unknown) (sym c.is_bad.ensures ∙ c.if-is_bad.true)
+    c.refused-then-is_bad.ensures ∙ bad s.s s.text.now (short (goal.at.returns-then-is_bad c).Else-is_too_long) c.if-p-gt0.false (known (goal.at.returns-then-is_bad c).Else-is_unknown) (sym c.is_bad.ensures ∙ c.if-is_bad.true)
 
 pub is_unfit-requires : goal.is_unfit-requires
 is_unfit-requires c =
     let s = c.args in
-    taken_formed s.s s.text.now (short (goal.at.is_unfit-requires c).Else-is_too_long) c.if-p-gt0.left (known (goal.at.is_unfit-requires c).Else-is_unknown) (good (goal.at.is_unfit-requires c).Else-is_bad) _ c.read_lines-c.ensures.0
+    taken_formed s.s s.text.now (short (goal.at.is_unfit-requires c).Else-is_too_long) c.if-p-gt0.false (known (goal.at.is_unfit-requires c).Else-is_unknown) (good (goal.at.is_unfit-requires c).Else-is_bad) _ c.read_lines-c.ensures.0
 
 pub returns-then-is_unfit : goal.returns-then-is_unfit
 returns-then-is_unfit c =
     let s = c.args in
     c.refused-then-is_unfit.ensures
-    ∙ unfit s.s s.text.now (short (goal.at.returns-then-is_unfit c).Else-is_too_long) c.if-p-gt0.left (known (goal.at.returns-then-is_unfit c).Else-is_unknown) (good (goal.at.returns-then-is_unfit c).Else-is_bad) _ c.read_lines-c.ensures.0 (sym c.is_unfit.ensures ∙ c.if-is_unfit.true)
+    ∙ unfit s.s s.text.now (short (goal.at.returns-then-is_unfit c).Else-is_too_long) c.if-p-gt0.false (known (goal.at.returns-then-is_unfit c).Else-is_unknown) (good (goal.at.returns-then-is_unfit c).Else-is_bad) _ c.read_lines-c.ensures.0 (sym c.is_unfit.ensures ∙ c.if-is_unfit.true)
 
 pub returns : goal.returns
 returns c =
     let s = c.args in
-    taken s.s s.text.now (short (goal.at.returns c).Else-is_too_long) c.if-p-gt0.left (known (goal.at.returns c).Else-is_unknown) (good (goal.at.returns c).Else-is_bad) _ c.read_lines-c.ensures.0 (sym c.is_unfit.ensures ∙ c.if-is_unfit.false)
+    taken s.s s.text.now (short (goal.at.returns c).Else-is_too_long) c.if-p-gt0.false (known (goal.at.returns c).Else-is_unknown) (good (goal.at.returns c).Else-is_bad) _ c.read_lines-c.ensures.0 (sym c.is_unfit.ensures ∙ c.if-is_unfit.false)

@@ -6,4 +6,4 @@ use Rattle.parsing.proofs.Entries.{set_past}
 use Rattle.parsing.proofs.put_link.Goals as goal
 
 pub returns-else-id-lt128 : goal.returns-else-id-lt128
-returns-else-id-lt128 c = let a = c.args in ap (with_links a.t1) (set_past a.t1.links a.id a.l (omega (arith, c.requires)))
+returns-else-id-lt128 c = let a = c.args in ap (with_links a.p) (set_past a.p.links a.id a.l (omega (arith, c.requires)))

@@ -37,8 +37,5 @@ overflow_cast-k c = omega (arith, (placing_digits c.loop-k.invariant (search rul
 pub loop-k-preserved : goal.loop-k-preserved
 loop-k-preserved c = placing_on c.loop-k.invariant _ _ (search rules) (c.wide-f.ensures ∙ c.byte.ensures) c.store.ensures
 
-pub shape_of-place : goal.shape_of-place
-shape_of-place c = c.loop-k.invariant.long
-
 pub returns : goal.returns
 returns c = placing_all c.loop-k.invariant (search rules)

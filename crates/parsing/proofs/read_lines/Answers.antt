@@ -5,9 +5,10 @@ use Rattle.lines.proofs.Lines.{end_within}
 use Rattle.parsing.proofs.Entries.{entering_none, next_less, entering_on, entering_all}
 use borrow.Author.Rules.{rules}
 use Rattle.parsing.proofs.read_lines.Goals as goal
+use Rattle.parsing.proofs.read_lines.Goals.{After-line_end-end}
 
 -- the line that ends here is in the text
-line_within : (c : goal.After-line_end-end) → (c.loop-from.from ≤ c.line_end-end.result) × (c.line_end-end.result ≤ length c.args.text.now)
+line_within : (c : After-line_end-end) → (c.loop-from.from ≤ c.line_end-end.result) × (c.line_end-end.result ≤ length c.args.text.now)
 line_within c = (omega (arith, c.line_end-end.ensures), end_within _ _ _ (search rules) c.line_end-end.ensures)
 
 pub loop-from-init : goal.loop-from-init
@@ -16,11 +17,11 @@ loop-from-init c = entering_none _ _ c.unopened-s.ensures.0
 pub slice_bounds-enter-count : goal.slice_bounds-enter-count
 slice_bounds-enter-count c = omega (arith, c.line_end-end.ensures)
 
-pub TODO-slice-bounds-enter-start : goal.TODO-slice-bounds-enter-start
-TODO-slice-bounds-enter-start c = let h = line_within (goal.at.TODO-slice-bounds-enter-start c).After-line_end-end in search rules
+pub slice_bounds-enter-start : goal.slice_bounds-enter-start
+slice_bounds-enter-start c = let h = line_within (goal.at.slice_bounds-enter-start c).After-line_end-end in search rules
 
-pub TODO-slice-bounds-enter-end : goal.TODO-slice-bounds-enter-end
-TODO-slice-bounds-enter-end c = let h = line_within (goal.at.TODO-slice-bounds-enter-end c).After-line_end-end in search rules
+pub slice_bounds-enter-end : goal.slice_bounds-enter-end
+slice_bounds-enter-end c = let h = line_within (goal.at.slice_bounds-enter-end c).After-line_end-end in search rules
 
 pub enter-s-requires : goal.enter-s-requires
 enter-s-requires c = c.loop-from.invariant.full

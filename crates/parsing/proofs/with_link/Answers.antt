@@ -6,5 +6,5 @@ use Rattle.parsing.proofs.with_link.Goals as goal
 pub returns : goal.returns
 returns c =
     let a = c.args in
-    linked a.p _ _ _ a.t2 (field_part a.t2 a.n) _ _
+    linked a.p _ _ _ a.frame (field_part a.frame a.n) _ _
     c.link_of-l.ensures c.wide.ensures c.put_link-q.ensures c.wide-2.ensures c.put_setter.ensures

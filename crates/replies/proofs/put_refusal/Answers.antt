@@ -6,20 +6,19 @@ use Prim.Native.Nat.{ℕ, ◌+◌, ◌-◌}
 use native.Mathlib.Omega.{arith}
 use lib.ListN.{length, take, drop, length-take}
 use lib.Seq.{sets, length-take-le}
+use Rattle.panel.specs.declared.Refusal.{Refusal}
 use Rattle.panel.specs.Answers.{refusal_bytes}
 use Rattle.panel.proofs.Answers.{refusal_length}
 use Rattle.hexadecimal.specs.Hex.{line_of}
 use Rattle.hexadecimal.proofs.Bytes.{length_line}
+use Rattle.replies.specs.declared.RefusalBytes.{RefusalBytes}
+use Rattle.replies.specs.Replies.{buffered}
 use Rattle.replies.proofs.Replies.{refusal_within, refusal_all, refusal_parts}
 use Rattle.replies.proofs.put_refusal.Goals as goal
 
--- ---- the places: the refusal's bytes are made, and their line is written
-
 -- as many bytes as the refusal has, at least its number
-all-length : (m : goal.After-refusal_bytes-told) → let b = m.refusal_bytes-told.result in length (take b.len b.bytes) ≡ length (refusal_bytes m.args.r)
-all-length m = let b = m.refusal_bytes-told in ap length (refusal_all m.args.r b.result b.ensures)
-
--- ---- the needs
+all_length : (r : Refusal) (b : RefusalBytes) → b ≡ buffered (refusal_bytes r) → length (take b.len b.bytes) ≡ length (refusal_bytes r)
+all_length r b e = ap length (refusal_all r b e)
 
 pub slice_bounds-bytes-end : goal.slice_bounds-bytes-end
 slice_bounds-bytes-end c = refusal_within c.args.r c.refusal_bytes-told.result c.refusal_bytes-told.ensures
@@ -30,11 +29,11 @@ slice_bounds-all-end c =
 
 pub slice_bounds-put_line-count : goal.slice_bounds-put_line-count
 slice_bounds-put_line-count c =
-    omega (arith, all-length (goal.at.slice_bounds-put_line-count c).After-refusal_bytes-told, (refusal_length c.args.r).0)
+    omega (arith, all_length c.args.r c.refusal_bytes-told.result c.refusal_bytes-told.ensures, (refusal_length c.args.r).0)
 
-pub TODO-slice-bounds-put-line-start : goal.TODO-slice-bounds-put-line-start
-TODO-slice-bounds-put-line-start c =
-    omega (arith, all-length (goal.at.TODO-slice-bounds-put-line-start c).After-refusal_bytes-told, (refusal_length c.args.r).0)
+pub slice_bounds-put_line-start : goal.slice_bounds-put_line-start
+slice_bounds-put_line-start c =
+    omega (arith, all_length c.args.r c.refusal_bytes-told.result c.refusal_bytes-told.ensures, (refusal_length c.args.r).0)
 
 pub put_line-requires : goal.put_line-requires
 put_line-requires c =
@@ -43,15 +42,18 @@ put_line-requires c =
     omega (
       arith,
       c.requires,
-      all-length (goal.at.put_line-requires c).After-refusal_bytes-told,
+      all_length c.args.r b c.refusal_bytes-told.ensures,
       (refusal_length c.args.r).0,
       length_line (0xFF ∷ refusal_bytes c.args.r),
       length-take (length all - 1) (drop 1 all),
     )
 
-pub returns : goal.returns
-returns c =
-    let w = c.put_line.ensures in
+pub returns-clause-out_after : goal.returns-clause-out_after
+returns-clause-out_after c =
     let s = c.args in
-    let e = ap (λ (b : List ℕ). 0xFF ∷ b) (refusal_parts s.r _ c.refusal_bytes-told.ensures) in
-    (w.0 ∙ ap (λ (b : List ℕ). sets s.out.now s.at (line_of b)) e, w.1 ∙ ap (λ (b : List ℕ). s.at + length (line_of b)) e)
+    c.put_line.ensures.out_after ∙ ap (λ (b : List ℕ). sets s.out.now s.at (line_of (0xFF ∷ b))) (refusal_parts s.r _ c.refusal_bytes-told.ensures)
+
+pub returns-clause-value : goal.returns-clause-value
+returns-clause-value c =
+    let s = c.args in
+    c.put_line.ensures.value ∙ ap (λ (b : List ℕ). s.at + length (line_of (0xFF ∷ b))) (refusal_parts s.r _ c.refusal_bytes-told.ensures)

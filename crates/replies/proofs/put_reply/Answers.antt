@@ -7,60 +7,66 @@ use Prim.Native.Nat.{ℕ, ◌+◌}
 use native.Mathlib.Omega.{arith}
 use lib.ListN.{length, take}
 use lib.Seq.{sets, length-take-le}
+use Rattle.panel.specs.declared.Reply.{Reply}
+use Rattle.panel.specs.declared.Reply.TheVariants.{Accepted}
 use Rattle.panel.specs.Answers.{refusal_bytes}
+use Rattle.frames.specs.declared.Command.{Command}
 use Rattle.hexadecimal.specs.Hex.{line_of}
 use Rattle.hexadecimal.proofs.Bytes.{length_line}
 use Rattle.replies.specs.Replies.{rest_of, whole_reply}
 use Rattle.replies.proofs.Replies.{accepted_whole, refused_whole}
 use Rattle.replies.proofs.put_reply.Goals as goal
 
--- ---- the places: an accepted command, the bytes of whose rows are counted; a refused one
-
--- the bytes of the rows are counted
-counted : (a : goal.After-rest_of-count) → let s = a.args in a.rest_of-count.result ≡ rest_of s.command s.reply
-counted a = let s = a.args in a.rest_of-count.ensures ∙ ap (rest_of s.command) (sym a.reply-1.given.1)
-
--- the bytes that are written are the reply
-is-accepted : (a : goal.After-rest_of-count) → let s = a.args in 0x00 ∷ a.reply-1.given.0.0 ∷ take a.rest_of-count.result s.rows.now ≡ whole_reply s.command s.reply s.rows.now
-is-accepted a =
-    let s = a.args in
-    let m = a.reply-1.given in
-    ap (λ (n : ℕ). 0x00 ∷ m.0.0 ∷ take n s.rows.now) (counted a) ∙ accepted_whole s.command s.reply m.0.0 s.rows.now m.1
-
-is-refused : (k : goal.In-Refused) → let s = k.args in 0xFF ∷ refusal_bytes k.reply-in-Refused-1.given.0.0 ≡ whole_reply s.command s.reply s.rows.now
-is-refused k =
-    let s = k.args in
-    let x = k.reply-in-Refused-1.given in
-    refused_whole s.command s.reply x.0.0 s.rows.now x.1
-
--- ---- the needs
+-- the bytes of the rows are counted, and those that are written are the reply
+is_accepted : (command : Command) (reply : Reply) (rows : List ℕ) (m n : ℕ) → reply ≡ Accepted m → n ≡ rest_of command reply → 0x00 ∷ m ∷ take n rows ≡ whole_reply command reply rows
+is_accepted command reply rows m n is counted =
+    ap (λ (n : ℕ). 0x00 ∷ m ∷ take n rows) counted ∙ accepted_whole command reply m rows is
 
 pub slice_bounds-put_line-end : goal.slice_bounds-put_line-end
 slice_bounds-put_line-end c =
-    sym (length-take-le _ _ (omega (arith, counted (goal.at.slice_bounds-put_line-end c).After-rest_of-count, c.requires.0)))
+    let s = c.args in
+    let counted = c.rest_of-count.ensures ∙ ap (rest_of s.command) (sym c.in-Accepted.is) in
+    sym (length-take-le _ _ (omega (arith, counted, c.requires.0)))
 
 pub put_line-requires : goal.put_line-requires
 put_line-requires c =
-    let rest : List ℕ = take c.rest_of-count.result c.args.rows.now in
+    let s = c.args in
+    let counted = c.rest_of-count.ensures ∙ ap (rest_of s.command) (sym c.in-Accepted.is) in
+    let rest : List ℕ = take c.rest_of-count.result s.rows.now in
     omega (
       arith,
       c.requires.1,
-      ap (λ (b : List ℕ). length (line_of b)) (is-accepted (goal.at.put_line-requires c).After-rest_of-count),
-      length_line (0x00 ∷ c.reply-1.given.0.0 ∷ rest),
+      ap (λ (b : List ℕ). length (line_of b)) (is_accepted s.command s.reply s.rows.now c.in-Accepted.m _ c.in-Accepted.is counted),
+      length_line (0x00 ∷ c.in-Accepted.m ∷ rest),
     )
 
 pub put_refusal-requires : goal.put_refusal-requires
 put_refusal-requires c =
-    omega (arith, c.requires.1, ap (λ (b : List ℕ). length (line_of b)) (is-refused (goal.at.put_refusal-requires c).In-Refused))
-
-pub returns-in-Accepted : goal.returns-in-Accepted
-returns-in-Accepted c =
     let s = c.args in
-    let e = is-accepted (goal.at.returns-in-Accepted c).After-rest_of-count in
-    (c.put_line.ensures.0 ∙ ap (λ (b : List ℕ). sets s.out.now s.at (line_of b)) e, c.put_line.ensures.1 ∙ ap (λ (b : List ℕ). s.at + length (line_of b)) e)
+    omega (arith, c.requires.1, ap (λ (b : List ℕ). length (line_of b)) (refused_whole s.command s.reply c.in-Refused.r s.rows.now c.in-Refused.is))
 
-pub returns-in-Refused : goal.returns-in-Refused
-returns-in-Refused c =
+pub returns-in-Accepted-clause-out_after : goal.returns-in-Accepted-clause-out_after
+returns-in-Accepted-clause-out_after c =
     let s = c.args in
-    let e = is-refused (goal.at.returns-in-Refused c).In-Refused in
-    (c.put_refusal.ensures.0 ∙ ap (λ (b : List ℕ). sets s.out.now s.at (line_of b)) e, c.put_refusal.ensures.1 ∙ ap (λ (b : List ℕ). s.at + length (line_of b)) e)
+    let counted = c.rest_of-count.ensures ∙ ap (rest_of s.command) (sym c.in-Accepted.is) in
+    c.put_line.ensures.out_after
+    ∙ ap (λ (b : List ℕ). sets s.out.now s.at (line_of b)) (is_accepted s.command s.reply s.rows.now c.in-Accepted.m _ c.in-Accepted.is counted)
+
+pub returns-in-Accepted-clause-value : goal.returns-in-Accepted-clause-value
+returns-in-Accepted-clause-value c =
+    let s = c.args in
+    let counted = c.rest_of-count.ensures ∙ ap (rest_of s.command) (sym c.in-Accepted.is) in
+    c.put_line.ensures.value
+    ∙ ap (λ (b : List ℕ). s.at + length (line_of b)) (is_accepted s.command s.reply s.rows.now c.in-Accepted.m _ c.in-Accepted.is counted)
+
+pub returns-in-Refused-clause-out_after : goal.returns-in-Refused-clause-out_after
+returns-in-Refused-clause-out_after c =
+    let s = c.args in
+    c.put_refusal.ensures.out_after
+    ∙ ap (λ (b : List ℕ). sets s.out.now s.at (line_of b)) (refused_whole s.command s.reply c.in-Refused.r s.rows.now c.in-Refused.is)
+
+pub returns-in-Refused-clause-value : goal.returns-in-Refused-clause-value
+returns-in-Refused-clause-value c =
+    let s = c.args in
+    c.put_refusal.ensures.value
+    ∙ ap (λ (b : List ℕ). s.at + length (line_of b)) (refused_whole s.command s.reply c.in-Refused.r s.rows.now c.in-Refused.is)

@@ -8,9 +8,8 @@ use Rattle.replies.proofs.Replies.{accepted_tells, refused_tells}
 use Rattle.replies.proofs.refusal_of.Goals as goal
 
 pub returns-in-Accepted : goal.returns-in-Accepted
-returns-in-Accepted c = accepted_tells _ ∙ sym (ap (λ (r : Reply). refusal_of (reply_bytes r)) c.enum_told-1.given.1)
+returns-in-Accepted c = accepted_tells _ ∙ sym (ap (λ (r : Reply). refusal_of (reply_bytes r)) c.in-Accepted.is)
 
 pub returns-in-Refused : goal.returns-in-Refused
 returns-in-Refused c =
-    let r = c.reply-1.given in
-    refused_tells r.0.0 _ c.refusal_bytes-told.ensures ∙ sym (ap (λ (r : Reply). refusal_of (reply_bytes r)) r.1)
+    refused_tells c.in-Refused.r _ c.refusal_bytes-told.ensures ∙ sym (ap (λ (r : Reply). refusal_of (reply_bytes r)) c.in-Refused.is)

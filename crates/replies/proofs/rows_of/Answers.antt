@@ -7,4 +7,4 @@ use Rattle.replies.proofs.rows_of.Goals as goal
 
 pub returns-in-Accepted : goal.returns-in-Accepted
 returns-in-Accepted c =
-    let e : 3 * c.wide.result ≡ 3 * c.reply-1.given.0.0 = omega (arith, c.wide.ensures) in e ∙ sym (ap plan_rest c.reply-1.given.1)
+    let e : 3 * c.wide.result ≡ 3 * c.in-Accepted.n = omega (arith, c.wide.ensures) in e ∙ sym (ap plan_rest c.in-Accepted.is)

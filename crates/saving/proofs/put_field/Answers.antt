@@ -3,9 +3,6 @@ use mathlib.Core.Path.{sym, ◌∙◌}
 use Rattle.saving.proofs.Writing.{wrote_as, wrote_length, field_in, field_out}
 use Rattle.saving.proofs.put_field.Goals as goal
 
-pub shape_of-out : goal.shape_of-out
-shape_of-out c = wrote_length c.put_byte.ensures
-
 pub returns-then-member : goal.returns-then-member
 returns-then-member c =
     wrote_as (field_in _ _ _ _ (sym c.member.ensures ∙ c.if-member.true) c.field_byte.ensures) c.put_byte.ensures

@@ -10,9 +10,6 @@ pub loop-f-preserved : goal.loop-f-preserved
 loop-f-preserved c =
     growing_on (digits_more _ _) (piece_short _ _ _) (search rules) c.loop-f.invariant c.put_field-q.ensures
 
-pub shape_of-out : goal.shape_of-out
-shape_of-out c = wrote_length c.loop-f.invariant.wrote
-
 pub returns : goal.returns
 unfolding field_bytes
 returns c = growing_all (search rules) c.loop-f.invariant

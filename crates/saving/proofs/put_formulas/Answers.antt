@@ -6,10 +6,7 @@ pub loop-i-init : goal.loop-i-init
 loop-i-init c = growing_none _ _ _ _ _ (lines_none _)
 
 pub loop-i-preserved : goal.loop-i-preserved
-loop-i-preserved c = lines_on _ (formula_short c.args.t3) (search rules) c.loop-i.invariant c.put_formula-q.ensures
-
-pub shape_of-out : goal.shape_of-out
-shape_of-out c = wrote_length c.loop-i.invariant.wrote
+loop-i-preserved c = lines_on _ (formula_short c.args.formulas) (search rules) c.loop-i.invariant c.put_formula-q.ensures
 
 pub returns : goal.returns
 returns c = growing_all (search rules) c.loop-i.invariant

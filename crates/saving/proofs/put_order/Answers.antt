@@ -13,9 +13,5 @@ pub loop-p-preserved : goal.loop-p-preserved
 loop-p-preserved c =
     (growing_on (table_more _ _ _ c.field_at.ensures) (byte_short _) (search rules) c.loop-p.invariant.0 c.put_byte-q-in-loop-p.ensures, c.loop-p.invariant.1)
 
-pub shape_of-out : goal.shape_of-out
-shape_of-out c =
-    wrote_length c.put_lf.ensures ∙ wrote_length c.loop-p.invariant.0.wrote ∙ wrote_length c.put_byte-q.ensures
-
 pub returns : goal.returns
 returns c = order_written _ _ c.put_byte-q.ensures (search rules) c.loop-p.invariant.0 c.put_lf.ensures

@@ -6,4 +6,4 @@ pub returns-then-bits-eq0 : goal.returns-then-bits-eq0
 returns-then-bits-eq0 c = value_zero _ _ _ _ c.if-bits-eq0.true
 
 pub returns : goal.returns
-returns c = value_written _ _ _ _ _ _ c.if-bits-eq0.false c.put_line.ensures
+returns c = value_written _ _ _ _ _ _ c.if-bits-eq0.false (c.put_line.ensures.out_after, c.put_line.ensures.value)

@@ -6,4 +6,4 @@ pub returns-then-n-eq0 : goal.returns-then-n-eq0
 returns-then-n-eq0 c = saved_none _ _ c.if-n-eq0.true
 
 pub returns : goal.returns
-returns c = saved_text_lem _ _ _ _ c.if-n-eq0.false c.write.ensures
+returns c = saved_text_lem _ _ _ _ c.if-n-eq0.false (c.write.ensures.out_after, c.write.ensures.value)

@@ -5,7 +5,7 @@ use Rattle.panel.specs.Answers.{reply_bytes, is_refusal}
 use Rattle.sessions.proofs.is_refusal.Goals as goal
 
 pub returns-in-Accepted : goal.returns-in-Accepted
-returns-in-Accepted c = sym (ap (λ (r : Reply). is_refusal (reply_bytes r)) c.enum_told-1.given.1)
+returns-in-Accepted c = sym (ap (λ (r : Reply). is_refusal (reply_bytes r)) c.in-Accepted.is)
 
 pub returns-in-Refused : goal.returns-in-Refused
-returns-in-Refused c = sym (ap (λ (r : Reply). is_refusal (reply_bytes r)) c.enum_told-in-Refused-1.given.1)
+returns-in-Refused c = sym (ap (λ (r : Reply). is_refusal (reply_bytes r)) c.in-Refused.is)

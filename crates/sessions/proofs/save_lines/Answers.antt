@@ -9,8 +9,11 @@ use Rattle.sessions.proofs.save_lines.Goals as goal
 pub returns : goal.returns
 returns c =
     let is = c.sheet_after-s.ensures.0 in
-    let as-saved = subst (λ (x : Sheet). SavedAs x c.args.out.now c.save.new.1.0 c.save.result) is c.save.ensures in
-    (as-saved, saved_short c.args.text.now c.args.out.now c.save.new.1.0 c.requires c.save.result as-saved (subst LegalSheet is c.sheet_after-s.ensures.1))
+    let as-saved = subst (λ (x : Sheet). SavedAs x c.args.out.now c.save.new.out c.save.result) is c.save.ensures in
+    record {
+      saved_as = as-saved;
+      short = saved_short c.args.text.now c.args.out.now c.save.new.out c.requires c.save.result as-saved (subst LegalSheet is c.sheet_after-s.ensures.1);
+    }
 
 pub save-requires : goal.save-requires
 save-requires c = c.sheet_after-s.ensures.1.panel.few

@@ -9,13 +9,9 @@ use Rattle.hexadecimal.specs.Hex.{line_of}
 use Rattle.text.proofs.Whole.{tally_parts}
 use Rattle.text.proofs.put_tally.Goals as goal
 
--- ---- the places: the tally's bytes are made, and their line is written
-
--- ---- the needs
-
 pub returns : goal.returns
 returns c =
     let w = c.put_line.ensures in
     let s = c.args in
     let e = tally_parts _ _ c.tally_bytes-bytes.ensures in
-    (w.0 ∙ ap (λ (b : List ℕ). sets s.out.now s.at (line_of b)) e, w.1 ∙ ap (λ (b : List ℕ). s.at + length (line_of b)) e)
+    record { out_after = w.out_after ∙ ap (λ (b : List ℕ). sets s.out.now s.at (line_of b)) e; value = w.value ∙ ap (λ (b : List ℕ). s.at + length (line_of b)) e }

@@ -13,14 +13,10 @@ use Rattle.replies.specs.Replies.{longest}
 use Rattle.text.proofs.Whole.{tally_length_lem, too_long, whole_text}
 use Rattle.text.proofs.run_from.Goals as goal
 
--- ---- the places: the text's length is seen, and the lines are answered
-
--- ---- the needs
-
 pub returns-then-is_too_long : goal.returns-then-is_too_long
 returns-then-is_too_long c =
     let s = c.args in
-    (too_long line_answer s.text.now s.out.now s.s s.t (sym c.is_too_long.ensures ∙ c.if-is_too_long.true), tt)
+    record { told = too_long line_answer s.text.now s.out.now s.s s.t (sym c.is_too_long.ensures ∙ c.if-is_too_long.true); bounded = tt }
 
 pub answer_lines-r-requires : goal.answer_lines-r-requires
 answer_lines-r-requires c = (c.requires, omega arith)
@@ -28,9 +24,10 @@ answer_lines-r-requires c = (c.requires, omega arith)
 pub returns : goal.returns
 returns c =
     let s = c.args in
-    let short : is_too_long s.text.now ≡ false = sym c.is_too_long.ensures ∙ c.if-is_too_long.left in
-    let t = c.put_tally-n.ensures in (
-      whole_text _ _ s.text.now s.out.now _ _ s.t _ _ _ s.s _ (longest * text_limit) refl c.answer_lines-r.ensures.0
-          c.answer_lines-r.ensures.1 (omega (arith, lines_few s.text.now, ltb-false text_limit (length s.text.now) short)) t.0 t.1 short,
-      omega (arith, t.1, tally_length_lem c.answer_lines-r.result.tally, c.answer_lines-r.ensures.1.fits),
-    )
+    let short : is_too_long s.text.now ≡ false = sym c.is_too_long.ensures ∙ c.if-is_too_long.false in
+    let t = c.put_tally-n.ensures in
+    record {
+      told = whole_text _ _ s.text.now s.out.now _ _ s.t _ _ _ s.s _ (longest * text_limit) refl c.answer_lines-r.ensures.0
+          c.answer_lines-r.ensures.1 (omega (arith, lines_few s.text.now, ltb-false text_limit (length s.text.now) short)) t.out_after t.value short;
+      bounded = omega (arith, t.value, tally_length_lem c.answer_lines-r.result.tally, c.answer_lines-r.ensures.1.fits);
+    }

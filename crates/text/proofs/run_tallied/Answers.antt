@@ -8,5 +8,5 @@ use Rattle.text.proofs.run_tallied.Goals as goal
 pub returns : goal.returns
 returns c =
     let s = c.args in
-    subst (λ (x : Sheet). Told line_answer x s.t s.text.now c.run_from.result.tally s.out.now c.run_from.new.1.1.0 c.run_from.result.outcome)
-    c.unopened.ensures.0 c.run_from.ensures.0
+    subst (λ (x : Sheet). Told line_answer x s.t s.text.now c.run_from.result.tally s.out.now c.run_from.new.out c.run_from.result.outcome)
+    c.unopened.ensures.0 c.run_from.ensures.told

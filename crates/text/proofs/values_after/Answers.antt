@@ -9,7 +9,7 @@ use Rattle.text.proofs.values_after.Goals as goal
 pub returns-then-is_too_long : goal.returns-then-is_too_long
 unfolding fields_after values_after
 returns-then-is_too_long c =
-    let long = sym c.is_too_long.ensures ∙ c.if-is_too_long.true in (sym (rw long refl), sym (rw long refl))
+    let long = sym c.is_too_long.ensures ∙ c.if-is_too_long.true in record { value = sym (rw long refl); values_after = sym (rw long refl) }
 
 pub sheet_after-s-requires : goal.sheet_after-s-requires
 sheet_after-s-requires c = sym c.is_too_long.ensures ∙ c.if-is_too_long.false
@@ -18,4 +18,7 @@ pub returns : goal.returns
 unfolding fields_after values_after
 returns c =
     let short : is_too_long c.args.text.now ≡ false = sym c.is_too_long.ensures ∙ c.if-is_too_long.false in
-    (rw short (ap (λ (s : Sheet). s.panel.size) c.sheet_after-s.ensures.0), rw short (ap (λ (s : Sheet). s.values) c.sheet_after-s.ensures.0))
+    record {
+      value = rw short (ap (λ (s : Sheet). s.panel.size) c.sheet_after-s.ensures.0);
+      values_after = rw short (ap (λ (s : Sheet). s.values) c.sheet_after-s.ensures.0);
+    }

@@ -9,7 +9,7 @@ pub loop-i-preserved : goal.loop-i-preserved
 loop-i-preserved c =
     let a = c.args in
     passed_on (search rules) c.loop-i.invariant
-    (number_is a.t1 a.t2 c.loop-i.i c.is_link.ensures c.is_rule.ensures c.both.ensures) c.both-ok.ensures
+    (number_is a.p a.formulas c.loop-i.i c.is_link.ensures c.is_rule.ensures c.both.ensures) c.both-ok.ensures
 
 pub returns : goal.returns
 returns c = passed_all (search rules) c.loop-i.invariant

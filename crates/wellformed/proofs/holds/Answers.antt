@@ -3,4 +3,4 @@ use Rattle.wellformed.proofs.Tests.{holds_this}
 use Rattle.wellformed.proofs.holds.Goals as goal
 
 pub returns-in-Holding : goal.returns-in-Holding
-returns-in-Holding c = holds_this _ _ c.s-1.given.1 c.wide.ensures
+returns-in-Holding c = holds_this _ _ c.in-Holding.is c.wide.ensures

@@ -4,15 +4,16 @@ use lib.ListN.{length}
 use Rattle.wellformed.proofs.Tests.{formed_low, formed_high, formed_all}
 use borrow.Author.Rules.{rules}
 use Rattle.wellformed.proofs.is_formed.Goals as goal
+use Rattle.wellformed.proofs.is_formed.Goals.{Start}
 
 -- the tables of numbers have all their entries
-places : (s : goal.Start) → length s.args.s.panel.place ≡ 64
+places : (s : Start) → length s.args.s.panel.place ≡ 64
 places s = search rules
 
-setters : (s : goal.Start) → length s.args.s.panel.setter ≡ 64
+setters : (s : Start) → length s.args.s.panel.setter ≡ 64
 setters s = search rules
 
-values : (s : goal.Start) → length s.args.s.values ≡ 64
+values : (s : Start) → length s.args.s.values ≡ 64
 values s = search rules
 
 pub returns-then-n-lt1 : goal.returns-then-n-lt1
