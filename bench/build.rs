@@ -29,7 +29,7 @@ fn main() {
     println!("cargo::rerun-if-changed={}", archive.display());
     if !archive.exists() {
         println!(
-            "cargo::error=there is no {}: write it with `rt staticlib {LIBRARY}` at the top of \
+            "cargo::error=there is no {}: write it with `.ci/build {LIBRARY}` at the top of \
              the repository, or build with `--features standin`",
             archive.display()
         );

@@ -18,7 +18,7 @@ use std::process::{Child, ChildStdin, ChildStdout, Command, ExitStatus, Stdio};
 use std::thread::{scope, sleep};
 use std::time::{Duration, Instant};
 
-/// Where `rt check` puts the programs.
+/// Where `.ci/build` puts the programs.
 const FOLDER: &str = concat!(env!("CARGO_MANIFEST_DIR"), "/../target/bin/");
 
 /// A program to test.
@@ -147,7 +147,7 @@ impl Program {
     fn path(&self) -> String {
         let path = std::env::var(self.other).unwrap_or(FOLDER.to_string() + self.name);
         let there = Path::new(&path).is_file();
-        assert!(there, "{path} is missing; build it: rt check {}", self.name);
+        assert!(there, "{path} is missing; build it: .ci/build {}", self.name);
         path
     }
 }

@@ -32,7 +32,7 @@ fn one_run() -> Worked {
 }
 
 #[test]
-#[should_panic(expected = "target/bin/no_such is missing; build it: rt check no_such")]
+#[should_panic(expected = "target/bin/no_such is missing; build it: .ci/build no_such")]
 fn missing_program_fails() {
     Program::new("no_such", "NO_SUCH_PROGRAM").run(b"");
 }
