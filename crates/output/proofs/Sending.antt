@@ -24,7 +24,7 @@ use Rattle.answering.specs.Runs.{Reached, Ran, Resumed}
 use Rattle.text.proofs.Whole.{tally_length_lem}
 use Rattle.output.specs.Parts.{PartOf}
 
--- the length of io's large buffer
+-- the length of the buffer that output goes through
 abbrev buffer_length : ℕ
 buffer_length = 65536
 

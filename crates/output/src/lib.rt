@@ -1,4 +1,4 @@
-// The output of a text, passed on to standard output a buffer at a time.
+// The output of a text, passed on to a writer a buffer at a time.
 #![tactic(auto)]
 
 ghost use Rattle.std.specs.Prelude.{◌≡◌, true, ◌+◌, ◌^◌, ◌<◌, length};
@@ -7,8 +7,8 @@ ghost use Rattle.frames.specs.Texts.{output_of};
 ghost use Rattle.frames.specs.Frames.{line_answer};
 ghost use Rattle.output.specs.Parts.{PartOf};
 
-use libc::STDOUT_FILENO;
 use sheet::Sheet;
+use std::io::Write;
 use tally::Tally;
 
 // How many bytes of an output were passed on, and whether all of them were written.
@@ -19,11 +19,11 @@ pub struct Output {
 }
 
 // Passes on a part of the output of a text, from the sheet `first` on: what stands there behind the first `sent` bytes.
-fn send(text: &[u8], first: Sheet, sent: usize, part: &[u8]) -> Output
+fn send<W: Write>(writer: &mut W, text: &[u8], first: Sheet, sent: usize, part: &[u8]) -> Output
     requires { PartOf (output_of line_answer first text.now) sent part.now × (sent + length part.now < 2 ^ 64) }
     ensures { result.len ≡ sent + length part.now }
 {
-    let whole = io::write_all(STDOUT_FILENO, part);
+    let whole = writer.write_all(part).is_ok();
     Output {
         len: sent + part.len(),
         whole: whole,
@@ -33,14 +33,14 @@ fn send(text: &[u8], first: Sheet, sent: usize, part: &[u8]) -> Output
 // Passes on the output for a text, from a sheet on, a buffer at a time. It stops where it cannot be written.
 // The contract rules out, for instance, another line for a text that is too long and a part in the wrong place (must-fail: line_of_another_refusal,
 // tally_at_the_start).
-pub fn answer_from(text: &[u8], first: Sheet) -> Output
+pub fn answer_from<W: Write>(writer: &mut W, text: &[u8], first: Sheet) -> Output
     requires { LegalSheet first }
     ensures { result.whole ≡ true → result.len ≡ length (output_of line_answer first text.now) }
 {
-    let mut out = io::large_buffer();
+    let mut out = [0u8; 65536];
     if frames::is_too_long(text) {
         let n = text::put_too_long(&mut out);
-        return send(text, first, 0, &out[..n]);
+        return send(writer, text, first, 0, &out[..n]);
     }
     let mut sent = 0;
     let mut next = 0;
@@ -57,12 +57,12 @@ pub fn answer_from(text: &[u8], first: Sheet) -> Output
         s = r.sheet;
         t = r.tally;
         let n = r.written;
-        let part = send(text, first, sent, &out[..n]);
+        let part = send(writer, text, first, sent, &out[..n]);
         if !part.whole {
             return part;
         }
         sent = part.len;
     }
     let n = text::put_tally(&mut out, 0, t);
-    send(text, first, sent, &out[..n])
+    send(writer, text, first, sent, &out[..n])
 }

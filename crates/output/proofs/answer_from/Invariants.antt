@@ -9,7 +9,7 @@ use Rattle.output.proofs.Sending.{Sent}
 use Rattle.output.proofs.answer_from.Given as goal
 
 abbrev pub invariant-loop-next : goal.invariant-loop-next
-invariant-loop-next l = Sent line_answer LegalSheet l.first l.text l.out l.sent l.next l.s l.t
+invariant-loop-next g l = Sent line_answer LegalSheet l.first l.text l.out l.sent l.next l.s l.t
 
 abbrev pub decreases-loop-next : goal.decreases-loop-next
-decreases-loop-next l = length l.text - l.next
+decreases-loop-next g l = length l.text - l.next
