@@ -18,13 +18,13 @@ use Rattle.sheet.specs.declared.Sheet.{Sheet}
 use Rattle.sheet.specs.Commands.{solving, performed}
 use Rattle.exactness.specs.Values.{EnteredExactly}
 use Rattle.exactness.specs.Beginnings.{Beginning, from_unopened, start_of}
-use Rattle.hex.specs.Hex.{char_of, bytes_of, hex_of}
-use Rattle.hex.proofs.Bytes.{bytes_hex}
+use Rattle.hexadecimal.specs.Hex.{char_of, bytes_of, hex_of}
+use Rattle.hexadecimal.proofs.Bytes.{bytes_hex}
 use Rattle.lines.specs.Lines.{lines_of}
 use Rattle.tally.specs.Tallies.{no_tally, tally_bytes}
 use Rattle.frames.specs.Texts.{LineAnswer, state_after, replies, tally_after, is_too_long}
 use Rattle.frames.specs.Frames.{line_answer, sheet_after, panel_output}
-use Rattle.hex.specs.Characters.{characters}
+use Rattle.hexadecimal.specs.Characters.{characters}
 use Rattle.acceptance.specs.Lines.{replies_to, run_after}
 use Rattle.acceptance.specs.Replies.{Form, IsReply, Each, Replied}
 use Rattle.acceptance.specs.Offsets.{IsBadHex, IsWrong, WrongAt, TellsOffset, TellsAtMost}

@@ -27,10 +27,10 @@ use Rattle.sheet.specs.declared.Sheet.{Sheet}
 use Rattle.sheet.specs.Sheets.{unopened}
 use Rattle.sheet.specs.Commands.{Command, solving, entering, relating, formula_checks, performed}
 use Rattle.sheet.proofs.Answers.{entering_reply, checks_reply}
-use Rattle.hex.specs.Hex.{lf, is_hex, offset_of, bytes_of}
-use Rattle.hex.proofs.Digits.{other_digits}
-use Rattle.hex.proofs.Lines.{hex_empty, hex_odd, hex_other, hex_line}
-use Rattle.hex.proofs.Offsets.{offset_within, before_offset, at_offset, end_offset}
+use Rattle.hexadecimal.specs.Hex.{lf, is_hex, offset_of, bytes_of}
+use Rattle.hexadecimal.proofs.Digits.{other_digits}
+use Rattle.hexadecimal.proofs.Lines.{hex_empty, hex_odd, hex_other, hex_line}
+use Rattle.hexadecimal.proofs.Offsets.{offset_within, before_offset, at_offset, end_offset}
 use Rattle.lines.specs.Lines.{before, lines_of}
 use Rattle.frames.specs.Texts.{refusal_of, replies, text_limit}
 use Rattle.frames.specs.Frames.{fits_kind, is_frame, checked_frame, bad_hex, frame_of, command_of, answered, line_answer}

@@ -6,13 +6,13 @@ use mathlib.Core.List.{List, [], ◌∷◌, ◌++◌, map, append-nil}
 use Prim.Native.Nat.{ℕ, suc}
 use native.Mathlib.Omega.{arith}
 use lib.ListN.{length-append, length-map}
-use Rattle.hex.specs.Hex.{char_of, hex_of, line_of}
+use Rattle.hexadecimal.specs.Hex.{char_of, hex_of, line_of}
 use Rattle.lines.specs.Lines.{lines_of}
 use Rattle.lines.proofs.Lines.{lines_line}
 use Rattle.frames.specs.Texts.{replies, written, output, is_too_long, output_of}
 use Rattle.frames.specs.Frames.{panel_output}
 use Rattle.frames.proofs.Outputs.{lines_written}
-use Rattle.hex.specs.Characters.{characters}
+use Rattle.hexadecimal.specs.Characters.{characters}
 use Rattle.acceptance.specs.Lines.{OneReplyEach, replies_to, tally_to, OutputLines, OutputTooLong}
 
 pub one_reply_each : OneReplyEach

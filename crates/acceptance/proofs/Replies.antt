@@ -41,7 +41,7 @@ use Rattle.sheet.specs.Commands.{Command, entering, formula_checks, performed}
 use Rattle.sheet.specs.Legal.{LegalSheet}
 use Rattle.sheet.proofs.Legal.{legal_sheet}
 use Rattle.sheet.proofs.Answers.{entering_reply, checks_reply}
-use Rattle.hex.specs.Hex.{is_hex, bytes_of}
+use Rattle.hexadecimal.specs.Hex.{is_hex, bytes_of}
 use Rattle.frames.specs.Texts.{replies}
 use Rattle.frames.specs.Frames.{fits_kind, is_frame, checked_frame, bad_hex, frame_of, word_of, formula_in, command_of, answered, line_answer}
 use Rattle.acceptance.specs.Replies.{kind_of, Counts, Form, IsReply, Replied, EveryReply}

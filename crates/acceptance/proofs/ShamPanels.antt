@@ -19,11 +19,11 @@ use Rattle.panel.specs.Solution.{strength_of, is_blocked, path_for, reversed, pl
 use Rattle.panel.specs.Moved.{turned, redrawn, moved}
 use Rattle.panel.specs.Steps.{reverse_step, enter_step, touch_step, plan_step}
 use Rattle.panel.specs.Commands.{any_of, fields_in, is_rising, are_field_bytes, checked}
-use Rattle.hex.specs.Hex.{is_digit, digit_of, char_of, are_digits, is_hex, bytes_of, hex_of, line_of}
+use Rattle.hexadecimal.specs.Hex.{is_digit, digit_of, char_of, are_digits, is_hex, bytes_of, hex_of, line_of}
 use Rattle.lines.specs.Lines.{lines_of}
 use Rattle.frames.specs.Texts.{replies, written, output, output_of}
 use Rattle.frames.specs.Frames.{fits_formula, fits_kind, is_frame, checked_frame, frame_of, command_of, line_answer}
-use Rattle.hex.specs.Characters.{characters}
+use Rattle.hexadecimal.specs.Characters.{characters}
 use Rattle.acceptance.specs.ShamPanels.{refuses_all, replies_zeros, keeps_setters, solves_first_link_only, invents_moved, sham_panels, ShamPanelsDiffer}
 
 -- outputs with another character at a place

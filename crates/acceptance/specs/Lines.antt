@@ -10,12 +10,12 @@ use Rattle.optimality.specs.Condition3.{Store, Optimal, Run, after}
 use Rattle.exactness.specs.Values.{Exact, EnteredExactly}
 use Rattle.exactness.specs.Systems.{sheets}
 use Rattle.exactness.specs.Beginnings.{Beginning, start_of}
-use Rattle.hex.specs.Hex.{hex_of}
+use Rattle.hexadecimal.specs.Hex.{hex_of}
 use Rattle.lines.specs.Lines.{lines_of}
 use Rattle.tally.specs.Tallies.{no_tally, tally_bytes}
 use Rattle.frames.specs.Texts.{LineAnswer, replies, tally_after, is_too_long}
 use Rattle.frames.specs.Frames.{frame_of, command_of, line_answer, sheet_after, panel_output}
-use Rattle.hex.specs.Characters.{characters}
+use Rattle.hexadecimal.specs.Characters.{characters}
 
 -- ---- one reply for each line
 

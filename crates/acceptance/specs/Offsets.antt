@@ -2,7 +2,7 @@
 use Rattle.std.specs.Prelude.{ℕ, ◌/◌, ◌%◌, ◌<◌, min, ◌≡◌, ◌⊎◌, ◌↔◌, true, false, List, [], ◌∷◌, length}
 use Rattle.fieldset.specs.Tables.{at}
 use Rattle.sheet.specs.declared.Sheet.{Sheet}
-use Rattle.hex.specs.Hex.{is_digit}
+use Rattle.hexadecimal.specs.Hex.{is_digit}
 use Rattle.lines.specs.Lines.{lines_of}
 use Rattle.frames.specs.Texts.{refusal_of, is_too_long}
 use Rattle.frames.specs.Frames.{line_answer}

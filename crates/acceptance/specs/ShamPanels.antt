@@ -15,7 +15,7 @@ use Rattle.sheet.specs.Sheets.{sheet_of, unopened}
 use Rattle.fieldset.specs.Lists.{All}
 use Rattle.frames.specs.Texts.{LineAnswer, output_of}
 use Rattle.frames.specs.Frames.{frame_of, line_answer, panel_output}
-use Rattle.hex.specs.Characters.{characters}
+use Rattle.hexadecimal.specs.Characters.{characters}
 
 -- ---- "Five sham panels"
 

@@ -2,7 +2,7 @@
 use Rattle.std.specs.Prelude.{ℕ, suc, ◌+◌, ◌-◌, ◌*◌, ◌≤◌, ◌<◌, max, ◌≡◌, cond, List, [], ◌∷◌, ◌++◌, leb, length, take, drop}
 use Rattle.std.proofs.lemmas.List.Edits.{sets}
 use Rattle.sheet.specs.declared.Sheet.{Sheet}
-use Rattle.hex.specs.Hex.{line_of}
+use Rattle.hexadecimal.specs.Hex.{line_of}
 use Rattle.tally.specs.declared.Tally.{Tally}
 use Rattle.lines.specs.Lines.{lines_of}
 use Rattle.frames.specs.Texts.{LineAnswer, state_after, replies, tally_after, written, output}

@@ -17,7 +17,7 @@ use Rattle.formulas.specs.declared.Formula.TheVariants.{None}
 use Rattle.formulas.specs.declared.Formulas.{Formulas}
 use Rattle.sheet.specs.declared.Sheet.{Sheet}
 use Rattle.sheet.specs.Sheets.{sheet_of, formula_at, with_formula}
-use Rattle.hex.specs.Hex.{frame_room}
+use Rattle.hexadecimal.specs.Hex.{frame_room}
 use Rattle.frames.specs.declared.Command.{Command}
 use Rattle.frames.specs.declared.Command.TheVariants.{Open, Add, Remove, Touch, Plan, Change, Enter, Relate, Refused}
 use Rattle.frames.specs.declared.Line.{Line}

@@ -7,7 +7,7 @@ use Prim.Native.Nat.{ℕ, suc, ◌+◌, ◌≤◌, ◌<◌}
 use native.Mathlib.Numerals.{add-one}
 use native.Mathlib.Omega.{arith}
 use Rattle.fieldset.specs.Numbers.{count, any}
-use Rattle.hex.specs.Characters.{characters}
+use Rattle.hexadecimal.specs.Characters.{characters}
 use Rattle.edf.specs.Texts.{is_text, is_either, is_flow, lower, is_unclear}
 use Rattle.edf.specs.Header.{unit_text}
 use Rattle.edf.specs.Answers.{unit_number, unit_read}

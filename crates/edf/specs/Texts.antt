@@ -1,7 +1,7 @@
 -- The texts of a header: plain numbers and units. Quotations are of document 02, request 3. A character is its number in ASCII.
 use Rattle.std.specs.Prelude.{ℕ, ◌+◌, ◌-◌, ◌*◌, Bool, true, false, not, ◌&&◌, ◌||◌, cond, List, [], ◌∷◌, map, leb, ltb, eqb, length, drop}
 use Prim.Native.Char.{code}
-use Rattle.hex.specs.Characters.{characters}
+use Rattle.hexadecimal.specs.Characters.{characters}
 
 -- ---- spaces
 

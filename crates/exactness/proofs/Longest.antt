@@ -15,7 +15,7 @@ use Rattle.panel.specs.Solution.{strength_of, is_blocked, least, least_blocked, 
 use Rattle.panel.specs.declared.Standing.TheVariants.{Waiting, Holding}
 use Rattle.formulas.specs.declared.Formula.TheVariants.{Sum}
 use Rattle.sheet.specs.declared.Sheet.{Sheet}
-use Rattle.hex.specs.Hex.{line_of, hex_of, char_of}
+use Rattle.hexadecimal.specs.Hex.{line_of, hex_of, char_of}
 use Rattle.frames.specs.Texts.{written}
 use Rattle.values.specs.Words.{bits_of}
 use Rattle.images.specs.Images.{gather, field_at, stay_order, field_bytes, frames_of, image_of}

@@ -11,8 +11,8 @@ use borrow.Author.Tests.{lt-ltb, le-ltb, le-leb, lt-leb, leb-true, eq-eqb, ne_eq
 use Rattle.fieldset.proofs.Tests.{and_left, and_right}
 use Rattle.fieldset.proofs.Numbers.{clash}
 use Rattle.ordering.proofs.Sets.{or_cases}
-use Rattle.hex.specs.Hex.{is_digit, digit_of, char_of, are_digits, is_hex, bytes_of, hex_of}
-use Rattle.hex.proofs.Digits.{digit_below, digit_char, char_digit}
+use Rattle.hexadecimal.specs.Hex.{is_digit, digit_of, char_of, are_digits, is_hex, bytes_of, hex_of}
+use Rattle.hexadecimal.proofs.Digits.{digit_below, digit_char, char_digit}
 use Rattle.images.specs.Reading.{is_unknown}
 use Rattle.exactness.specs.Saved.{BeginsUnknown}
 

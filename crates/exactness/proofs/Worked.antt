@@ -19,8 +19,8 @@ use Rattle.values.specs.Changes.{revalued}
 use Rattle.formulas.specs.Formulas.{computed, accepted}
 use Rattle.evaluation.specs.Runs.{run}
 use Rattle.sheet.specs.Commands.{entered, redrawn as sheetRedrawn}
-use Rattle.hex.specs.Hex.{is_digit, digit_of, char_of, are_digits, is_hex, bytes_of, hex_of, line_of}
-use Rattle.hex.specs.Characters.{characters}
+use Rattle.hexadecimal.specs.Hex.{is_digit, digit_of, char_of, are_digits, is_hex, bytes_of, hex_of, line_of}
+use Rattle.hexadecimal.specs.Characters.{characters}
 use Rattle.lines.specs.Lines.{lines_of}
 use Rattle.frames.specs.Texts.{state_after, written}
 use Rattle.frames.specs.Frames.{fits_formula, fits_kind, is_frame, checked_frame, frame_of, command_of, line_answer}

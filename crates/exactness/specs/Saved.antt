@@ -12,7 +12,7 @@ use Rattle.sheet.specs.Sheets.{unopened}
 use Rattle.sheet.specs.Commands.{Answer, refused}
 use Rattle.sheet.specs.Legal.{LegalSheet}
 use Rattle.optimality.specs.States.{NothingBlocked}
-use Rattle.hex.specs.Hex.{hex_of}
+use Rattle.hexadecimal.specs.Hex.{hex_of}
 use Rattle.frames.specs.Texts.{text_limit}
 use Rattle.images.specs.Images.{image_of}
 use Rattle.images.specs.Entries.{candidate}

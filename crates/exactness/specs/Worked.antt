@@ -3,8 +3,8 @@
 use Prim.Native.String.{String}
 use Rattle.std.specs.Prelude.{◌≡◌, List, [], ◌∷◌, map}
 use Rattle.sheet.specs.Sheets.{unopened}
-use Rattle.hex.specs.Hex.{hex_of}
-use Rattle.hex.specs.Characters.{characters}
+use Rattle.hexadecimal.specs.Hex.{hex_of}
+use Rattle.hexadecimal.specs.Characters.{characters}
 use Rattle.lines.specs.Lines.{lines_of}
 use Rattle.frames.specs.Frames.{sheet_after}
 use Rattle.images.specs.Images.{image_of}

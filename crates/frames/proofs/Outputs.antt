@@ -5,7 +5,7 @@ use mathlib.Core.List.{List, [], ◌∷◌, ◌++◌, map, append_assoc, append-
 use Prim.Native.Nat.{ℕ}
 use Rattle.tally.specs.declared.Tally.{Tally}
 use Rattle.tally.specs.Tallies.{tallied, tally_bytes}
-use Rattle.hex.specs.Hex.{hex_of, line_of}
+use Rattle.hexadecimal.specs.Hex.{hex_of, line_of}
 use Rattle.lines.specs.Lines.{lines_of}
 use Rattle.lines.proofs.Lines.{lines_none, lines_line}
 use Rattle.frames.specs.Texts.{LineAnswer, refusal_of, state_after, replies, tally_after, written, output}

@@ -18,11 +18,11 @@ use Rattle.panel.specs.declared.Refusal.TheVariants.{BadHex, BadFrame}
 use Rattle.panel.specs.Answers.{refusal_bytes}
 use Rattle.panel.specs.Commands.{has_bit6, any_of}
 use Rattle.formulas.specs.declared.Formula.TheVariants.{None, Ratio, Sum}
-use Rattle.hex.specs.Hex.{is_hex, offset_of, bytes_of, frame_room}
-use Rattle.hex.specs.Answers.{decoded_values, decoded, frame_after}
-use Rattle.hex.specs.declared.Decoded.{Decoded}
-use Rattle.hex.specs.declared.Decoded.TheVariants.{BadHex as NoHex, Frame}
-use Rattle.hex.proofs.Stores.{sets_fit}
+use Rattle.hexadecimal.specs.Hex.{is_hex, offset_of, bytes_of, frame_room}
+use Rattle.hexadecimal.specs.Answers.{decoded_values, decoded, frame_after}
+use Rattle.hexadecimal.specs.declared.Decoded.{Decoded}
+use Rattle.hexadecimal.specs.declared.Decoded.TheVariants.{BadHex as NoHex, Frame}
+use Rattle.hexadecimal.proofs.Stores.{sets_fit}
 use Rattle.frames.specs.declared.Command.{Command}
 use Rattle.frames.specs.declared.Command.TheVariants.{Refused}
 use Rattle.frames.specs.declared.Line.{Line}

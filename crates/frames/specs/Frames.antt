@@ -13,7 +13,7 @@ use Rattle.sheet.specs.declared.Sheet.{Sheet}
 use Rattle.sheet.specs.Sheets.{unopened}
 use Rattle.sheet.specs.Commands as sheet
 use Rattle.sheet.specs.Commands.{Answer, solving, entering, relating, performed}
-use Rattle.hex.specs.Hex.{is_hex, offset_of, bytes_of}
+use Rattle.hexadecimal.specs.Hex.{is_hex, offset_of, bytes_of}
 use Rattle.frames.specs.declared.Command.{Command}
 use Rattle.frames.specs.declared.Command.TheVariants.{Open, Add, Remove, Touch, Plan, Change, Enter, Relate, Refused}
 use Rattle.frames.specs.Texts.{Answered, LineAnswer, state_after, output_of}

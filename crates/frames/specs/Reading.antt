@@ -1,7 +1,7 @@
 -- What reading a line gives.
 use Rattle.std.specs.Prelude.{ℕ, min, ◌≡◌, cond, List, length, take, drop, replicate}
-use Rattle.hex.specs.Hex.{is_hex, bytes_of, frame_room}
-use Rattle.hex.specs.Answers.{frame_after}
+use Rattle.hexadecimal.specs.Hex.{is_hex, bytes_of, frame_room}
+use Rattle.hexadecimal.specs.Answers.{frame_after}
 use Rattle.frames.specs.declared.Line.{Line}
 use Rattle.frames.specs.Frames.{frame_of, command_bytes}
 

@@ -3,7 +3,7 @@ use Rattle.std.specs.Prelude.{ℕ, Bool, true, false, cond, List, [], ◌∷◌,
 use Rattle.panel.specs.declared.Refusal.TheVariants.{TextTooLong}
 use Rattle.fieldset.specs.Tables.{at}
 use Rattle.panel.specs.Answers.{refusal_bytes, is_refusal}
-use Rattle.hex.specs.Hex.{line_of}
+use Rattle.hexadecimal.specs.Hex.{line_of}
 use Rattle.lines.specs.Lines.{lines_of}
 use Rattle.tally.specs.declared.Tally.{Tally}
 use Rattle.tally.specs.Tallies.{no_tally, tallied, tally_bytes}

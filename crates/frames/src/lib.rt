@@ -3,7 +3,7 @@
 
 ghost use Rattle.std.specs.Prelude.{◌≡◌, ◌≤◌, ◌<◌, min, length, take, drop, [], ◌∷◌};
 ghost use Rattle.panel.specs.Commands.{has_bit6, any_of};
-ghost use Rattle.hex.specs.Hex.{frame_room};
+ghost use Rattle.hexadecimal.specs.Hex.{frame_room};
 ghost use Rattle.fieldset.specs.Tables.{at};
 ghost use Rattle.values.specs.Words.{value_of};
 ghost use Rattle.frames.specs.Frames.{fits_formula, fits_link, fits_kind, has_fields, checked_frame, pair_of, word_of, formula_in, formula_bytes, command_bytes, number_of};
@@ -45,7 +45,7 @@ pub enum Command {
 #[derive(Clone, Copy)]
 pub struct Line {
     pub command: Command,
-    pub frame: [u8; hex::FRAME_ROOM],
+    pub frame: [u8; hexadecimal::FRAME_ROOM],
     pub len: usize,
 }
 
@@ -92,7 +92,7 @@ fn has_fields(kind: u8) -> bool
 }
 
 // Whether bit 6 is set in a field byte of a frame of n bytes.
-fn has_bit6(frame: &[u8; hex::FRAME_ROOM], n: usize) -> bool
+fn has_bit6(frame: &[u8; hexadecimal::FRAME_ROOM], n: usize) -> bool
     requires { (n ≤ frame_room) × (length frame.now ≡ frame_room) }
     ensures { result ≡ any_of has_bit6 (drop 3 (take n frame.now)) }
 {
@@ -107,7 +107,7 @@ fn has_bit6(frame: &[u8; hex::FRAME_ROOM], n: usize) -> bool
 }
 
 // The command of the first n bytes of a buffer. A frame is shorter than the buffer: where n is its whole length, they are no frame.
-pub fn read_frame(frame: &[u8; hex::FRAME_ROOM], n: usize) -> Command
+pub fn read_frame(frame: &[u8; hexadecimal::FRAME_ROOM], n: usize) -> Command
     requires { length frame.now ≡ frame_room }
     ensures { command_bytes result (drop 3 (take n frame.now)) ≡ checked_frame (take n frame.now) }
 {
@@ -137,10 +137,10 @@ pub fn read_frame(frame: &[u8; hex::FRAME_ROOM], n: usize) -> Command
 fn kept(n: usize) -> usize
     ensures { result ≡ min n frame_room }
 {
-    if n < hex::FRAME_ROOM {
+    if n < hexadecimal::FRAME_ROOM {
         n
     } else {
-        hex::FRAME_ROOM
+        hexadecimal::FRAME_ROOM
     }
 }
 
@@ -155,10 +155,10 @@ fn two_byte_offset(n: usize) -> u16
 pub fn read_line(line: &[u8]) -> Line
     ensures { LineRead line.now result }
 {
-    let mut frame = [0u8; hex::FRAME_ROOM];
-    let d = hex::decode(line, &mut frame);
+    let mut frame = [0u8; hexadecimal::FRAME_ROOM];
+    let d = hexadecimal::decode(line, &mut frame);
     match d {
-        hex::Decoded::BadHex(offset) => {
+        hexadecimal::Decoded::BadHex(offset) => {
             let c = Command::Refused(Refusal::BadHex(two_byte_offset(offset)));
             Line {
                 command: c,
@@ -166,7 +166,7 @@ pub fn read_line(line: &[u8]) -> Line
                 len: 0,
             }
         }
-        hex::Decoded::Frame(n) => {
+        hexadecimal::Decoded::Frame(n) => {
             let len = kept(n);
             let c = read_frame(&frame, len);
             Line {
@@ -179,7 +179,7 @@ pub fn read_line(line: &[u8]) -> Line
 }
 
 // A byte of what stands behind the third byte of a frame; 0 where it has none there.
-fn tail_byte(frame: &[u8; hex::FRAME_ROOM], len: usize, i: usize) -> u8
+fn tail_byte(frame: &[u8; hexadecimal::FRAME_ROOM], len: usize, i: usize) -> u8
     requires { (length frame.now ≡ frame_room) × (len ≤ frame_room) × (i < 9) }
     ensures { result ≡ at (drop 3 (take len frame.now)) i }
 {

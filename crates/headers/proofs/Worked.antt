@@ -1,8 +1,8 @@
 -- Every worked header holds of the definitions: they give its file its output. By computation; assumes nothing.
 use mathlib.Core.Path.{refl}
 use Rattle.fieldset.specs.Numbers.{count, any}
-use Rattle.hex.specs.Characters.{characters}
-use Rattle.hex.specs.Hex.{char_of, hex_of, line_of}
+use Rattle.hexadecimal.specs.Characters.{characters}
+use Rattle.hexadecimal.specs.Hex.{char_of, hex_of, line_of}
 use Rattle.frames.specs.Texts.{written}
 use Rattle.edf.specs.Texts.{are_spaces, is_decimal, digits_of, number_from, is_plain, is_text, is_flow, lower, is_unclear}
 use Rattle.edf.specs.Header.{length_text, count_text, unit_text, flows_of, is_bad_header, has_unclear, refusal_for}

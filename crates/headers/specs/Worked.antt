@@ -4,7 +4,7 @@ use Rattle.std.specs.Prelude.{ℕ, ◌-◌, ◌≡◌, List, [], ◌∷◌, ◌+
 use Prim.Native.Char.{code}
 use Prim.Native.String.{String}
 use Rattle.fieldset.specs.Lists.{All}
-use Rattle.hex.specs.Characters.{characters}
+use Rattle.hexadecimal.specs.Characters.{characters}
 use Rattle.importing.specs.Imports.{import_output}
 
 -- ---- headers

@@ -11,8 +11,8 @@ use lib.ListN.{length, length-append}
 use Rattle.fieldset.specs.Tables.{tabulate}
 use Rattle.fieldset.proofs.Tables.{length_tabulate}
 use Rattle.panel.specs.Items.{link_at}
-use Rattle.hex.specs.Hex.{line_of}
-use Rattle.hex.proofs.Bytes.{length_line}
+use Rattle.hexadecimal.specs.Hex.{line_of}
+use Rattle.hexadecimal.proofs.Bytes.{length_line}
 use Rattle.frames.specs.Texts.{written}
 use Rattle.frames.proofs.Outputs.{written_append}
 use Rattle.values.specs.Limits.{value_at}

@@ -7,8 +7,8 @@ use borrow.Author.Tests.{lt-ltb, eq-eqb}
 use lib.ListN.{length}
 use Rattle.fieldset.specs.Lists.{All}
 use Rattle.fieldset.proofs.Lists.{all_append}
-use Rattle.hex.specs.Hex.{is_hex, hex_of}
-use Rattle.hex.proofs.Bytes.{length_hex, bytes_hex, digits_hex}
+use Rattle.hexadecimal.specs.Hex.{is_hex, hex_of}
+use Rattle.hexadecimal.proofs.Bytes.{length_hex, bytes_hex, digits_hex}
 use Rattle.lines.specs.Lines.{lines_of}
 use Rattle.formulas.specs.declared.Formula.{Formula}
 use Rattle.formulas.specs.declared.Formula.TheVariants.{None, Ratio, Sum}

@@ -13,7 +13,7 @@ use Rattle.fieldset.proofs.Tests.{and_left, and_right, and_both}
 use Rattle.panel.specs.Answers.{is_refusal}
 use Rattle.panel.specs.Commands.{is_open, check_reply, Passes}
 use Rattle.panel.specs.Solution.{least_blocked}
-use Rattle.hex.specs.Hex.{is_hex, is_digit, are_digits, digit_of, bytes_of, hex_of, line_of, char_of}
+use Rattle.hexadecimal.specs.Hex.{is_hex, is_digit, are_digits, digit_of, bytes_of, hex_of, line_of, char_of}
 use Rattle.frames.specs.Texts.{is_too_long, written}
 use Rattle.sheet.specs.declared.Sheet.{Sheet}
 use Rattle.sheet.specs.Commands.{Answer}

@@ -9,7 +9,7 @@ use Rattle.panel.specs.Commands.{covered_in, outputs_in}
 use Rattle.values.specs.Words.{value_of}
 use Rattle.sheet.specs.declared.Sheet.{Sheet}
 use Rattle.sheet.specs.Sheets.{sheet_of, with_formula, unopened}
-use Rattle.hex.specs.Hex.{is_hex, bytes_of}
+use Rattle.hexadecimal.specs.Hex.{is_hex, bytes_of}
 use Rattle.lines.specs.Lines.{lines_of}
 use Rattle.frames.specs.Frames.{word_of, formula_in}
 

@@ -11,7 +11,7 @@ use Rattle.panel.specs.Answers.{is_refusal}
 use Rattle.panel.specs.Commands.{is_open, Check, check, check_reply}
 use Rattle.sheet.specs.declared.Sheet.{Sheet}
 use Rattle.sheet.specs.Commands.{Answer}
-use Rattle.hex.specs.Hex.{is_hex, bytes_of}
+use Rattle.hexadecimal.specs.Hex.{is_hex, bytes_of}
 use Rattle.frames.specs.Texts.{is_too_long}
 use Rattle.images.specs.Images.{image_of}
 use Rattle.images.specs.Entries.{candidate}

@@ -16,8 +16,8 @@ use Rattle.panel.specs.Answers.{is_refusal}
 use Rattle.panel.specs.Commands.{any_of}
 use Rattle.sheet.specs.declared.Sheet.{Sheet}
 use Rattle.sheet.specs.Sheets.{unopened}
-use Rattle.hex.specs.Hex.{hex_of, line_of}
-use Rattle.hex.proofs.Bytes.{length_line}
+use Rattle.hexadecimal.specs.Hex.{hex_of, line_of}
+use Rattle.hexadecimal.proofs.Bytes.{length_line}
 use Rattle.lines.specs.Lines.{lines_of}
 use Rattle.tally.specs.declared.Tally.{Tally}
 use Rattle.tally.specs.Tallies.{cap, more, tallied, no_tally, tally_bytes}

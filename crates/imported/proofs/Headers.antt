@@ -17,7 +17,7 @@ use Rattle.fieldset.proofs.Tests.{and_left, and_right, and_both}
 use Rattle.fieldset.proofs.Numbers.{clash, any_none, any_false}
 use Rattle.panel.specs.declared.Refusal.{Refusal}
 use Rattle.panel.specs.declared.Refusal.TheVariants.{BadHeader}
-use Rattle.hex.specs.Characters.{characters}
+use Rattle.hexadecimal.specs.Characters.{characters}
 use Rattle.edf.specs.Texts.{are_spaces, is_decimal, digits_of, number_from, is_plain, number_of, is_text, is_either, is_flow, lower, is_unclear}
 use Rattle.edf.specs.Header.{length_text, count_text, count_of, header_length, unit_text, flows_of, is_bad_header, has_unclear, refusal_for}
 use Rattle.edf.proofs.Checks.{too_many, no_header, right_header, header_right, passes_all, all_passed, flow_count}

@@ -7,9 +7,9 @@ use native.Mathlib.Omega.{arith}
 use lib.ListN.{length}
 use Rattle.fieldset.specs.Lists.{All}
 use Rattle.sheet.specs.declared.Sheet.{Sheet}
-use Rattle.hex.specs.Hex.{hex_of}
-use Rattle.hex.proofs.Bytes.{length_hex, bytes_hex, digits_hex}
-use Rattle.hex.proofs.Lines.{hex_line}
+use Rattle.hexadecimal.specs.Hex.{hex_of}
+use Rattle.hexadecimal.proofs.Bytes.{length_hex, bytes_hex, digits_hex}
+use Rattle.hexadecimal.proofs.Lines.{hex_line}
 use Rattle.frames.specs.Frames.{is_frame, checked_frame, frame_of, command_of, answered, line_answer}
 
 -- bytes that a line can have, and that are a frame

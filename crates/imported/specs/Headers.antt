@@ -5,7 +5,7 @@ use Prim.Native.Char.{code}
 use Rattle.std.proofs.Math.Option.{none, some}
 use Rattle.fieldset.specs.Lists.{All}
 use Rattle.panel.specs.declared.Refusal.TheVariants.{BadHeader}
-use Rattle.hex.specs.Characters.{characters}
+use Rattle.hexadecimal.specs.Characters.{characters}
 use Rattle.edf.specs.Texts.{are_spaces, is_decimal, number_from, is_plain, number_of, is_flow, lower, is_unclear}
 use Rattle.edf.specs.Header.{length_text, count_text, header_length, unit_text, flows_of, is_bad_header, refusal_for}
 use Rattle.importing.specs.Imports.{import_output}

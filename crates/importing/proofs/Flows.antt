@@ -12,8 +12,8 @@ use Rattle.fieldset.proofs.Tables.{sets_append}
 use Rattle.panel.specs.declared.Refusal.{Refusal}
 use Rattle.panel.specs.Answers.{refusal_bytes}
 use Rattle.panel.proofs.Answers.{refusal_length}
-use Rattle.hex.specs.Hex.{line_of}
-use Rattle.hex.proofs.Bytes.{length_line}
+use Rattle.hexadecimal.specs.Hex.{line_of}
+use Rattle.hexadecimal.proofs.Bytes.{length_line}
 use Rattle.frames.specs.Texts.{written}
 use Rattle.frames.proofs.Outputs.{written_append}
 use Rattle.edf.specs.Header.{flows_of, refusal_for}

@@ -3,7 +3,7 @@ use Rattle.std.specs.Prelude.{ℕ, zero, suc, ◌+◌, ◌*◌, List, [], ◌∷
 use Rattle.std.proofs.Math.Option.{Option, none, some}
 use Rattle.panel.specs.declared.Refusal.{Refusal}
 use Rattle.panel.specs.Answers.{two_bytes, refusal_bytes}
-use Rattle.hex.specs.Hex.{line_of}
+use Rattle.hexadecimal.specs.Hex.{line_of}
 use Rattle.frames.specs.Texts.{written}
 use Rattle.edf.specs.Header.{flows_of, refusal_for}
 

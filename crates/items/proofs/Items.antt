@@ -23,12 +23,12 @@ use Rattle.values.specs.Changes.{revalued}
 use Rattle.formulas.specs.Formulas.{computed, accepted}
 use Rattle.evaluation.specs.Runs.{run}
 use Rattle.sheet.specs.Commands.{entered, redrawn as sheetRedrawn}
-use Rattle.hex.specs.Hex.{is_digit, digit_of, char_of, are_digits, is_hex, offset_of, bytes_of, hex_of, line_of}
+use Rattle.hexadecimal.specs.Hex.{is_digit, digit_of, char_of, are_digits, is_hex, offset_of, bytes_of, hex_of, line_of}
 use Rattle.lines.specs.Lines.{lines_of}
 use Rattle.tally.specs.Tallies.{more, tallied, three_bytes, tally_bytes}
 use Rattle.frames.specs.Texts.{refusal_of, state_after, replies, tally_after, written, output, output_of}
 use Rattle.frames.specs.Frames.{fits_formula, fits_kind, is_frame, checked_frame, frame_of, command_of, line_answer}
-use Rattle.hex.specs.Characters.{characters}
+use Rattle.hexadecimal.specs.Characters.{characters}
 use Rattle.items.specs.Items.{Hold, items, item_count}
 use Rattle.items.specs.Further.{further}
 use Rattle.items.specs.Values.{HoldValues, worked}

@@ -5,7 +5,7 @@ use Rattle.std.specs.Prelude.{◌≡◌, List, [], ◌∷◌, map, ℤ, pos, neg
 use Rattle.sheet.specs.Sheets.{unopened}
 use Rattle.lines.specs.Lines.{lines_of}
 use Rattle.frames.specs.Frames.{sheet_after}
-use Rattle.hex.specs.Characters.{characters}
+use Rattle.hexadecimal.specs.Characters.{characters}
 
 pub record Valued : Type 0 where
   pub text : String

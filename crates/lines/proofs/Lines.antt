@@ -11,8 +11,8 @@ use lib.Dec.{ltb, eqb}
 use lib.ListN.{length, get_or, take, drop, drop_of_length-le, length-drop}
 use lib.Seq.{drop-cons, drop-drop}
 use borrow.Author.Tests.{ltb-true, ltb-false, eq-eqb, ne_eqb}
-use Rattle.hex.specs.Hex.{lf, hex_of, line_of}
-use Rattle.hex.proofs.Digits.{char_no_lf}
+use Rattle.hexadecimal.specs.Hex.{lf, hex_of, line_of}
+use Rattle.hexadecimal.proofs.Digits.{char_no_lf}
 use Rattle.lines.specs.Lines.{before, lines_of, line_length, behind_of}
 
 -- ---- where a line ends

@@ -1,6 +1,6 @@
 -- The lines of a text; where a line ends, and where the next one begins.
 use Rattle.std.specs.Prelude.{ℕ, suc, ◌+◌, cond, List, [], ◌∷◌, eqb, ltb}
-use Rattle.hex.specs.Hex.{lf}
+use Rattle.hexadecimal.specs.Hex.{lf}
 
 -- a character in front of the first line; where there is no line, it is one
 abbrev pub before : ℕ → List (List ℕ) → List (List ℕ)

@@ -9,7 +9,7 @@ use lib.ListN.{length, take}
 use lib.Seq.{sets}
 use Rattle.panel.specs.declared.Refusal.TheVariants.{TextTooLong, AlreadyOpen, UnknownVersion, BadImage, Unfit}
 use Rattle.panel.specs.Commands.{is_open, check_reply}
-use Rattle.hex.proofs.Stores.{start_fits, start_is}
+use Rattle.hexadecimal.proofs.Stores.{start_fits, start_is}
 use Rattle.frames.specs.Texts.{is_too_long}
 use Rattle.sheet.specs.declared.Sheet.{Sheet}
 use Rattle.sheet.specs.Commands.{refused}

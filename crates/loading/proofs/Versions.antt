@@ -9,11 +9,11 @@ use lib.ListN.{length, get_or, take, drop, get_or-append}
 use lib.Seq.{sets-eq, length-take-le, take_all}
 use borrow.Author.Tests.{eq-eqb, ne_eqb}
 use Rattle.fieldset.specs.Tables.{at}
-use Rattle.hex.specs.Hex.{is_hex, offset_of, bytes_of}
-use Rattle.hex.specs.Answers.{decoded_values, decoded, frame_after}
-use Rattle.hex.specs.declared.Decoded.{Decoded}
-use Rattle.hex.specs.declared.Decoded.TheVariants.{BadHex, Frame}
-use Rattle.hex.proofs.Bytes.{length_bytes_lem}
+use Rattle.hexadecimal.specs.Hex.{is_hex, offset_of, bytes_of}
+use Rattle.hexadecimal.specs.Answers.{decoded_values, decoded, frame_after}
+use Rattle.hexadecimal.specs.declared.Decoded.{Decoded}
+use Rattle.hexadecimal.specs.declared.Decoded.TheVariants.{BadHex, Frame}
+use Rattle.hexadecimal.proofs.Bytes.{length_bytes_lem}
 use Rattle.images.specs.Reading.{is_unknown}
 
 module _ (text : List ℕ) where

@@ -10,7 +10,7 @@ ghost use Rattle.loading.specs.Loaded.{answer_of};
 
 use fitness::is_unfit;
 use frames::is_too_long;
-use hex::{Decoded, FRAME_ROOM};
+use hexadecimal::{Decoded, FRAME_ROOM};
 use panel::{Refusal, Reply};
 use parsing::read_lines;
 use saving::{LONGEST, VERSION, write};
@@ -25,7 +25,7 @@ fn is_unknown(text: &[u8]) -> bool
         return false;
     }
     let mut frame = [0u8; FRAME_ROOM];
-    let d = hex::decode(&text[..4], &mut frame);
+    let d = hexadecimal::decode(&text[..4], &mut frame);
     match d {
         Decoded::BadHex(_) => false,
         Decoded::Frame(_) => frame[0] == 0x0A && frame[1] != VERSION,

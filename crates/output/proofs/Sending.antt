@@ -11,9 +11,9 @@ use lib.ListN.{length, take, drop, length-append}
 use lib.Seq.{sets, length-sets, length-take-le, take_at, drop_at, drop-drop}
 use Rattle.panel.specs.declared.Refusal.TheVariants.{TextTooLong}
 use Rattle.panel.specs.Answers.{refusal_bytes}
-use Rattle.hex.specs.Hex.{line_of}
-use Rattle.hex.proofs.Bytes.{length_line}
-use Rattle.hex.proofs.Stores.{start_fits, start_is}
+use Rattle.hexadecimal.specs.Hex.{line_of}
+use Rattle.hexadecimal.proofs.Bytes.{length_line}
+use Rattle.hexadecimal.proofs.Stores.{start_fits, start_is}
 use Rattle.lines.specs.Lines.{lines_of}
 use Rattle.lines.proofs.Lines.{lines_end}
 use Rattle.tally.specs.declared.Tally.{Tally}

@@ -4,7 +4,7 @@
 
 ghost use Rattle.std.specs.Prelude.{◌≡◌, true, false, List, ℕ, ◌+◌, length};
 ghost use Rattle.panel.specs.Answers.{is_refusal};
-ghost use Rattle.hex.specs.Hex.{line_of};
+ghost use Rattle.hexadecimal.specs.Hex.{line_of};
 ghost use Rattle.sheet.specs.Sheets.{unopened};
 ghost use Rattle.loading.specs.Loaded.{answer_of};
 ghost use Rattle.images.specs.Reading.{read};

@@ -25,11 +25,11 @@ use Rattle.formulas.specs.declared.Formula.{Formula}
 use Rattle.formulas.specs.declared.Formula.TheVariants.{None, Ratio, Sum}
 use Rattle.sheet.specs.declared.Sheet.{Sheet}
 use Rattle.sheet.specs.Sheets.{sheet_of, with_formula, unopened, Full}
-use Rattle.hex.specs.Hex.{digit_of, are_digits, is_hex, bytes_of, frame_room}
-use Rattle.hex.specs.Answers.{decoded_values, decoded, frame_after}
-use Rattle.hex.specs.declared.Decoded.{Decoded}
-use Rattle.hex.specs.declared.Decoded.TheVariants.{BadHex, Frame}
-use Rattle.hex.proofs.Bytes.{length_bytes_lem, byte_at}
+use Rattle.hexadecimal.specs.Hex.{digit_of, are_digits, is_hex, bytes_of, frame_room}
+use Rattle.hexadecimal.specs.Answers.{decoded_values, decoded, frame_after}
+use Rattle.hexadecimal.specs.declared.Decoded.{Decoded}
+use Rattle.hexadecimal.specs.declared.Decoded.TheVariants.{BadHex, Frame}
+use Rattle.hexadecimal.proofs.Bytes.{length_bytes_lem, byte_at}
 use Rattle.lines.specs.Lines.{lines_of, line_length, behind_of}
 use Rattle.lines.proofs.Lines.{behind_within, behind_on, lines_on, lines_end}
 use Rattle.frames.specs.Frames.{pair_of, word_of, formula_in}

@@ -5,7 +5,7 @@ use Rattle.fieldset.specs.Tables.{at}
 use Rattle.panel.specs.declared.Link.{Link}
 use Rattle.panel.specs.declared.Panel.{Panel}
 use Rattle.panel.specs.Commands.{covered_in, outputs_in}
-use Rattle.hex.specs.Hex.{are_digits, bytes_of, frame_room}
+use Rattle.hexadecimal.specs.Hex.{are_digits, bytes_of, frame_room}
 use Rattle.images.specs.Entries.{standing_of}
 
 pub record Framed (line frame : List ℕ) (n : ℕ) : Type 0 where

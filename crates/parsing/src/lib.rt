@@ -3,7 +3,7 @@
 
 ghost use Rattle.std.specs.Prelude.{◌≡◌, true, ◌-◌, min, length, take, drop, set};
 ghost use Rattle.fieldset.specs.Tables.{at};
-ghost use Rattle.hex.specs.Hex.{are_digits, bytes_of};
+ghost use Rattle.hexadecimal.specs.Hex.{are_digits, bytes_of};
 ghost use Rattle.frames.specs.Frames.{formula_in};
 ghost use Rattle.sheet.specs.Sheets.{sheet_of, with_formula, Full};
 ghost use Rattle.images.specs.Entries.{with_size, placed, with_order, standing_of, with_link_line, entered, line_bytes, candidate};
@@ -13,7 +13,7 @@ use fieldbytes::read_fields;
 use fieldset::wide;
 use formulas::{Formula, Rule};
 use frames::{pair, word};
-use hex::{Decoded, FRAME_ROOM, byte, decode};
+use hexadecimal::{Decoded, FRAME_ROOM, byte, decode};
 use lines::{behind, line_end};
 use panel::{Link, Panel, Standing};
 use sheet::Sheet;

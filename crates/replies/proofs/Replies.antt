@@ -15,8 +15,8 @@ use Rattle.panel.specs.declared.Reply.{Reply}
 use Rattle.panel.specs.declared.Reply.TheVariants.{Accepted, Refused as Refusing}
 use Rattle.panel.specs.Answers.{refusal_bytes, reply_bytes, rows_length}
 use Rattle.panel.proofs.Answers.{refusal_length, reply_two}
-use Rattle.hex.specs.Hex.{line_of}
-use Rattle.hex.proofs.Bytes.{length_line}
+use Rattle.hexadecimal.specs.Hex.{line_of}
+use Rattle.hexadecimal.proofs.Bytes.{length_line}
 use Rattle.frames.specs.declared.Command.{Command}
 use Rattle.frames.specs.declared.Command.TheVariants.{Open, Add, Remove, Touch, Plan, Change, Enter, Relate, Refused}
 use Rattle.frames.specs.contracts.Command.{the_type}

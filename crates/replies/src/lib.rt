@@ -4,7 +4,7 @@
 ghost use Rattle.std.specs.Prelude.{◌≡◌, [], ◌∷◌, ◌+◌, ◌*◌, ◌^◌, ◌≤◌, ◌<◌, length};
 ghost use Rattle.std.proofs.lemmas.List.Edits.{sets};
 ghost use Rattle.panel.specs.Answers.{two_bytes, refusal_bytes, reply_bytes, plan_rest};
-ghost use Rattle.hex.specs.Hex.{line_of};
+ghost use Rattle.hexadecimal.specs.Hex.{line_of};
 ghost use Rattle.frames.specs.Texts.{refusal_of};
 ghost use Rattle.replies.specs.Replies.{buffered, rest_of, whole_reply};
 

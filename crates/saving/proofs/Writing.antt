@@ -26,8 +26,8 @@ use Rattle.formulas.specs.declared.Formula.TheVariants.{None, Ratio, Sum}
 use Rattle.formulas.specs.declared.Formulas.{Formulas}
 use Rattle.sheet.specs.declared.Sheet.{Sheet}
 use Rattle.sheet.specs.Sheets.{formula_at}
-use Rattle.hex.specs.Hex.{hex_of, line_of, lf}
-use Rattle.hex.proofs.Bytes.{length_hex, length_line}
+use Rattle.hexadecimal.specs.Hex.{hex_of, line_of, lf}
+use Rattle.hexadecimal.proofs.Bytes.{length_hex, length_line}
 use Rattle.writing.proofs.Lines.{hex_append}
 use Rattle.frames.specs.Texts.{written}
 use Rattle.frames.specs.Frames.{formula_bytes}

@@ -3,7 +3,7 @@
 
 ghost use Rattle.std.specs.Prelude.{◌≡◌, [], ◌∷◌, ◌≤◌, ◌<◌, ◌+◌, ◌^◌, length};
 ghost use Rattle.std.proofs.lemmas.List.Edits.{sets};
-ghost use Rattle.hex.specs.Hex.{hex_of, lf};
+ghost use Rattle.hexadecimal.specs.Hex.{hex_of, lf};
 ghost use Rattle.frames.specs.Texts.{written};
 ghost use Rattle.images.specs.Images.{gather, field_at, stay_order, field_byte, field_piece, field_bytes, standing_byte, link_frames, link_piece, formula_frames, formula_piece, value_frames, value_piece, image_of};
 ghost use Rattle.saving.specs.Wrote.{Wrote};

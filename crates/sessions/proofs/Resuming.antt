@@ -14,9 +14,9 @@ use Rattle.panel.specs.declared.Reply.TheVariants.{Accepted, Refused}
 use Rattle.panel.proofs.Answers.{refusal_length}
 use Rattle.panel.specs.declared.Refusal.TheVariants.{TextTooLong as TooLong}
 use Rattle.panel.specs.Answers.{refusal_bytes, reply_bytes, is_refusal}
-use Rattle.hex.specs.Hex.{line_of}
-use Rattle.hex.proofs.Bytes.{length_line}
-use Rattle.hex.proofs.Stores.{sets_out}
+use Rattle.hexadecimal.specs.Hex.{line_of}
+use Rattle.hexadecimal.proofs.Bytes.{length_line}
+use Rattle.hexadecimal.proofs.Stores.{sets_out}
 use Rattle.sheet.specs.declared.Sheet.{Sheet}
 use Rattle.sheet.specs.Sheets.{unopened}
 use Rattle.sheet.specs.Commands.{Answer}

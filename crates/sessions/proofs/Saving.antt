@@ -12,8 +12,8 @@ use Rattle.panel.specs.Answers.{refusal_bytes}
 use Rattle.panel.specs.Commands.{is_open}
 use Rattle.sheet.specs.declared.Sheet.{Sheet}
 use Rattle.sheet.specs.Sheets.{unopened}
-use Rattle.hex.specs.Hex.{line_of}
-use Rattle.hex.proofs.Bytes.{length_line}
+use Rattle.hexadecimal.specs.Hex.{line_of}
+use Rattle.hexadecimal.proofs.Bytes.{length_line}
 use Rattle.sheet.specs.Legal.{LegalSheet}
 use Rattle.lines.specs.Lines.{lines_of}
 use Rattle.frames.specs.Texts.{is_too_long}

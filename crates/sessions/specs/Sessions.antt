@@ -6,7 +6,7 @@ use Rattle.panel.specs.Commands.{is_open}
 use Rattle.sheet.specs.declared.Sheet.{Sheet}
 use Rattle.sheet.specs.Sheets.{unopened}
 use Rattle.sheet.specs.Commands.{Answer}
-use Rattle.hex.specs.Hex.{line_of}
+use Rattle.hexadecimal.specs.Hex.{line_of}
 use Rattle.lines.specs.Lines.{lines_of}
 use Rattle.frames.specs.Texts.{is_too_long, output_of}
 use Rattle.frames.specs.Frames.{line_answer, sheet_after}

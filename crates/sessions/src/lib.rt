@@ -5,7 +5,7 @@ ghost use Rattle.std.specs.Prelude.{◌≡◌, false, ◌^◌, ◌≤◌, ◌<�
 ghost use Rattle.std.proofs.lemmas.List.Edits.{sets};
 ghost use Rattle.panel.specs.Answers.{reply_bytes, is_refusal};
 ghost use Rattle.sheet.specs.Legal.{LegalSheet};
-ghost use Rattle.hex.specs.Hex.{line_of};
+ghost use Rattle.hexadecimal.specs.Hex.{line_of};
 ghost use Rattle.lines.specs.Lines.{lines_of};
 ghost use Rattle.frames.specs.Texts.{is_too_long, output_of};
 ghost use Rattle.frames.specs.Frames.{line_answer, sheet_after};

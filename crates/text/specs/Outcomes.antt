@@ -3,7 +3,7 @@ use Rattle.std.specs.Prelude.{ℕ, ◌^◌, ◌<◌, ◌≡◌, cond, List, [], 
 use Rattle.std.proofs.lemmas.List.Edits.{sets}
 use Rattle.panel.specs.declared.Refusal.TheVariants.{TextTooLong as TooLong}
 use Rattle.panel.specs.Answers.{refusal_bytes}
-use Rattle.hex.specs.Hex.{line_of}
+use Rattle.hexadecimal.specs.Hex.{line_of}
 use Rattle.tally.specs.declared.Tally.{Tally}
 use Rattle.lines.specs.Lines.{lines_of}
 use Rattle.frames.specs.Texts.{LineAnswer, replies, tally_after, output, is_too_long, output_of}

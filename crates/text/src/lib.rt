@@ -5,7 +5,7 @@ ghost use Rattle.std.specs.Prelude.{◌≡◌, false, ◌+◌, ◌^◌, ◌<◌,
 ghost use Rattle.std.proofs.lemmas.List.Edits.{sets};
 ghost use Rattle.panel.specs.declared.Refusal.TheVariants.{TextTooLong as TooLong};
 ghost use Rattle.panel.specs.Answers.{refusal_bytes};
-ghost use Rattle.hex.specs.Hex.{line_of};
+ghost use Rattle.hexadecimal.specs.Hex.{line_of};
 ghost use Rattle.tally.specs.Tallies.{tally_bytes};
 ghost use Rattle.sheet.specs.Sheets.{unopened};
 ghost use Rattle.sheet.specs.Legal.{LegalSheet};

@@ -7,8 +7,8 @@ use native.Mathlib.Omega.{arith}
 use lib.ListN.{length, get_or, take, set, length-take}
 use lib.Seq.{sets, take-suc, take_all}
 use Rattle.fieldset.proofs.Tables.{sets_append}
-use Rattle.hex.specs.Hex.{char_of, hex_of, line_of}
-use Rattle.hex.proofs.Bytes.{length_hex, length_line}
+use Rattle.hexadecimal.specs.Hex.{char_of, hex_of, line_of}
+use Rattle.hexadecimal.proofs.Bytes.{length_hex, length_line}
 
 pub hex_append : (a b : List ℕ) → hex_of (a ++ b) ≡ hex_of a ++ hex_of b
 unfolding hex_of

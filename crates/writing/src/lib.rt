@@ -3,14 +3,14 @@
 
 ghost use Rattle.std.specs.Prelude.{◌≡◌, ◌∷◌, [], ◌+◌, ◌*◌, ◌/◌, ◌%◌, ◌^◌, ◌<◌, ◌≤◌, length, set};
 ghost use Rattle.std.proofs.lemmas.List.Edits.{sets};
-ghost use Rattle.hex.specs.Hex.{char_of, hex_of, line_of};
+ghost use Rattle.hexadecimal.specs.Hex.{char_of, hex_of, line_of};
 
 // The digit of a value.
 fn char_of(x: u8) -> u8
     requires { x < 16 }
     ensures { result ≡ char_of x }
 {
-    if x < 10 { x + b'0' } else { x + hex::LETTER }
+    if x < 10 { x + b'0' } else { x + hexadecimal::LETTER }
 }
 
 // x at a position, where there is one.

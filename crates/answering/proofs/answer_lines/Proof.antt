@@ -26,7 +26,7 @@ use Rattle.tables.specs.Tables.{Tabled}
 use Rattle.taking.proofs.Taking.{Taken, places_taken, taken_reversed, tabled_altered, taken_unmoved}
 use Rattle.keeping.specs.Keeping.{Kept}
 use Rattle.redrawing.proofs.Redrawing.{Stale, Sizes, redrawn_is, stale_start, stale_change, stale_step}
-use Rattle.hex.specs.Hex.{line_of}
+use Rattle.hexadecimal.specs.Hex.{line_of}
 use Rattle.tally.specs.Tallies.{tallied}
 use Rattle.frames.specs.declared.Command.{Command}
 use Rattle.frames.specs.declared.Command.TheVariants.{Change}

@@ -1,7 +1,7 @@
 -- `edf::read_unit` meets its contract, by the texts that are tried; the quoted ones are the definition's (`characters`). Assumes nothing.
 use mathlib.Core.Path.{sym, ◌∙◌}
 use borrow.Author.Rules.{rules}
-use Rattle.hex.specs.Characters.{characters}
+use Rattle.hexadecimal.specs.Characters.{characters}
 use Rattle.edf.proofs.Counting.{unit_flow, unit_unclear, unit_other}
 use Rattle.edf.proofs.read_unit.Statement.{statement}
 use Rattle.edf.proofs.read_unit.Tie as tie

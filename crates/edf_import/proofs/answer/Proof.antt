@@ -6,7 +6,7 @@ use native.Mathlib.Omega.{arith}
 use borrow.Author.Rules.{rules}
 use lib.ListN.{length, take}
 use lib.Seq.{length-take-le}
-use Rattle.hex.proofs.Stores.{start_fits, start_is}
+use Rattle.hexadecimal.proofs.Stores.{start_fits, start_is}
 use Rattle.importing.specs.Imports.{import_output}
 use Rattle.importing.proofs.Flows.{output_short}
 use Rattle.edf_import.proofs.answer.Statement.{statement}

@@ -9,7 +9,7 @@ use lib.ListN.{length}
 use lib.Seq.{sets}
 use Rattle.panel.specs.Answers.{refusal_bytes}
 use Rattle.panel.proofs.Answers.{refusal_length}
-use Rattle.hex.proofs.Bytes.{length_line}
+use Rattle.hexadecimal.proofs.Bytes.{length_line}
 use Rattle.frames.specs.Texts.{written}
 use Rattle.edf.specs.Header.{flows_of, refusal_for}
 use Rattle.edf.specs.Answers.{header_bytes}

@@ -1,8 +1,8 @@
 -- `importing::put_flow` meets its contract: the ratio's line is put behind the add's (`behind`). Assumes nothing.
 use native.Mathlib.Omega.{arith}
 use borrow.Author.Rules.{rules}
-use Rattle.hex.specs.Hex.{line_of}
-use Rattle.hex.proofs.Bytes.{length_line}
+use Rattle.hexadecimal.specs.Hex.{line_of}
+use Rattle.hexadecimal.proofs.Bytes.{length_line}
 use Rattle.importing.specs.Imports.{add_frame, ratio_frame}
 use Rattle.importing.proofs.Flows.{behind}
 use Rattle.importing.proofs.put_flow.Statement.{statement}

@@ -6,7 +6,7 @@ use native.Mathlib.Omega.{arith}
 use borrow.Author.Rules.{rules}
 use lib.ListN.{length}
 use lib.Seq.{length-sets}
-use Rattle.hex.proofs.Bytes.{length_line}
+use Rattle.hexadecimal.proofs.Bytes.{length_line}
 use Rattle.importing.specs.Imports.{open_frame}
 use Rattle.importing.proofs.Flows.{Put, put_none, put_ends, put_more, put_all}
 use Rattle.importing.proofs.put_flows.Statement.{statement}

@@ -12,7 +12,7 @@ use lib.Seq.{length-take-le}
 use borrow.Author.Tests.{not-true}
 use Rattle.sheet.specs.declared.Sheet.{Sheet}
 use Rattle.sheet.specs.Legal.{LegalSheet}
-use Rattle.hex.specs.Hex.{line_of}
+use Rattle.hexadecimal.specs.Hex.{line_of}
 use Rattle.tally.specs.Tallies.{tally_bytes}
 use Rattle.frames.specs.Texts.{output_of}
 use Rattle.frames.specs.Frames.{line_answer}

@@ -6,7 +6,7 @@ use borrow.Author.Rules.{rules}
 use borrow.Author.Tests.{not-true}
 use lib.ListN.{length, length-append}
 use Rattle.panel.specs.Answers.{reply_bytes, is_refusal}
-use Rattle.hex.specs.Hex.{line_of}
+use Rattle.hexadecimal.specs.Hex.{line_of}
 use Rattle.sheet.specs.Commands.{Answer}
 use Rattle.frames.specs.Texts.{output_of}
 use Rattle.frames.specs.Frames.{line_answer}

@@ -4,7 +4,7 @@ use borrow.Author.Rules.{rules}
 use lib.ListN.{length}
 use Rattle.panel.specs.Answers.{is_refusal}
 use Rattle.sheet.specs.Commands.{Answer}
-use Rattle.hex.specs.Hex.{line_of}
+use Rattle.hexadecimal.specs.Hex.{line_of}
 use Rattle.sessions.proofs.Resuming.{refused_resumed}
 use Rattle.panel_resume.proofs.refuse.Statement.{statement}
 use Rattle.panel_resume.proofs.refuse.Tie as tie

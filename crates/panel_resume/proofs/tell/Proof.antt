@@ -6,8 +6,8 @@ use native.Mathlib.Omega.{arith}
 use borrow.Author.Rules.{rules}
 use lib.ListN.{length, take}
 use Rattle.panel.specs.Answers.{reply_bytes}
-use Rattle.hex.specs.Hex.{line_of}
-use Rattle.hex.proofs.Stores.{start_fits, start_is}
+use Rattle.hexadecimal.specs.Hex.{line_of}
+use Rattle.hexadecimal.proofs.Stores.{start_fits, start_is}
 use Rattle.sheet.specs.Commands.{Answer}
 use Rattle.sessions.proofs.Resuming.{reply_short}
 use Rattle.panel_resume.proofs.tell.Statement.{statement}

@@ -5,7 +5,7 @@ use Prim.Native.Nat.{ℕ, ◌≤◌}
 use native.Mathlib.Omega.{arith}
 use borrow.Author.Rules.{rules}
 use lib.ListN.{length, take}
-use Rattle.hex.proofs.Stores.{start_fits, start_is}
+use Rattle.hexadecimal.proofs.Stores.{start_fits, start_is}
 use Rattle.images.specs.Reading.{longest}
 use Rattle.sessions.specs.Sessions.{saved_output}
 use Rattle.panel_save.proofs.answer.Statement.{statement}

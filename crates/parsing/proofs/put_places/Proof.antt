@@ -2,7 +2,7 @@
 use mathlib.Core.Path.{◌∙◌}
 use Prim.Native.Nat.{◌-◌}
 use native.Mathlib.Omega.{arith}
-use Rattle.hex.proofs.Digits.{digits_at}
+use Rattle.hexadecimal.proofs.Digits.{digits_at}
 use Rattle.parsing.proofs.Entries.{Placing, placing_none, placing_digits, placing_on, placing_all}
 use borrow.Author.Rules.{rules}
 use Rattle.parsing.proofs.put_places.Statement.{statement}

@@ -9,8 +9,8 @@ use lib.ListN.{length, take, drop, length-take}
 use lib.Seq.{sets, length-take-le}
 use Rattle.panel.specs.Answers.{refusal_bytes}
 use Rattle.panel.proofs.Answers.{refusal_length}
-use Rattle.hex.specs.Hex.{line_of}
-use Rattle.hex.proofs.Bytes.{length_line}
+use Rattle.hexadecimal.specs.Hex.{line_of}
+use Rattle.hexadecimal.proofs.Bytes.{length_line}
 use Rattle.replies.proofs.Replies.{refusal_within, refusal_all, refusal_parts}
 use Rattle.replies.proofs.put_refusal.Statement.{statement}
 use Rattle.replies.proofs.put_refusal.Tie as tie

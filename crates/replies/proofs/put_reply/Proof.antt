@@ -9,8 +9,8 @@ use native.Mathlib.Omega.{arith}
 use lib.ListN.{length, take}
 use lib.Seq.{sets, length-take-le}
 use Rattle.panel.specs.Answers.{refusal_bytes}
-use Rattle.hex.specs.Hex.{line_of}
-use Rattle.hex.proofs.Bytes.{length_line}
+use Rattle.hexadecimal.specs.Hex.{line_of}
+use Rattle.hexadecimal.proofs.Bytes.{length_line}
 use Rattle.replies.specs.Replies.{rest_of, whole_reply}
 use Rattle.replies.proofs.Replies.{accepted_whole, refused_whole}
 use Rattle.replies.proofs.put_reply.Statement.{statement}

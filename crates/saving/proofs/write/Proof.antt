@@ -2,7 +2,7 @@
 use Prim.Native.Nat.{◌≤◌}
 use mathlib.Core.List.{[], ◌∷◌}
 use native.Mathlib.Omega.{arith}
-use Rattle.hex.proofs.Bytes.{length_line}
+use Rattle.hexadecimal.proofs.Bytes.{length_line}
 use Rattle.images.specs.Images.{link_piece, formula_piece}
 use Rattle.saving.proofs.Writing.{order_length, lines_short, link_short, formula_short, image_written}
 use borrow.Author.Rules.{rules}

@@ -3,7 +3,7 @@ use mathlib.Core.Path.{ap}
 use mathlib.Core.List.{◌∷◌}
 use native.Mathlib.Omega.{arith}
 use borrow.Author.Rules.{rules}
-use Rattle.hex.proofs.Bytes.{length_line}
+use Rattle.hexadecimal.proofs.Bytes.{length_line}
 use Rattle.panel.specs.Answers.{refusal_bytes, reply_bytes}
 use Rattle.panel.proofs.Answers.{refusal_length}
 use Rattle.sessions.proofs.Resuming.{reply_line}

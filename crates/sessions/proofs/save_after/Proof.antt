@@ -4,7 +4,7 @@ use mathlib.Core.Bool.{false}
 use mathlib.Core.List.{◌∷◌}
 use native.Mathlib.Omega.{arith}
 use borrow.Author.Rules.{rules}
-use Rattle.hex.proofs.Bytes.{length_line}
+use Rattle.hexadecimal.proofs.Bytes.{length_line}
 use Rattle.panel.specs.declared.Refusal.TheVariants.{NotOpen}
 use Rattle.panel.specs.Answers.{refusal_bytes}
 use Rattle.sheet.specs.Sheets.{unopened}

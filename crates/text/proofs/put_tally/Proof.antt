@@ -6,7 +6,7 @@ use mathlib.Core.List.{List}
 use Prim.Native.Nat.{ℕ, ◌+◌}
 use lib.ListN.{length}
 use lib.Seq.{sets}
-use Rattle.hex.specs.Hex.{line_of}
+use Rattle.hexadecimal.specs.Hex.{line_of}
 use Rattle.text.proofs.Whole.{tally_parts}
 use Rattle.text.proofs.put_tally.Statement.{statement}
 use Rattle.text.proofs.put_tally.Tie as tie

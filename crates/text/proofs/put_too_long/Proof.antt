@@ -1,7 +1,7 @@
 -- `text::put_too_long` meets its contract, by that of `put_refusal`: the refusal has a number alone, so its line is short (`length_line`).
 use borrow.Author.Rules.{rules}
 use native.Mathlib.Omega.{arith}
-use Rattle.hex.proofs.Bytes.{length_line}
+use Rattle.hexadecimal.proofs.Bytes.{length_line}
 use Rattle.text.proofs.put_too_long.Statement.{statement}
 use Rattle.text.proofs.put_too_long.Tie as tie
 

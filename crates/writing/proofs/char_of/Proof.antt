@@ -1,6 +1,6 @@
 -- `writing::char_of` meets its contract: by cases on whether the value is below ten.
 use borrow.Author.Tests.{lt-ltb, le-ltb}
-use Rattle.hex.specs.Hex.{char_of}
+use Rattle.hexadecimal.specs.Hex.{char_of}
 use borrow.Author.Rules.{rules}
 use Rattle.writing.proofs.char_of.Statement.{statement}
 use Rattle.writing.proofs.char_of.Tie as tie

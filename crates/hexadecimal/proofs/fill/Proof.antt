@@ -1,14 +1,14 @@
--- `hex::fill` meets its contract. The loop's invariant is `Filled`: the first `i` bytes are in the buffer; the measure is how many of the twelve are
+-- `hexadecimal::fill` meets its contract. The loop's invariant is `Filled`: the first `i` bytes are in the buffer; the measure is how many of the twelve are
 -- left. A round stores one byte more (`filled_more`); the loop ends with the line (`filled_end`) or with a full buffer, past which no store counts
 -- (`filled_full`). Assumes nothing.
 use Prim.Native.Nat.{◌*◌, ◌+◌, ◌<◌, ◌-◌}
 use native.Mathlib.Omega.{arith}
 use borrow.Author.Tests.{ltb-true, ltb-false}
 use lib.ListN.{length}
-use Rattle.hex.proofs.Digits.{digits_at}
-use Rattle.hex.proofs.Lines.{Filled, filled_none, filled_more, filled_end, filled_full}
-use Rattle.hex.proofs.fill.Statement.{statement}
-use Rattle.hex.proofs.fill.Tie as tie
+use Rattle.hexadecimal.proofs.Digits.{digits_at}
+use Rattle.hexadecimal.proofs.Lines.{Filled, filled_none, filled_more, filled_end, filled_full}
+use Rattle.hexadecimal.proofs.fill.Statement.{statement}
+use Rattle.hexadecimal.proofs.fill.Tie as tie
 
 abbrev invariant-loop : tie.invariant-loop
 invariant-loop s frame₀ i₀ frame i = Filled s frame₀ frame i

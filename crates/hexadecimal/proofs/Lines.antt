@@ -9,12 +9,12 @@ use lib.Dec.{ltb, eqb}
 use lib.ListN.{length, get_or, take, set, length-set}
 use lib.Seq.{sets, take_all}
 use borrow.Author.Tests.{lt-ltb, le-ltb, eq-eqb, ne_eqb}
-use Rattle.hex.specs.Hex.{digit_of, are_digits, is_hex, offset_of, bytes_of}
-use Rattle.hex.specs.Answers.{decoded_values, decoded, frame_after}
-use Rattle.hex.specs.declared.Decoded.{Decoded}
-use Rattle.hex.specs.declared.Decoded.TheVariants.{BadHex, Frame}
-use Rattle.hex.proofs.Bytes.{length_bytes_lem, byte_at}
-use Rattle.hex.proofs.Stores.{sets_fit, sets_more}
+use Rattle.hexadecimal.specs.Hex.{digit_of, are_digits, is_hex, offset_of, bytes_of}
+use Rattle.hexadecimal.specs.Answers.{decoded_values, decoded, frame_after}
+use Rattle.hexadecimal.specs.declared.Decoded.{Decoded}
+use Rattle.hexadecimal.specs.declared.Decoded.TheVariants.{BadHex, Frame}
+use Rattle.hexadecimal.proofs.Bytes.{length_bytes_lem, byte_at}
+use Rattle.hexadecimal.proofs.Stores.{sets_fit, sets_more}
 
 -- which lines are hexadecimal
 pub hex_empty : (s : List ℕ) → length s ≡ 0 → is_hex s ≡ false

@@ -10,9 +10,9 @@ use native.Mathlib.Numerals.{add-one}
 use native.Mathlib.Omega.{arith}
 use lib.ListN.{length, get_or, drop, drop_of_length-le}
 use lib.Seq.{drop-cons}
-use Rattle.hex.specs.Hex.{is_digit, are_digits, offset_of}
-use Rattle.hex.specs.Answers.{digit_read}
-use Rattle.hex.proofs.Digits.{value_read, other_read, other_digits}
+use Rattle.hexadecimal.specs.Hex.{is_digit, are_digits, offset_of}
+use Rattle.hexadecimal.specs.Answers.{digit_read}
+use Rattle.hexadecimal.proofs.Digits.{value_read, other_read, other_digits}
 
 pub offset_within : (s : List ℕ) → offset_of s ≤ length s
 unfolding offset_of

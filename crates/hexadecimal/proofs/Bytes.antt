@@ -8,8 +8,8 @@ use native.Mathlib.Nat.{not-suc-le-zero}
 use native.Mathlib.Omega.{arith}
 use lib.ListN.{length, get_or, length-append}
 use Rattle.fieldset.specs.Lists.{All}
-use Rattle.hex.specs.Hex.{digit_of, are_digits, bytes_of, hex_of, line_of}
-use Rattle.hex.proofs.Digits.{digit_char, char_digit}
+use Rattle.hexadecimal.specs.Hex.{digit_of, are_digits, bytes_of, hex_of, line_of}
+use Rattle.hexadecimal.proofs.Digits.{digit_char, char_digit}
 
 pub length_hex : (a : List ℕ) → length (hex_of a) ≡ 2 * length a
 unfolding hex_of

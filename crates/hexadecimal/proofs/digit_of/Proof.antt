@@ -1,9 +1,9 @@
--- `hex::digit_of` meets its contract: one law for each stretch of characters between the bounds that are compared, below 0 (`below_0`), 0 to 9
+-- `hexadecimal::digit_of` meets its contract: one law for each stretch of characters between the bounds that are compared, below 0 (`below_0`), 0 to 9
 -- (`from_0`), up to A (`below_A`), A to F (`from_A`), behind F (`behind_F`). Assumes nothing.
 use borrow.Author.Rules.{rules}
-use Rattle.hex.proofs.Digits.{below_0, from_0, below_A, from_A, behind_F}
-use Rattle.hex.proofs.digit_of.Statement.{statement}
-use Rattle.hex.proofs.digit_of.Tie as tie
+use Rattle.hexadecimal.proofs.Digits.{below_0, from_0, below_A, from_A, behind_F}
+use Rattle.hexadecimal.proofs.digit_of.Statement.{statement}
+use Rattle.hexadecimal.proofs.digit_of.Tie as tie
 
 returns : tie.Need-returns
 returns c = below_0 _ c.if1.true

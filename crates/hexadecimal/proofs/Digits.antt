@@ -10,8 +10,8 @@ use lib.Dec.{leb, ltb, eqb}
 use lib.ListN.{length, get_or}
 use borrow.Author.Tests.{lt-ltb, le-ltb, le-leb, lt-leb, leb-true, ne_eqb}
 use Rattle.fieldset.proofs.Tests.{and_left, and_right}
-use Rattle.hex.specs.Hex.{is_digit, digit_of, char_of, are_digits, lf}
-use Rattle.hex.specs.Answers.{digit_read}
+use Rattle.hexadecimal.specs.Hex.{is_digit, digit_of, char_of, are_digits, lf}
+use Rattle.hexadecimal.specs.Answers.{digit_read}
 
 -- what each character is
 pub below_0 : (c : ℕ) → c < 48 → [] ≡ digit_read c

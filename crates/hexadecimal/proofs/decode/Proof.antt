@@ -1,4 +1,4 @@
--- `hex::decode` meets its contract: a line that has another character (`hex_other`), is empty (`hex_empty`) or odd (`hex_odd`) is refused with its
+-- `hexadecimal::decode` meets its contract: a line that has another character (`hex_other`), is empty (`hex_empty`) or odd (`hex_odd`) is refused with its
 -- offset and leaves the buffer (`bad_line`); any other (`hex_line`) has its first bytes in the buffer (`good_line`). Assumes nothing.
 use mathlib.Core.Path.{◌≡◌}
 use mathlib.Core.Bool.{true}
@@ -6,11 +6,11 @@ use mathlib.Core.Logic.{⊎_elim}
 use native.Mathlib.Omega.{arith}
 use borrow.Author.Rules.{rules}
 use borrow.Author.Tests.{eqb-true, eqb-false}
-use Rattle.hex.specs.Hex.{are_digits}
-use Rattle.hex.proofs.Offsets.{other_offset, end_offset}
-use Rattle.hex.proofs.Lines.{hex_empty, hex_odd, hex_other, hex_line, bad_line, good_line}
-use Rattle.hex.proofs.decode.Statement.{statement}
-use Rattle.hex.proofs.decode.Tie as tie
+use Rattle.hexadecimal.specs.Hex.{are_digits}
+use Rattle.hexadecimal.proofs.Offsets.{other_offset, end_offset}
+use Rattle.hexadecimal.proofs.Lines.{hex_empty, hex_odd, hex_other, hex_line, bad_line, good_line}
+use Rattle.hexadecimal.proofs.decode.Statement.{statement}
+use Rattle.hexadecimal.proofs.decode.Tie as tie
 
 -- ---- the places: the offset is known; the line is not refused
 

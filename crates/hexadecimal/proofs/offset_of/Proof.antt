@@ -1,14 +1,14 @@
--- `hex::offset_of` meets its contract. The loop's invariant is `Read`: the characters from `i` on decide the offset; the measure is how many are left.
+-- `hexadecimal::offset_of` meets its contract. The loop's invariant is `Read`: the characters from `i` on decide the offset; the measure is how many are left.
 -- A digit takes the loop a character on (`read_more`); at another character (`read_other`) and at the end of the line (`read_end`) `i` is the offset.
 -- Assumes nothing.
 use mathlib.Core.Path.{sym, ap, ◌∙◌}
 use Prim.Native.Nat.{◌-◌}
 use borrow.Author.Rules.{rules}
 use lib.ListN.{length}
-use Rattle.hex.specs.Answers.{digit_values}
-use Rattle.hex.proofs.Offsets.{Read, read_none, read_more, read_other, read_end}
-use Rattle.hex.proofs.offset_of.Statement.{statement}
-use Rattle.hex.proofs.offset_of.Tie as tie
+use Rattle.hexadecimal.specs.Answers.{digit_values}
+use Rattle.hexadecimal.proofs.Offsets.{Read, read_none, read_more, read_other, read_end}
+use Rattle.hexadecimal.proofs.offset_of.Statement.{statement}
+use Rattle.hexadecimal.proofs.offset_of.Tie as tie
 
 abbrev invariant-loop : tie.invariant-loop
 invariant-loop s i₀ i = Read s i

@@ -3,11 +3,11 @@
 use mathlib.Core.Path.{◌≡◌, refl}
 use Prim.Native.Nat.{ℕ}
 use native.Mathlib.Omega.{arith}
-use Rattle.hex.specs.declared.Digit.{Digit}
-use Rattle.hex.specs.declared.Digit.TheVariants.{Value, Other}
-use Rattle.hex.specs.declared.Decoded.{Decoded}
-use Rattle.hex.specs.declared.Decoded.TheVariants.{BadHex, Frame}
-use Rattle.hex.specs.Answers.{digit_values, decoded_values}
+use Rattle.hexadecimal.specs.declared.Digit.{Digit}
+use Rattle.hexadecimal.specs.declared.Digit.TheVariants.{Value, Other}
+use Rattle.hexadecimal.specs.declared.Decoded.{Decoded}
+use Rattle.hexadecimal.specs.declared.Decoded.TheVariants.{BadHex, Frame}
+use Rattle.hexadecimal.specs.Answers.{digit_values, decoded_values}
 
 pub digits_apart : (a b : Digit) → digit_values a ≡ digit_values b → a ≡ b
 digits_apart (Value x) (Value y) e = cc

@@ -3,8 +3,8 @@
 
 ghost use Rattle.std.specs.Prelude.{◌≡◌, true, ◌+◌, ◌*◌, length};
 ghost use Rattle.std.proofs.lemmas.List.Edits.{sets};
-ghost use Rattle.hex.specs.Hex.{is_digit, digit_of, are_digits, offset_of, bytes_of, frame_room};
-ghost use Rattle.hex.specs.Answers.{digit_values, digit_read, decoded_values, decoded, frame_after};
+ghost use Rattle.hexadecimal.specs.Hex.{is_digit, digit_of, are_digits, offset_of, bytes_of, frame_room};
+ghost use Rattle.hexadecimal.specs.Answers.{digit_values, digit_read, decoded_values, decoded, frame_after};
 
 // How many bytes of a frame are kept: those of a longest one, an add with 8 field bytes, and one more, which shows that a frame is longer.
 pub const FRAME_ROOM: usize = 12;

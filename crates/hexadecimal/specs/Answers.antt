@@ -1,11 +1,11 @@
 -- What reading a character and decoding a line give, by their values.
 use Rattle.std.specs.Prelude.{ℕ, cond, List, [], ◌∷◌, length}
 use Rattle.std.proofs.lemmas.List.Edits.{sets}
-use Rattle.hex.specs.Hex.{is_digit, digit_of, is_hex, offset_of, bytes_of}
-use Rattle.hex.specs.declared.Digit.{Digit}
-use Rattle.hex.specs.declared.Digit.TheVariants.{Value, Other}
-use Rattle.hex.specs.declared.Decoded.{Decoded}
-use Rattle.hex.specs.declared.Decoded.TheVariants.{BadHex, Frame}
+use Rattle.hexadecimal.specs.Hex.{is_digit, digit_of, is_hex, offset_of, bytes_of}
+use Rattle.hexadecimal.specs.declared.Digit.{Digit}
+use Rattle.hexadecimal.specs.declared.Digit.TheVariants.{Value, Other}
+use Rattle.hexadecimal.specs.declared.Decoded.{Decoded}
+use Rattle.hexadecimal.specs.declared.Decoded.TheVariants.{BadHex, Frame}
 
 -- a digit has its value, "another character" has none
 abbrev pub digit_values : Digit → List ℕ

@@ -1,9 +1,9 @@
--- `hex::byte` meets its contract: the two values are `value`'s, and each is below 16 (`digit_below`), so that nothing is above 255. Assumes nothing.
+-- `hexadecimal::byte` meets its contract: the two values are `value`'s, and each is below 16 (`digit_below`), so that nothing is above 255. Assumes nothing.
 use native.Mathlib.Omega.{arith}
 use borrow.Author.Rules.{rules}
-use Rattle.hex.proofs.Digits.{digit_below}
-use Rattle.hex.proofs.byte.Statement.{statement}
-use Rattle.hex.proofs.byte.Tie as tie
+use Rattle.hexadecimal.proofs.Digits.{digit_below}
+use Rattle.hexadecimal.proofs.byte.Statement.{statement}
+use Rattle.hexadecimal.proofs.byte.Tie as tie
 
 mul-result : tie.Need-overflow-mul-result
 mul-result c = omega (arith, digit_below _ c.before.requires.0)
