@@ -1,6 +1,5 @@
 //! From a line of hexadecimal to a command.
 
-use crate::fields::{below, only};
 use crate::formula::Formula;
 use crate::text::Refusal;
 
@@ -19,6 +18,8 @@ pub enum Command<'a> {
     Store(u8, i32),
     /// Number and formula.
     Formula(u8, Formula),
+    Park(u8),
+    BringBack(u8),
 }
 
 /// The bytes of a line, as far as a frame can need them: one more than the
@@ -106,6 +107,8 @@ pub fn read_frame(frame: &[u8]) -> Result<Command<'_>, Refusal> {
             Ok(Command::Formula(id, ratio))
         }
         [8, id, 2, field] => Ok(Command::Formula(id, Formula::Sum(field))),
+        [9, id, 1] => Ok(Command::Park(id)),
+        [9, id, 0] => Ok(Command::BringBack(id)),
         _ => Err(Refusal::BadFrame),
     }
 }
@@ -113,35 +116,6 @@ pub fn read_frame(frame: &[u8]) -> Result<Command<'_>, Refusal> {
 /// One to eight bytes, bit 6 zero in each.
 fn are_field_bytes(bytes: &[u8]) -> bool {
     (1..=8).contains(&bytes.len()) && bytes.iter().all(|byte| byte & 0x40 == 0)
-}
-
-/// The covered fields and the outputs of an added or changed link on an open panel
-/// of this size, after the checks 6 and 7.
-pub fn read_link(
-    id: u8,
-    level: u8,
-    field_bytes: &[u8],
-    size: usize,
-) -> Result<(u64, u64), Refusal> {
-    if id > 127 || level > 15 {
-        return Err(Refusal::BadLink);
-    }
-    let (mut covered, mut outputs) = (0, 0);
-    for &byte in field_bytes {
-        let field = byte as usize & 63;
-        if covered >> field != 0 {
-            return Err(Refusal::BadLink);
-        }
-        covered |= only(field);
-        outputs |= u64::from(byte >> 7) << field;
-    }
-    if outputs == 0 {
-        return Err(Refusal::BadLink);
-    }
-    if covered & !below(size) != 0 {
-        return Err(Refusal::NoSuchField);
-    }
-    Ok((covered, outputs))
 }
 
 /// The size of an opening, after the checks 3 and 5; `now` is 0 while unopened.

@@ -9,6 +9,7 @@
 mod fields;
 mod formula;
 mod frame;
+mod link;
 pub mod ordinary;
 pub mod sides;
 #[cfg(feature = "standin")]

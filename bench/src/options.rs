@@ -5,7 +5,7 @@ use panel_bench::texts::MIXES;
 
 pub const USAGE: &str = "\
 usage: panel-bench [--rounds N] [--plot FILE]
-       panel-bench --only ordinary|tuned|proved --mix 1..7";
+       panel-bench --only ordinary|tuned|proved --mix 1..8";
 
 /// What is to be done.
 pub enum Mode {

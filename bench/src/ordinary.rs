@@ -3,27 +3,12 @@
 
 use crate::fields::{below, each, has, lowest, only, without};
 use crate::formula::Formula;
-use crate::frame::{read_link, read_size};
+use crate::frame::read_size;
+use crate::link::{Link, Standing, NO_LINK};
 use crate::text::{Refusal, Solver, LONGEST_REPLY};
 
 /// In the place of a link number: the field is set by its stay.
 const STAY: u8 = 128;
-
-/// A link; one without outputs is not in use.
-#[derive(Clone, Copy)]
-struct Link {
-    covered: u64,
-    outputs: u64,
-    level: u8,
-    holds: Option<u8>,
-}
-
-const NO_LINK: Link = Link {
-    covered: 0,
-    outputs: 0,
-    level: 0,
-    holds: None,
-};
 
 /// A panel: its links with their formulas, and for each field its stay's place, its setter and its value.
 pub struct Panel {
@@ -178,9 +163,9 @@ impl Tables {
 }
 
 impl Panel {
-    fn hold(&mut self, id: u8, field: Option<u8>) {
+    fn stand(&mut self, id: u8, standing: Standing) {
         if id != STAY {
-            self.links[id as usize & 127].holds = field;
+            self.links[id as usize & 127].standing = standing;
         }
     }
 
@@ -195,11 +180,11 @@ impl Panel {
         let mut incoming = id;
         for &f in path {
             let old = self.setter[f as usize & 63];
-            self.hold(incoming, Some(f));
+            self.stand(incoming, Standing::Holding(f));
             self.setter[f as usize & 63] = incoming;
             incoming = old;
         }
-        self.hold(incoming, None);
+        self.stand(incoming, Standing::Waiting);
         Ok(redrawn)
     }
 
@@ -255,12 +240,12 @@ impl Panel {
     /// or none.
     fn put_back(&mut self, setters: [u8; 64]) {
         for (f, &former) in setters[..self.size].iter().enumerate() {
-            let (now, field) = (self.setter[f], Some(f as u8));
+            let (now, holding) = (self.setter[f], Standing::Holding(f as u8));
             if now != former {
-                if now != STAY && self.links[now as usize & 127].holds == field {
-                    self.hold(now, None);
+                if now != STAY && self.links[now as usize & 127].standing == holding {
+                    self.stand(now, Standing::Waiting);
                 }
-                self.hold(former, field);
+                self.stand(former, holding);
             }
         }
         self.setter = setters;
@@ -272,30 +257,16 @@ impl Panel {
         moved.fold(0, |set, f| set | only(f))
     }
 
-    /// The link of an add or a change, after the checks 4, 6 and 7.
-    fn new_link(&self, id: u8, level: u8, field_bytes: &[u8]) -> Result<Link, Refusal> {
-        if self.size == 0 {
-            return Err(Refusal::NotOpen);
-        }
-        let (covered, outputs) = read_link(id, level, field_bytes, self.size)?;
-        Ok(Link {
-            covered,
-            outputs,
-            level,
-            holds: None,
-        })
-    }
-
-    /// Takes a link into use under a number not in use; the answer is the set of the fields that are redrawn. The tables
-    /// are the panel's and then have the reads after it. A refusal leaves the panel as it was.
+    /// Takes a link into force under a number that no link in force has; the answer is the set of the fields that are
+    /// redrawn. The tables are the panel's and then have the reads after it. A refusal leaves the panel as it was.
     fn enter_link(&mut self, t: &mut Tables, id: u8, link: Link) -> Result<u64, Refusal> {
         let mut redrawn = 0;
         if t.greatest(link.outputs) > link.level {
-            self.links[id as usize] = link;
+            let before = std::mem::replace(&mut self.links[id as usize], link);
             match self.turn(t, id, link.outputs, link.covered) {
                 Ok(fields) => redrawn = fields,
                 Err(refusal) => {
-                    self.links[id as usize] = NO_LINK;
+                    self.links[id as usize] = before;
                     return Err(refusal);
                 }
             }
@@ -307,13 +278,12 @@ impl Panel {
         Ok(redrawn)
     }
 
-    /// Takes a link out of use and turns for what is then blocked, a walk that ends at the field set free. The answer is
-    /// the set of the fields that are redrawn; where nothing is turned, only if they are counted. A refusal leaves the
-    /// panel as it was.
-    fn drop_link(&mut self, id: u8, counted: bool) -> Result<u64, Refusal> {
-        let old = self.links[id as usize];
-        self.links[id as usize] = NO_LINK;
-        let Some(v) = old.holds else {
+    /// Takes a link out of force, leaves this in its place, and turns for what is then blocked, a walk that ends at the
+    /// field set free. The answer is the set of the fields that are redrawn; where nothing is turned, only if they are
+    /// counted. A refusal leaves the panel as it was.
+    fn withdraw_link(&mut self, id: u8, left: Link, counted: bool) -> Result<u64, Refusal> {
+        let old = std::mem::replace(&mut self.links[id as usize], left);
+        let Standing::Holding(v) = old.standing else {
             return Ok(0);
         };
         self.setter[v as usize & 63] = STAY;
@@ -330,6 +300,20 @@ impl Panel {
         redrawn
     }
 
+    /// Withdraws a link and enters another one under its number, as one; the answer is the set of the fields that are
+    /// redrawn. A refusal leaves the panel as it was.
+    fn exchange_links(&mut self, id: u8, new: Link) -> Result<u64, Refusal> {
+        let (old, before) = (self.links[id as usize], self.setter);
+        self.withdraw_link(id, NO_LINK, false)?;
+        let mut t = Tables::of(self);
+        if let Err(refusal) = self.enter_link(&mut t, id, new) {
+            self.links[id as usize] = old;
+            self.put_back(before);
+            return Err(refusal);
+        }
+        Ok(t.downstream(self.moved_from(&before), self.size))
+    }
+
     /// The blocked link or stay of least level: its number or `STAY`, its outputs and covered fields.
     fn first_blocked(&self, t: &mut Tables) -> Option<(u8, u64, u64)> {
         for f in 0..self.size {
@@ -338,7 +322,7 @@ impl Panel {
         let mut least = u8::MAX;
         let mut found = None;
         for (id, link) in self.links.iter().enumerate() {
-            let waits = link.outputs != 0 && link.holds.is_none();
+            let waits = link.is_used() && link.standing == Standing::Waiting;
             if waits && link.level < least && each(link.outputs).any(|u| t.strength[u] > link.level)
             {
                 least = link.level;
@@ -377,8 +361,8 @@ impl Solver for Panel {
     }
 
     fn add(&mut self, id: u8, level: u8, field_bytes: &[u8]) -> Result<u8, Refusal> {
-        let link = self.new_link(id, level, field_bytes)?;
-        if self.links[id as usize].outputs != 0 {
+        let link = Link::read(id, level, field_bytes, self.size)?;
+        if self.links[id as usize].is_used() {
             return Err(Refusal::LinkTaken);
         }
         let redrawn = self.enter_link(&mut Tables::of(self), id, link);
@@ -386,40 +370,32 @@ impl Solver for Panel {
     }
 
     fn remove(&mut self, id: u8) -> Result<u8, Refusal> {
-        if self.size == 0 {
-            return Err(Refusal::NotOpen);
-        }
-        if id > 127 {
-            return Err(Refusal::BadLink);
-        }
-        if self.links[id as usize].outputs == 0 {
-            return Err(Refusal::NoSuchLink);
-        }
-        let redrawn = self.drop_link(id, true)?;
+        Link::named(id, &self.links, self.size)?;
+        let redrawn = self.withdraw_link(id, NO_LINK, true)?;
         self.formulas[id as usize] = Formula::None;
         Ok(count(redrawn))
     }
 
     fn change(&mut self, id: u8, level: u8, field_bytes: &[u8]) -> Result<u8, Refusal> {
-        let link = self.new_link(id, level, field_bytes)?;
+        let link = Link::read(id, level, field_bytes, self.size)?;
         let old = self.links[id as usize];
-        if old.outputs == 0 {
+        if !old.is_used() {
             return Err(Refusal::NoSuchLink);
         }
-        let before = self.setter;
-        self.drop_link(id, false)?;
-        let mut t = Tables::of(self);
-        if let Err(refusal) = self.enter_link(&mut t, id, link) {
-            self.links[id as usize] = old;
-            self.put_back(before);
-            return Err(refusal);
+        let mut redrawn = 0;
+        if old.is_parked() {
+            self.links[id as usize] = link.with(Standing::Parked);
+        } else {
+            redrawn = self.exchange_links(id, link)?;
         }
         if link.covered != old.covered {
             self.formulas[id as usize] = Formula::None;
         }
-        Ok(count(t.downstream(self.moved_from(&before), self.size)))
+        Ok(count(redrawn))
     }
 
+    // As a part of the loop over lines this and the plan would take 1 to 2 percent more instructions.
+    #[inline(never)]
     fn touch(&mut self, field: u8) -> Result<u8, Refusal> {
         let v = self.field(field)?;
         let before = self.place;
@@ -434,6 +410,7 @@ impl Solver for Panel {
         redrawn.map(count)
     }
 
+    #[inline(never)]
     fn plan(&self, reply: &mut [u8; LONGEST_REPLY]) -> Result<usize, Refusal> {
         if self.size == 0 {
             return Err(Refusal::NotOpen);
@@ -482,6 +459,22 @@ impl Solver for Panel {
         formula.check(id, self.size, |id| self.links[id & 127].covered)?;
         self.formulas[id as usize & 127] = formula;
         Ok(0)
+    }
+
+    fn park(&mut self, id: u8) -> Result<u8, Refusal> {
+        let link = Link::named(id, &self.links, self.size)?;
+        let redrawn = self.withdraw_link(id, link.with(Standing::Parked), true);
+        redrawn.map(count)
+    }
+
+    fn bring_back(&mut self, id: u8) -> Result<u8, Refusal> {
+        let link = Link::named(id, &self.links, self.size)?;
+        if !link.is_parked() {
+            return Ok(0);
+        }
+        let link = link.with(Standing::Waiting);
+        let redrawn = self.enter_link(&mut Tables::of(self), id, link);
+        redrawn.map(count)
     }
 }
 

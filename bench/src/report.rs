@@ -2,41 +2,29 @@
 
 use crate::measure::{Growth, Mixed};
 use panel_bench::sides::SIDES;
-use panel_bench::texts::{GROWTH_FIELDS, GROWTH_LINKS, MIXES};
+use panel_bench::texts::{Kinds, GROWTH_FIELDS, GROWTH_LINKS, MIXES};
 use std::fmt::Write;
 
 /// A table of the mixes.
 pub fn mixes(mixed: &[Mixed], rounds: usize) -> String {
+    let (drawn, kinds) = (Kinds::NAMES.join("/"), Kinds::NAMES.join(" | "));
+    let rule = "--:|".repeat(Kinds::NAMES.len() + 8);
     let mut table = format!(
         "Time per command: the least of {rounds} rounds, the solvers in turn; the buffer for the output \
          is not cleared between rounds. Shares of all commands in percent.\n\n\
-         | mix | touch/remove/add/plan/formula/value/change as drawn | commands | touch | remove | add | plan | formula \
-         | value | change | refused | moved | ordinary, ns | tuned, ns | proved, ns | proved ÷ ordinary | proved ÷ tuned |\n\
-         |---|---|--:|--:|--:|--:|--:|--:|--:|--:|--:|--:|--:|--:|--:|--:|--:|\n"
+         | mix | {drawn} as drawn | commands | {kinds} | refused | moved \
+         | ordinary, ns | tuned, ns | proved, ns | proved ÷ ordinary | proved ÷ tuned |\n\
+         |---|---|{rule}\n"
     );
     for row in mixed {
         let drawn = match MIXES[row.mix] {
-            Some(s) => [
-                s.touch, s.remove, s.add, s.plan, s.formula, s.value, s.change,
-            ]
-            .map(|share| share.to_string())
-            .join("/"),
+            Some(shares) => shares.list().map(|share| share.to_string()).join("/"),
             None => "only the opening and adds".to_string(),
         };
-        let kinds = &row.kinds;
-        let all = kinds.all() as f64;
-        let counts = [
-            kinds.touch,
-            kinds.remove,
-            kinds.add,
-            kinds.plan,
-            kinds.formula,
-            kinds.value,
-            kinds.change,
-        ];
+        let all = row.kinds.all() as f64;
         let replies = [row.replies.refused, row.replies.moved];
         write!(table, "| {} | {drawn} | {all} |", row.mix + 1).expect("a string");
-        for count in counts.into_iter().chain(replies) {
+        for count in row.kinds.list().into_iter().chain(replies) {
             write!(table, " {:.1} |", 100.0 * count as f64 / all).expect("a string");
         }
         for time in row.times.nanoseconds() {

@@ -35,6 +35,8 @@ pub trait Solver {
     fn touch(&mut self, field: u8) -> Result<u8, Refusal>;
     fn store(&mut self, field: u8, value: i32) -> Result<u8, Refusal>;
     fn give_formula(&mut self, id: u8, formula: Formula) -> Result<u8, Refusal>;
+    fn park(&mut self, id: u8) -> Result<u8, Refusal>;
+    fn bring_back(&mut self, id: u8) -> Result<u8, Refusal>;
     /// Writes the reply; the answer is its length.
     fn plan(&self, reply: &mut [u8; LONGEST_REPLY]) -> Result<usize, Refusal>;
 }
@@ -91,6 +93,8 @@ fn answer<P: Solver>(panel: &mut P, command: Command, output: &mut Output) -> Re
         Command::Touch(field) => panel.touch(field)?,
         Command::Store(field, value) => panel.store(field, value)?,
         Command::Formula(id, formula) => panel.give_formula(id, formula)?,
+        Command::Park(id) => panel.park(id)?,
+        Command::BringBack(id) => panel.bring_back(id)?,
         Command::Plan => {
             let mut reply = [0; LONGEST_REPLY];
             let len = panel.plan(&mut reply)?;

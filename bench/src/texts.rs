@@ -2,8 +2,8 @@
 //!
 //! A text opens a panel, adds links until the wanted number is in use, and is
 //! filled up to the limit with commands of one mix. While a text is made its
-//! commands run on a panel, so that removes and changes name links in use and adds
-//! name numbers not in use. In the opening part an add that the panel refuses is
+//! commands run on a panel, so that removes and changes name links in use, adds
+//! name numbers not in use, and most links that are brought back are parked. In the opening part an add that the panel refuses is
 //! left out and another one is drawn. In the part behind it refused commands
 //! stay in the text, but of the refused values most are drawn again. In a mix with
 //! formulas every link that can have one gets one behind the opening part.
@@ -14,9 +14,11 @@ use crate::tuned::Panel;
 use harness::generate::Rng;
 use std::ops::RangeInclusive;
 
-/// What the commands behind the opening part are drawn from, in percent.
-#[derive(Clone, Copy, Debug, PartialEq, Eq)]
-pub struct Shares {
+/// A number for each kind of command: how many there are, or the share in percent
+/// that is drawn behind the opening part.
+#[derive(Clone, Copy, Debug, Default, PartialEq, Eq)]
+pub struct Kinds {
+    pub open: usize,
     pub touch: usize,
     pub remove: usize,
     pub add: usize,
@@ -24,11 +26,40 @@ pub struct Shares {
     pub formula: usize,
     pub value: usize,
     pub change: usize,
+    pub park: usize,
+    pub back: usize,
 }
 
-/// Shares without formulas, values and changes.
-const fn shares(touch: usize, remove: usize, add: usize, plan: usize) -> Shares {
-    Shares {
+impl Kinds {
+    /// The names of all kinds but the opening.
+    pub const NAMES: [&'static str; 9] = [
+        "touch", "remove", "add", "plan", "formula", "value", "change", "park", "back",
+    ];
+
+    /// The numbers of these.
+    pub fn list(&self) -> [usize; 9] {
+        [
+            self.touch,
+            self.remove,
+            self.add,
+            self.plan,
+            self.formula,
+            self.value,
+            self.change,
+            self.park,
+            self.back,
+        ]
+    }
+
+    pub fn all(&self) -> usize {
+        self.open + self.list().iter().sum::<usize>()
+    }
+}
+
+/// Shares of four kinds alone.
+const fn shares(touch: usize, remove: usize, add: usize, plan: usize) -> Kinds {
+    Kinds {
+        open: 0,
         touch,
         remove,
         add,
@@ -36,30 +67,38 @@ const fn shares(touch: usize, remove: usize, add: usize, plan: usize) -> Shares 
         formula: 0,
         value: 0,
         change: 0,
+        park: 0,
+        back: 0,
     }
 }
 
-/// The mixes, by their numbers. A mix without shares is of short texts that end
+/// The shares of the mixes, by their numbers. A mix without shares is of short texts that end
 /// after the opening part, since then all link numbers are in use.
-pub const MIXES: [Option<Shares>; 7] = [
+pub const MIXES: [Option<Kinds>; 8] = [
     Some(shares(40, 25, 25, 10)),
     Some(shares(45, 28, 27, 0)),
     None,
     Some(shares(20, 15, 15, 50)),
     Some(shares(90, 4, 4, 2)),
-    Some(Shares {
+    Some(Kinds {
         formula: 10,
         value: 50,
         ..shares(15, 10, 10, 5)
     }),
-    Some(Shares {
+    Some(Kinds {
         change: 35,
         ..shares(30, 15, 15, 5)
+    }),
+    Some(Kinds {
+        change: 5,
+        park: 20,
+        back: 20,
+        ..shares(25, 10, 10, 10)
     }),
 ];
 
 /// The mix of the texts for growth.
-pub const GROWTH_MIX: Shares = shares(40, 25, 25, 10);
+pub const GROWTH_MIX: Kinds = shares(40, 25, 25, 10);
 /// The numbers of fields and of links of the texts for growth.
 pub const GROWTH_FIELDS: [usize; 4] = [8, 16, 32, 64];
 pub const GROWTH_LINKS: [usize; 7] = [0, 8, 16, 32, 64, 96, 128];
@@ -99,27 +138,7 @@ pub fn count(texts: &[Vec<u8>]) -> usize {
     texts.iter().map(lines).sum()
 }
 
-/// How many commands there are of each kind.
-#[derive(Clone, Copy, Debug, Default, PartialEq, Eq)]
-pub struct Kinds {
-    pub open: usize,
-    pub add: usize,
-    pub remove: usize,
-    pub touch: usize,
-    pub plan: usize,
-    pub formula: usize,
-    pub value: usize,
-    pub change: usize,
-}
-
-impl Kinds {
-    pub fn all(&self) -> usize {
-        let links = self.add + self.remove + self.change + self.formula;
-        self.open + links + self.touch + self.value + self.plan
-    }
-}
-
-/// The kinds of the commands of texts.
+/// How many commands of each kind there are in texts.
 pub fn kinds(texts: &[Vec<u8>]) -> Kinds {
     let mut kinds = Kinds::default();
     let lines = texts.iter().flat_map(|text| text.split(|&b| b == b'\n'));
@@ -132,6 +151,8 @@ pub fn kinds(texts: &[Vec<u8>]) -> Kinds {
             b'6' => kinds.change += 1,
             b'7' => kinds.value += 1,
             b'8' => kinds.formula += 1,
+            b'9' if line.ends_with(b"1") => kinds.park += 1,
+            b'9' => kinds.back += 1,
             _ => kinds.plan += 1,
         }
     }
@@ -155,6 +176,9 @@ fn until(commands: usize, first_seed: u64, text: impl Fn(u64) -> Vec<u8>) -> Vec
 /// The characters of the longest line, an add over eight fields with its LF.
 const LONGEST_LINE: usize = 2 * 11 + 1;
 
+/// How many links are parked at most.
+pub const MOST_PARKED: usize = 16;
+
 /// How many values are drawn at most until the panel accepts one.
 const DRAWS: usize = 10;
 
@@ -168,6 +192,7 @@ struct Writer {
     in_use: RangeInclusive<usize>,
     used: Vec<u8>,
     unused: Vec<u8>,
+    parked: Vec<u8>,
     /// By link number: its level and its field bytes, while it is in use.
     bodies: [Vec<u8>; 128],
 }
@@ -184,6 +209,7 @@ impl Writer {
             in_use,
             used: Vec::new(),
             unused: (0..128).collect(),
+            parked: Vec::new(),
             bodies: [const { Vec::new() }; 128],
         };
         writer.line(&[1, fields as u8]);
@@ -198,7 +224,7 @@ impl Writer {
     }
 
     /// Commands of a mix until the limit leaves no room for another one.
-    fn fill(&mut self, shares: Shares) {
+    fn fill(&mut self, shares: Kinds) {
         if shares.formula > 0 {
             for id in 0..128 {
                 self.formula(id);
@@ -208,6 +234,8 @@ impl Writer {
         let added = exchanged + shares.add;
         let planned = added + shares.plan;
         let related = planned + shares.formula;
+        let changed = related + shares.change;
+        let parked = changed + shares.park;
         while self.text.len() + LONGEST_LINE <= TEXT_LIMIT {
             match self.rng.below(100) {
                 drawn if drawn < shares.touch => self.touch(),
@@ -215,7 +243,9 @@ impl Writer {
                 drawn if drawn < added => self.exchange(false),
                 drawn if drawn < planned => self.line(&[5]),
                 drawn if drawn < related => self.any_formula(),
-                drawn if drawn < related + shares.change => self.change(),
+                drawn if drawn < changed => self.change(),
+                drawn if drawn < parked => self.switch(true),
+                drawn if drawn < parked + shares.back => self.switch(false),
                 _ => self.value(),
             }
         }
@@ -248,6 +278,7 @@ impl Writer {
         if self.panel.remove(id).is_ok() {
             self.used.swap_remove(place);
             self.unused.push(id);
+            self.parked.retain(|&other| other != id);
             self.bodies[id as usize].clear();
         }
     }
@@ -281,6 +312,38 @@ impl Writer {
         self.line(&[&[6, id], &body[..]].concat());
         if self.panel.change(id, body[0], &body[1..]).is_ok() {
             self.bodies[id as usize] = body;
+        }
+    }
+
+    /// Parks a link or brings one back, as drawn, while the number of parked links
+    /// stays in its range; at the ends of the range the other one. One in twenty
+    /// changes nothing: it parks a parked link, or brings back one that is not.
+    fn switch(&mut self, park: bool) {
+        let none = self.parked.is_empty();
+        let park = none || (park && self.parked.len() < MOST_PARKED);
+        let changes_nothing = !none && self.rng.percent(5);
+        let id = match park == changes_nothing {
+            true => *self.rng.pick(&self.parked),
+            false => self.link_in_force(),
+        };
+        self.line(&[9, id, park as u8]);
+        let reply = match park {
+            true => self.panel.park(id),
+            false => self.panel.bring_back(id),
+        };
+        if reply.is_ok() {
+            self.parked.retain(|&other| other != id);
+            self.parked.extend(park.then_some(id));
+        }
+    }
+
+    /// A link in use that is not parked.
+    fn link_in_force(&mut self) -> u8 {
+        loop {
+            let id = *self.rng.pick(&self.used);
+            if !self.parked.contains(&id) {
+                return id;
+            }
         }
     }
 

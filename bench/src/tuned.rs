@@ -50,6 +50,14 @@ impl Solver for Panel {
         Panel::give_formula(self, id, formula)
     }
 
+    fn park(&mut self, id: u8) -> Result<u8, Refusal> {
+        Panel::park(self, id)
+    }
+
+    fn bring_back(&mut self, id: u8) -> Result<u8, Refusal> {
+        Panel::bring_back(self, id)
+    }
+
     fn plan(&self, reply: &mut [u8; LONGEST_REPLY]) -> Result<usize, Refusal> {
         Panel::plan(self, reply)
     }

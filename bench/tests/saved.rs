@@ -1,14 +1,14 @@
-//! Saved panels (document 02, request 7), as the proved solver writes and reads them, or
-//! with `--features standin` the plain solver in its place: those worked out by hand,
-//! buffers of every length, and beside the plain solver every single byte changed,
-//! lines changed, and random saved texts.
+//! Saved panels (document 02, requests 7 and 8), as the proved solver writes and reads
+//! them, or with `--features standin` the plain solver in its place: those worked out by
+//! hand, buffers of every length, both versions, and beside the plain solver every single
+//! byte changed, lines changed, and random saved texts.
 
 use harness::compare::{check_met, check_output};
 use harness::generate::{self, image, with_lines_changed};
 use harness::plain::{lines, resume_text, run_text_with, save_text, Run, TEXT_LIMIT};
 use harness::shrink::shorten;
 use harness::worked;
-use harness::worked::saved::{look, panels, readings, resumed};
+use harness::worked::saved::{in_version, look, panels, readings, resumed};
 use panel_bench::sides::{resumed_proved, saved_proved};
 use std::collections::BTreeMap;
 
@@ -16,7 +16,7 @@ use std::collections::BTreeMap;
 const FILLER: u8 = b'~';
 
 /// A small panel.
-const ONE_FIELD: &[u8] = b"0A0101\n0B00\n";
+const ONE_FIELD: &[u8] = b"0A0201\n0B00\n";
 
 /// The output of a function that writes to a buffer and answers the length, on a buffer
 /// that has this much room behind the expected output. Nothing beside the output is
@@ -155,8 +155,8 @@ fn buffers_of_every_length() {
     let lines = b"05\n";
     for (saved, reply) in [
         (&b""[..], b"FF13\n"),
-        (b"0A0201\n0B00\n", b"FF14\n"),
-        (b"0A0101\n0B00\n0C0005FF80\n", b"FF15\n"),
+        (b"0A0301\n0B00\n", b"FF14\n"),
+        (b"0A0201\n0B00\n0C0005FF80\n", b"FF15\n"),
         (&over, b"FF0C\n"),
     ] {
         check_lengths(reply, |out| resumed_proved(saved, lines, out));
@@ -186,7 +186,7 @@ fn long_outputs() {
 fn each_call_starts_unopened() {
     let (text, one) = (
         b"0102\n0400\n070100000005\n",
-        b"0A0102\n0B0100\n0D0100000005\n",
+        b"0A0202\n0B0100\n0D0100000005\n",
     );
     for _ in 0..2 {
         check_output("saved", &saved(text, one), one);
@@ -194,7 +194,7 @@ fn each_call_starts_unopened() {
         let answered = b"0000\n0000\nEE00000100000100000000\n";
         let given = resumed(one, b"070100000005\n", answered);
         check_output("resumed", &given, answered);
-        let refused = resumed(b"0A0102\n", b"05\n", b"FF13\n");
+        let refused = resumed(b"0A0202\n", b"05\n", b"FF13\n");
         check_output("refused", &refused, b"FF13\n");
     }
 }
@@ -204,7 +204,7 @@ fn each_call_starts_unopened() {
 fn limit_of_a_text() {
     let mut text = b"0102\n0701FFFFFFFF\n".to_vec();
     text.resize(TEXT_LIMIT, b'\n');
-    let expected = b"0A0102\n0B0100\n0D01FFFFFFFF\n";
+    let expected = b"0A0202\n0B0100\n0D01FFFFFFFF\n";
     check_output("saved", &saved(&text, expected), expected);
     check_resumed(ONE_FIELD, &text);
     text.push(b'\n');
@@ -213,6 +213,24 @@ fn limit_of_a_text() {
     check_output("over", &over, b"0000\nFF0C\n");
     let over = resumed(&text, &text, b"FF0C\n");
     check_output("both over", &over, b"FF0C\n");
+}
+
+/// Every version: 01 and 02 are known, and a link is parked only in 02.
+#[test]
+fn versions() {
+    let link_1_holds = "0000\n0001000102\n0000\nEE00000200000200000000\n";
+    for version in 0..=255 {
+        for (standing, taken_in) in [("FF", [1, 2]), ("FE", [2, 2])] {
+            let saved = format!("0A{version:02X}01\n0B00\n0C0005{standing}80\n0C01020080\n");
+            let expected = match version {
+                _ if taken_in.contains(&version) => link_1_holds,
+                1 => "FF13\n",
+                _ => "FF14\n",
+            };
+            let given = resumed(saved.as_bytes(), b"05\n0300\n", expected.as_bytes());
+            check_output(&saved, &given, expected.as_bytes());
+        }
+    }
 }
 
 /// What is saved after every text that is worked out by hand, and a look at the panel
@@ -282,6 +300,27 @@ fn short_panels(texts: u64, length: usize) -> Vec<Vec<u8>> {
     let mut saved: Vec<Vec<u8>> = worked.chain(opened).collect();
     saved.retain(|saved| saved.len() <= length);
     saved
+}
+
+/// Of version 01 a saved text is answered as of version 02, unless a link is parked.
+#[test]
+fn old_version() {
+    let mut met = Met::new();
+    for panel in short_panels(600, 3_000) {
+        let mut run = Run::default();
+        run.read_saved(&panel).expect("a saved panel");
+        let is_parked = |line: &&[u8]| line.starts_with(b"0C") && line[6..].starts_with(b"FE");
+        let expected = match lines(&panel).iter().any(is_parked) {
+            true => b"FF13\n".to_vec(),
+            false => check_resumed(&panel, &look(&run)),
+        };
+        let old = in_version(b"01", &panel);
+        let given = resumed(&old, &look(&run), &expected);
+        check_output(&String::from_utf8_lossy(&old), &given, &expected);
+        note(&mut met, &given);
+    }
+    println!("{met:?}");
+    check_met(&met, &[("0000", 250), ("FF13", 250)]);
 }
 
 /// Every byte of saved texts as every other byte.

@@ -1,7 +1,7 @@
 //! How many strengths the proved solver works out for each scan for blocked links
 //! and stays. "A test counts n strengths worked out for each scan": n for a panel of
 //! n fields, and a scan for each removal of a link that sets a field, that of a change
-//! included, on texts worked out by hand and on random ones. With `--features standin`
+//! and each parking included, on texts worked out by hand and on random ones. With `--features standin`
 //! the plain solver's record stands in its place: the tests against that record then
 //! say nothing, those on texts worked out by hand and on replies are of the record
 //! itself.
@@ -56,13 +56,28 @@ fn output(text: &[u8]) -> Vec<u8> {
     out
 }
 
+/// The reply to the last line of a text that has one.
+fn last_reply(text: &[u8]) -> String {
+    let output = output(text);
+    // The tally is the last line of all.
+    let reply = plain::lines(&output).into_iter().nth_back(1);
+    String::from_utf8_lossy(reply.expect("a line")).to_string()
+}
+
+/// No scan on these lines, and this reply to the last one.
+fn check_no_scan(lines: &[&str], reply: &str) {
+    let text: String = lines.iter().map(|line| line.to_string() + "\n").collect();
+    assert_eq!(scans(text.as_bytes()), [], "{lines:?}");
+    assert_eq!(last_reply(text.as_bytes()), reply, "{lines:?}");
+}
+
 /// No scan: no removal, or one of a link that waits, or one that is refused before
 /// anything is looked at. Each case has the reply to its last line.
 #[test]
 fn no_scan() {
-    let cases: [(&[&str], &str); 41] = [
+    assert_eq!(scans(b""), []);
+    let cases: [(&[&str], &str); 40] = [
         // before the opening
-        (&[], "EE00000000000000000000"),
         (&["0300"], "FF04"),
         (&["02000080", "0300"], "FF04"),
         (&["0100", "0141", "0300"], "FF04"),
@@ -117,13 +132,58 @@ fn no_scan() {
         (&["0101", "02000080", ""], "FF010000"),
     ];
     for (lines, reply) in cases {
-        let text: String = lines.iter().map(|line| line.to_string() + "\n").collect();
-        assert_eq!(scans(text.as_bytes()), [], "{lines:?}");
-        let output = output(text.as_bytes());
-        let replies = plain::lines(&output);
-        let last = replies[lines.len().saturating_sub(1)];
-        assert_eq!(String::from_utf8_lossy(last), reply, "{lines:?}");
+        check_no_scan(lines, reply);
     }
+}
+
+/// No scan by kind 09 where link 0 holds field 0 and link 1 waits: what waits is parked,
+/// what is not parked is brought back, or a check refuses.
+#[test]
+fn no_scan_by_kind_09() {
+    for (line, reply) in [
+        ("090101", "0000"),
+        ("090100", "0000"),
+        ("090000", "0000"),
+        ("098001", "FF06"),
+        ("098000", "FF06"),
+        ("090201", "FF09"),
+        ("090200", "FF09"),
+        ("0900", "FF02"),
+        ("090002", "FF02"),
+        ("0900FF", "FF02"),
+        ("09000100", "FF02"),
+        ("09000", "FF010005"),
+    ] {
+        check_no_scan(&["0101", "02000580", "02010580", line], reply);
+    }
+    check_no_scan(&["090001"], "FF04");
+    check_no_scan(&["090000"], "FF04");
+}
+
+/// No scan by any line on a parked link: link 1 waited for field 0, which link 0 holds.
+#[test]
+fn no_scan_by_a_parked_link() {
+    let parked = ["0101", "02000580", "02010580", "090101"];
+    let cases: [(&[&str], &str); 8] = [
+        (&["090101"], "0000"),
+        (&["090100"], "0000"),
+        (&["0301"], "0000"),
+        (&["02010480"], "FF08"),
+        (&["06010480"], "0000"),
+        // link 1 takes the field, and link 0, which waits then, is parked
+        (&["06010080", "090100"], "0001"),
+        (&["06010080", "090100", "090001"], "0000"),
+        (
+            &["06010080", "090100", "090001", "06000080", "090000"],
+            "FF0A",
+        ),
+    ];
+    for (lines, reply) in cases {
+        check_no_scan(&[&parked[..], lines].concat(), reply);
+    }
+    let waiting = ["0102", "0200000081", "02010180", "0202028001"];
+    let required = ["090201", "0602008001", "090200"];
+    check_no_scan(&[&waiting[..], &required].concat(), "FF0B");
 }
 
 /// The removal of the one link of a panel, for every number of fields; the link
@@ -152,6 +212,13 @@ fn scan_for_each_removal() {
     assert_eq!(scans(text), [3, 3, 3]);
 }
 
+/// One scan on a text of two fields, and this reply to its last line.
+fn check_one_scan(text: &[u8], reply: &str) {
+    let shown = String::from_utf8_lossy(text);
+    assert_eq!(scans(text), [2], "{shown:?}");
+    assert_eq!(last_reply(text), reply, "{shown:?}");
+}
+
 /// The change of a link that sets a field has the scan of its removal, whatever its
 /// reply is: accepted, a Conflict or Loop of the adding, or the removal's Loop.
 #[test]
@@ -165,18 +232,37 @@ fn scan_for_each_change() {
         (b"0102\n02000080\n0201000081\n0202018001\n06000080", "FF0B"),
     ];
     for (text, reply) in cases {
-        let shown = String::from_utf8_lossy(text);
-        assert_eq!(scans(text), [2], "{shown:?}");
-        let output = output(text);
-        let replies = plain::lines(&output);
-        // The tally is the last line.
-        let last = replies[replies.len() - 2];
-        assert_eq!(String::from_utf8_lossy(last), reply, "{shown:?}");
+        check_one_scan(text, reply);
     }
     for n in 1..=64 {
         let field = 0x7F + n;
         let text = format!("01{n:02X}\n027F0F{field:02X}\n067F05{field:02X}\n067F0080\n");
         assert_eq!(scans(text.as_bytes()), [n, n], "{text:?}");
+    }
+}
+
+/// The parking of a link that sets a field has the scan of a removal, whatever its reply
+/// is: the stay or a waiting link takes the field, a field downstream is redrawn too, or
+/// Loop. While it is parked it has no other; brought back it has another one when it is
+/// parked again or removed.
+#[test]
+fn scan_for_each_parking() {
+    let cases: [(&[u8], &str); 7] = [
+        (b"0102\n02000080\n090001", "0001"),
+        (b"0102\n02000580\n02010780\n090001", "0001"),
+        (b"0102\n02000080\n0201000081\n090001", "0002"),
+        (b"0102\n02000080\n0201000081\n0202018001\n090001", "FF0B"),
+        (b"0102\n02000080\n090001\n090001", "0000"),
+        (b"0102\n02000080\n090001\n06000181\n0300", "0000"),
+        (b"0102\n02000080\n090001\n090000", "0001"),
+    ];
+    for (text, reply) in cases {
+        check_one_scan(text, reply);
+    }
+    for n in 1..=64 {
+        let link = format!("01{n:02X}\n027F0F{:02X}\n", 0x7F + n);
+        let text = link + "097F01\n097F00\n097F01\n097F01\n097F00\n037F\n";
+        assert_eq!(scans(text.as_bytes()), [n; 3], "{text:?}");
     }
 }
 
@@ -226,6 +312,10 @@ fn refused_with_loop() {
     // link 2 waits; without it link 1 goes
     assert_eq!(refused(&again), 2);
     assert_eq!(scans(&again), [2, 2, 2]);
+    // The same of parking; link 2 is parked in place of going.
+    let parked = [&text[..text.len() - 4], b"090101\n090201\n090101\n"].concat();
+    assert_eq!(refused(&parked), 1);
+    assert_eq!(scans(&parked), [2, 2]);
 }
 
 /// As many first counts as fit, and nothing behind the buffer; the answer is the
@@ -273,8 +363,8 @@ fn limit_of_a_text() {
     assert_eq!(scans_proved(&long, &mut []), 0);
 }
 
-/// Texts full of scans: a link added and removed again and again, on one field and
-/// on 64; and a removal that is refused with Loop, a scan for each line of 5 bytes,
+/// Texts full of scans: a link added and removed again and again, or parked and brought
+/// back, on one field and on 64; and a removal that is refused with Loop, a scan for each line of 5 bytes,
 /// which is the most that a text has.
 #[test]
 fn many_scans() {
@@ -282,6 +372,10 @@ fn many_scans() {
         let opening = format!("01{n:02X}\n").into_bytes();
         let text = [opening, b"02000080\n0300\n".repeat(4_680)].concat();
         assert!((65_535 - 13..=65_535).contains(&text.len()));
+        assert_eq!(scans(&text), [n; 4_680]);
+        let opening = format!("01{n:02X}\n02000080\n").into_bytes();
+        let text = [opening, b"090001\n090000\n".repeat(4_680)].concat();
+        assert!((65_535 - 14..=65_535).contains(&text.len()));
         assert_eq!(scans(&text), [n; 4_680]);
     }
     let links = b"0102\n0200000081\n02010180\n0202028001\n";
@@ -291,7 +385,7 @@ fn many_scans() {
 }
 
 /// The scans of a text, each by its count, and how many of them ended in a removal
-/// that is refused with Loop.
+/// or a parking that is refused with Loop.
 #[derive(Debug, PartialEq, Eq)]
 struct Scans {
     counts: Vec<u8>,
@@ -309,18 +403,23 @@ fn plain_scans(text: &[u8]) -> Scans {
     }
 }
 
-/// How many removals are refused with Loop.
+/// Whether a line parks a link.
+fn parks(line: &[u8]) -> bool {
+    line.len() == 6 && line.starts_with(b"09") && line.ends_with(b"01")
+}
+
+/// How many removals and parkings are refused with Loop.
 fn looped(text: &[u8], output: &[u8]) -> usize {
     let replies = plain::lines(output);
     let lines = plain::lines(text).into_iter().zip(replies);
     lines
-        .filter(|(line, reply)| line.starts_with(b"03") && reply == b"FF0B")
+        .filter(|(line, reply)| (line.starts_with(b"03") || parks(line)) && reply == b"FF0B")
         .count()
 }
 
 /// The scans as the replies tell them, whatever the plain solver has on record: a
-/// plan goes before each line, and a removal or a change that passes its checks has a
-/// scan where that plan gives its link as a setter. The plan also tells n.
+/// plan goes before each line, and a removal, a change or a parking that passes its
+/// checks has a scan where that plan gives its link as a setter. The plan also tells n.
 fn scans_of_replies(text: &[u8]) -> Scans {
     let lines = plain::lines(text);
     let planned = lines.iter().flat_map(|line| [b"05\n", *line, b"\n"]);
@@ -332,7 +431,8 @@ fn scans_of_replies(text: &[u8]) -> Scans {
     for (line, replies) in lines.iter().zip(replies.chunks(2)) {
         let by_links = [b"FF0A", b"FF0B"].iter().any(|reply| replies[1] == *reply);
         let passes = replies[1].starts_with(b"00") || by_links;
-        if (line.starts_with(b"03") || line.starts_with(b"06")) && passes {
+        let removes = line.starts_with(b"03") || line.starts_with(b"06") || parks(line);
+        if removes && passes {
             let plan = plain::read_hex(replies[0]).expect("digits");
             let mut setters = plan[2..].chunks(3).map(|entry| entry[1]);
             let id = plain::read_hex(line).expect("digits")[1];
@@ -376,7 +476,7 @@ impl Met {
     }
 
     /// So many texts at least, with so many scans, on panels of so many different
-    /// sizes, so many of them in removals that are refused with Loop.
+    /// sizes, so many of them in removals and parkings that are refused with Loop.
     fn must_have(&self, texts: usize, scans: usize, sizes: usize, looped: usize) {
         assert!(self.texts >= texts, "{self:?}");
         assert!(self.scans.values().sum::<usize>() >= scans, "{self:?}");
@@ -392,7 +492,7 @@ fn worked_texts() {
     for text in worked::texts() {
         met.check(&text.text, plain_scans);
     }
-    met.must_have(700, 1_600, 10, 4);
+    met.must_have(800, 1_900, 10, 10);
 }
 
 /// Neighbouring seeds take different mixes.
@@ -414,7 +514,7 @@ fn long_random_texts() {
             met.check(&generate::long_text(seed, mix), plain_scans);
         }
     }
-    met.must_have(60, 27_000, 15, 3_800);
+    met.must_have(64, 32_000, 15, 4_200);
 }
 
 /// Texts that leave room for a plan before each line.

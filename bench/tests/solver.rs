@@ -109,6 +109,24 @@ fn short_frames() {
     runner.check(&frames.concat().as_bytes()[..TEXT_LIMIT]);
 }
 
+/// Every frame of kind 09 of three bytes, and some of four, before an opening and on a
+/// panel with a link that holds, one that waits and two that are parked.
+#[test]
+fn frames_of_kind_09() {
+    let three_bytes = (0..=0xFFFF).map(|rest| format!("09{rest:04X}\n"));
+    let four_bytes = (0..=0x1FF).map(|rest| format!("0900{rest:04X}\n"));
+    let frames: Vec<String> = three_bytes.chain(four_bytes).collect();
+    let mut runner = Runner::new();
+    for opening in [
+        "",
+        "0121\n02000580\n0201052122A3\n02020580\n027F0381\n020300A0\n090301\n097F01\n",
+    ] {
+        for part in frames.chunks(9_000) {
+            runner.check((opening.to_string() + &part.concat() + "05\n").as_bytes());
+        }
+    }
+}
+
 /// Lines that are no frames, of any length.
 #[test]
 fn damaged_lines() {
@@ -155,6 +173,12 @@ fn changes_of_links() {
 #[test]
 fn redraw_counts() {
     check_worked(&worked::redraws::all());
+}
+
+/// Parked links, by the outputs worked out by hand.
+#[test]
+fn parked_links() {
+    check_worked(&worked::parked::all());
 }
 
 /// Full panels, by the outputs worked out by hand.

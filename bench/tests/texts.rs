@@ -3,7 +3,7 @@
 use harness::plain::read_hex;
 use panel_bench::sides::side_tuned;
 use panel_bench::text::{LONGEST_OUTPUT, TEXT_LIMIT};
-use panel_bench::texts::{self, GROWTH_COMMANDS, MIXES, MIX_COMMANDS};
+use panel_bench::texts::{self, GROWTH_COMMANDS, MIXES, MIX_COMMANDS, MOST_PARKED};
 use std::collections::{BTreeMap, BTreeSet};
 
 /// The commands of a text and their replies.
@@ -17,8 +17,8 @@ fn replies(text: &[u8]) -> Vec<(String, String)> {
     lines(text).into_iter().zip(lines(&out[..len])).collect()
 }
 
-/// The links in use after each command. A remove and a change must name one in use,
-/// and an add one not in use.
+/// The links in use after each command, parked ones among them. A remove, a change, a
+/// parking and a bringing back must name one in use, and an add one not in use.
 fn links_in_use(text: &[u8]) -> Vec<usize> {
     let mut used = BTreeSet::new();
     let mut counts = Vec::new();
@@ -38,7 +38,7 @@ fn links_in_use(text: &[u8]) -> Vec<usize> {
                     used.remove(&id);
                 }
             }
-            "06" => assert!(used.contains(&id), "{command}"),
+            "06" | "09" => assert!(used.contains(&id), "{command}"),
             _ => {}
         }
         counts.push(used.len());
@@ -82,16 +82,8 @@ fn shares_are_near_those_drawn() {
             continue;
         };
         let kinds = texts::kinds(&texts::of_mix(mix));
-        let pairs = [
-            (kinds.touch, drawn.touch),
-            (kinds.remove, drawn.remove),
-            (kinds.add, drawn.add),
-            (kinds.plan, drawn.plan),
-            (kinds.formula, drawn.formula),
-            (kinds.value, drawn.value),
-            (kinds.change, drawn.change),
-        ];
-        for (count, percent) in pairs {
+        assert_eq!(drawn.all(), 100);
+        for (count, percent) in kinds.list().into_iter().zip(drawn.list()) {
             let found = 100.0 * count as f64 / kinds.all() as f64;
             assert!((found - percent as f64).abs() < 2.5, "mix {mix}: {kinds:?}");
         }
@@ -187,7 +179,72 @@ fn values_are_mostly_accepted_over_formulas() {
     assert_eq!(count("FF0B") + count("FF0D") + count("FF0E"), refused);
 }
 
-/// The texts without changes are those that the first figures in docs/ are of.
+/// The sort of a command on a link that is parked or is not; none for most commands
+/// on one that is not.
+fn sort(command: &str, is_parked: bool) -> Option<&'static str> {
+    let sort = match (&command[..2], is_parked) {
+        ("09", false) if command.ends_with("1") => "park",
+        ("09", true) if command.ends_with("1") => "park a parked link",
+        ("09", true) => "bring back",
+        ("09", false) => "bring back another link",
+        ("03", true) => "remove a parked link",
+        ("06", true) => "change a parked link",
+        _ => return None,
+    };
+    Some(sort)
+}
+
+/// The sorts of the commands of a text with their replies, which tell what is parked.
+fn sorts(text: &[u8]) -> Vec<(&'static str, String)> {
+    let mut parked = BTreeSet::new();
+    let mut sorts = Vec::new();
+    for (command, reply) in replies(text) {
+        let id = command.get(2..4).map(String::from);
+        let Some(sort) = sort(&command, parked.contains(&id)) else {
+            continue;
+        };
+        match sort {
+            _ if reply.starts_with("FF") => false,
+            "park" => parked.insert(id),
+            "bring back" | "remove a parked link" => parked.remove(&id),
+            _ => false,
+        };
+        assert!(parked.len() <= MOST_PARKED);
+        sorts.push((sort, reply));
+    }
+    sorts
+}
+
+/// In the mix with parked links they meet each refusal by the links and each moved
+/// count up to three; what has nothing to do replies 0, and so does each remove and
+/// each change of a parked link.
+#[test]
+fn parked_links_meet_all_cases() {
+    let texts = texts::of_mix(7);
+    let met: Vec<_> = texts.iter().flat_map(|text| sorts(text)).collect();
+    let count = |sort, reply| {
+        let found = met.iter().filter(|(s, r)| *s == sort && r.contains(reply));
+        found.count()
+    };
+    for sort in ["park", "bring back"] {
+        for reply in ["0000", "0001", "0002", "0003", "FF0B"] {
+            assert!(count(sort, reply) > 100, "{sort} {reply}");
+        }
+    }
+    assert!(count("bring back", "FF0A") > 50);
+    assert_eq!(count("park", "FF0A"), 0);
+    for sort in [
+        "park a parked link",
+        "bring back another link",
+        "remove a parked link",
+        "change a parked link",
+    ] {
+        assert!(count(sort, "0000") > 100, "{sort}");
+        assert_eq!(count(sort, "0000"), count(sort, ""), "{sort}");
+    }
+}
+
+/// The texts that the first figures in docs/ are of.
 #[test]
 fn first_mixes_are_unchanged() {
     // FNV-1a of all texts of a mix in a row.
@@ -198,7 +255,7 @@ fn first_mixes_are_unchanged() {
             .into_iter()
             .fold(0xCBF2_9CE4_8422_2325, mix_in)
     };
-    let digests = [0, 1, 2, 3, 4, 5].map(|mix| digest(texts::of_mix(mix)));
+    let digests = [0, 1, 2, 3, 4, 5, 6].map(|mix| digest(texts::of_mix(mix)));
     let first = [
         0x75EC_C01E_EDAF_B423,
         0x86A4_93D0_CB7D_1702,
@@ -206,6 +263,7 @@ fn first_mixes_are_unchanged() {
         0x9726_D4AC_BC04_697B,
         0xEC07_799F_DCE2_86FD,
         0xBA23_D249_68F7_3838,
+        0x9F16_F959_4AA0_BDA5,
     ];
     assert_eq!(digests, first);
 }

@@ -50,6 +50,7 @@ fn worked_out_by_hand() {
         worked::values::valued(),
         worked::changes::valued(),
         worked::redraws::valued(),
+        worked::parked::valued(),
     ];
     for texts in parts {
         assert!(!texts.is_empty());
@@ -146,7 +147,7 @@ fn long_random_texts() {
             ids: [4, 16, 40][seed % 3],
             covered: (2, 4),
             output_percent: 50,
-            weights: [14, 9, 3, 2, 50, 22, 10],
+            weights: [14, 9, 3, 2, 50, 22, 10, 10],
             damaged_percent: 4,
             ..MIXES[0]
         };

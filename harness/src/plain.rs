@@ -2,8 +2,8 @@
 //! change requests of document 02 that have landed: 1, the offset in the reply
 //! to a bad line, 2, values and formulas, 4, a record of the scans for blocked
 //! links and stays that removals need, 5, the change of a link in one command,
-//! 6, the redraw count, and 7, saved panels. Request 3, the import of airflow
-//! channels from EDF, is a plain importer of its own, `import`.
+//! 6, the redraw count, 7, saved panels, and 8, parked links. Request 3, the import
+//! of airflow channels from EDF, is a plain importer of its own, `import`.
 //!
 //! It is meant to be read next to the documents, not to be fast. Comments in
 //! quotation marks are sentences of the documents.

@@ -1,7 +1,7 @@
 //! Texts with their whole outputs, worked out by hand from documents 01 and 02.
 //! The plain solver and the run program are both held to them. The headers of
 //! request 3 have theirs too, for the plain importer and the import program, and so have
-//! the saved panels of request 7.
+//! the saved panels of requests 7 and 8.
 
 use crate::plain::hex;
 
@@ -11,6 +11,7 @@ pub mod headers;
 pub mod items;
 pub mod offsets;
 pub mod panels;
+pub mod parked;
 pub mod redraws;
 pub mod saved;
 pub mod values;
@@ -61,6 +62,7 @@ pub fn texts() -> Vec<Worked> {
         values::all(),
         changes::all(),
         redraws::all(),
+        parked::all(),
     ];
     assert!(parts.iter().all(|part| !part.is_empty()));
     parts.into_iter().flatten().collect()

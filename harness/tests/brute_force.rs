@@ -53,9 +53,34 @@ impl Step {
         self.sound_link(b"02", false)
     }
 
-    /// The same of a change.
+    /// The same of a change of a link in force.
     fn sound_change(&self) -> Option<Member> {
         self.sound_link(b"06", true)
+            .filter(|link| !self.is_aside(link))
+    }
+
+    /// The same of a change of a parked link.
+    fn sound_change_aside(&self) -> Option<Member> {
+        self.sound_link(b"06", true)
+            .filter(|link| self.is_aside(link))
+    }
+
+    /// The parked link that a line of kind 09 is to bring back.
+    fn brought_back(&self) -> Option<Member> {
+        if !holds_a_command(&self.reply) {
+            return None;
+        }
+        let [9, id, 0] = frame(&self.line)[..] else {
+            return None;
+        };
+        let mut aside = self.book_before.aside().iter();
+        aside.find(|link| link.name == Name::Link(id)).cloned()
+    }
+
+    /// Whether a link is parked before the line.
+    fn is_aside(&self, link: &Member) -> bool {
+        let mut aside = self.book_before.aside().iter();
+        aside.any(|other| other.name == link.name)
     }
 
     /// The link of a line of this kind that passes checks 1 to 9, its number in use
@@ -98,7 +123,7 @@ const SMALL: Mix = Mix {
 };
 
 /// The mixes of the small panels.
-const SMALL_MIXES: [Mix; 5] = [
+const SMALL_MIXES: [Mix; 6] = [
     SMALL,
     Mix {
         fields: (3, 4),
@@ -109,7 +134,7 @@ const SMALL_MIXES: [Mix; 5] = [
     Mix {
         fields: (1, 3),
         levels: &[0, 0, 3, 3],
-        weights: [50, 40, 5, 5, 10, 5, 25],
+        weights: [50, 40, 5, 5, 10, 5, 25, 25],
         ..SMALL
     },
     Mix {
@@ -117,7 +142,7 @@ const SMALL_MIXES: [Mix; 5] = [
         levels: &[0, 2],
         covered: (2, 4),
         output_percent: 80,
-        weights: [30, 25, 40, 5, 20, 10, 20],
+        weights: [30, 25, 40, 5, 20, 10, 20, 15],
         ..SMALL
     },
     Mix {
@@ -125,7 +150,13 @@ const SMALL_MIXES: [Mix; 5] = [
         ids: 3,
         levels: &[0, 2],
         covered: (2, 3),
-        weights: [12, 8, 3, 2, 50, 25, 12],
+        weights: [12, 8, 3, 2, 50, 25, 12, 10],
+        ..SMALL
+    },
+    Mix {
+        fields: (2, 3),
+        levels: &[0, 0, 0, 3],
+        weights: [35, 8, 8, 2, 10, 8, 15, 50],
         ..SMALL
     },
 ];
@@ -173,7 +204,7 @@ fn for_each_line_from(
     }
 }
 
-/// Shows every line of 1,200 texts for small panels, about 56,000 lines, every fourth
+/// Shows every line of 1,440 texts for small panels, about 66,000 lines, every fourth
 /// text from a saved one, and gives the number of lines that were accepted.
 fn for_each_small_line(mut see: impl FnMut(&Step)) -> usize {
     let mut accepted = 0;
@@ -181,7 +212,7 @@ fn for_each_small_line(mut see: impl FnMut(&Step)) -> usize {
         see(step);
         accepted += !step.refused() as usize;
     };
-    for seed in 0..900 {
+    for seed in 0..1_080 {
         let mix = &SMALL_MIXES[seed as usize % SMALL_MIXES.len()];
         for_each_line(mix, seed, &mut count);
         if seed % 3 == 0 {
@@ -236,6 +267,7 @@ fn each_field_has_one_setter() {
             let mut entries = step.held.iter();
             let entry = entries.find(|entry| entry.setter == Name::Link(id));
             let standing = match entry {
+                _ if step.book.is_aside(id) => Standing::Parked,
                 Some(entry) => Standing::Holding(entry.field),
                 None => Standing::Waiting,
             };
@@ -244,36 +276,48 @@ fn each_field_has_one_setter() {
     });
 }
 
-/// The links and the stay order in the panel are those of the book.
+/// The links and the stay order in the panel are those of the book, and what is parked is
+/// laid aside there.
 #[test]
 fn panel_agrees_with_the_book() {
+    let mut parked_seen = 0;
     for_each_small_line(|step| {
         let panel = &step.after.panel;
-        let links = panel.links().iter().map(|(&id, link)| Member {
-            name: Name::Link(id),
-            level: link.level,
-            covered: link.covered.clone(),
-            outputs: link.outputs.clone(),
-        });
+        let (mut links, mut parked) = (Vec::new(), Vec::new());
+        for (&id, link) in panel.links() {
+            let place = match link.standing {
+                Standing::Parked => &mut parked,
+                _ => &mut links,
+            };
+            place.push(Member {
+                name: Name::Link(id),
+                level: link.level,
+                covered: link.covered.clone(),
+                outputs: link.outputs.clone(),
+            });
+        }
+        parked_seen += parked.len();
+        let book = step.book.clone().by_number();
+        assert_eq!((&links[..], &parked[..]), (book.links(), book.aside()));
         let stays = panel.stays().iter().map(|&field| Name::Stay(field));
-        let members = step.book.members();
-        let (book_links, book_stays) = members.split_at(panel.links().len());
-        assert!(links.clone().all(|link| book_links.contains(&link)));
+        let book_stays = book.members().split_off(links.len());
         assert!(stays.eq(book_stays.iter().map(|stay| stay.name)));
     });
+    assert!(parked_seen > 20_000, "{parked_seen}");
 }
 
 /// "Conflict is given exactly when no choice, loops tolerated, can hold all
 /// required links in force together with the new one, no field set twice; a
-/// weaker new link never meets it." Of a change the same without the link as it
-/// was, where the removal has no Loop.
+/// weaker new link never meets it." Of one that is brought back the same. Of a change the
+/// same without the link as it was, where the removal has no Loop; of a parked link's
+/// never.
 #[test]
 fn conflict_exactly_when_no_choice_holds_the_required() {
-    let (mut conflicts, mut held) = ([0; 2], [0; 2]);
+    let (mut conflicts, mut held) = ([0; 3], [0; 3]);
     for_each_small_line(|step| {
-        let change = step.sound_change();
-        let is_change = change.is_some() as usize;
-        let required_link = step.sound_add().or(change).filter(|link| link.level == 0);
+        let links = [step.sound_add(), step.sound_change(), step.brought_back()];
+        let kind = links.iter().position(Option::is_some).unwrap_or(0);
+        let required_link = links.into_iter().flatten().find(|link| link.level == 0);
         let Some(link) = required_link.filter(|link| !removal_loops(step, link)) else {
             assert_ne!(step.reply, "FF0A");
             return;
@@ -284,13 +328,13 @@ fn conflict_exactly_when_no_choice_holds_the_required() {
         let can_hold = all_can_hold(&required, &mut vec![]);
         assert_eq!(step.reply == "FF0A", !can_hold, "{required:?}");
         let met = if can_hold { &mut held } else { &mut conflicts };
-        met[is_change] += 1;
+        met[kind] += 1;
     });
-    assert!(
-        conflicts[0] > 400 && held[0] > 3_000,
-        "{conflicts:?} {held:?}"
-    );
-    assert!(conflicts[1] > 60 && held[1] > 800, "{conflicts:?} {held:?}");
+    let least = [[480, 60, 70], [4_000, 1_000, 600]];
+    for (met, least) in [conflicts, held].iter().zip(least) {
+        let enough = met.iter().zip(least).all(|(&met, least)| met > least);
+        assert!(enough, "{conflicts:?} {held:?}");
+    }
 }
 
 /// Whether the removal of a link of this number is refused with Loop.
@@ -302,13 +346,15 @@ fn removal_loops(step: &Step, link: &Member) -> bool {
 }
 
 /// A sound add or change is accepted or refused with Conflict or Loop, no other one
-/// is accepted.
+/// is accepted; a sound change of a parked link is accepted, and moves nothing.
 #[test]
 fn sound_links_meet_no_check() {
     for_each_small_line(|step| {
         let links_only = ["FF0A", "FF0B"].contains(&step.reply.as_str());
         if step.sound_add().or(step.sound_change()).is_some() {
             assert!(!step.refused() || links_only, "{}", step.reply);
+        } else if step.sound_change_aside().is_some() {
+            assert_eq!(step.reply, "0000");
         } else if step.line.starts_with(b"02") || step.line.starts_with(b"06") {
             assert!(step.refused() && !links_only, "{}", step.reply);
         }
@@ -475,7 +521,7 @@ fn value_is_a_touch_and_a_run_of_the_plan() {
             check_value(step, &mut met);
         }
     });
-    let least = [150, 1_000, 120, 4_000];
+    let least = [120, 1_200, 80, 5_000];
     assert!(
         met.iter().zip(least).all(|(&met, least)| met > least),
         "{met:?}"
@@ -506,7 +552,7 @@ fn held_formulas_are_right_after_a_value() {
             }
         }
     });
-    assert!(right > 1_500, "{right}");
+    assert!(right > 1_000, "{right}");
 }
 
 /// Kind 08 computes nothing, and of the other kinds none changes a value; at
@@ -587,6 +633,7 @@ fn check_lists(run: &Run, book: &Book, length: u8) -> usize {
     frames.extend([vec![4, 0], vec![4, 1]]);
     frames.extend((1..=4).map(|id| vec![6, id, 5, 0x80, 0x81]));
     frames.extend((1..=4).map(|id| vec![6, id, 0, 0, 0x81]));
+    frames.extend((1..=4).flat_map(|id| [vec![9, id, 1], vec![9, id, 0]]));
     let mut lists = 0;
     for frame in frames {
         let line = hex(&frame).into_bytes();
@@ -605,13 +652,13 @@ fn check_lists(run: &Run, book: &Book, length: u8) -> usize {
 fn every_short_list_on_two_fields() {
     let opening = Step::new(b"0102", &Run::default(), &Book::default());
     let lists = check_lists(&opening.after, &opening.book, 4);
-    assert_eq!(lists, 24_usize.pow(4));
+    assert_eq!(lists, 32_usize.pow(4));
 }
 
 /// Commands on link 1 over two fields: it comes in each direction or in both, is
-/// changed to both or to one field, and goes, gets a ratio or a sum, and the fields get
-/// values.
-const WITH_VALUES: [&str; 12] = [
+/// changed to both or to one field, and goes, is parked and brought back, gets a ratio or a
+/// sum, and the fields get values.
+const WITH_VALUES: [&str; 14] = [
     "0201008081",
     "0201000081",
     "0201008001",
@@ -619,6 +666,8 @@ const WITH_VALUES: [&str; 12] = [
     "0401",
     "0601058081",
     "06010081",
+    "090101",
+    "090100",
     "08010100020003",
     "08010200",
     "070000000005",

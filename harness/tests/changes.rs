@@ -1,22 +1,25 @@
 //! Kind 06 (document 02, request 5) on the plain solver, beside the two lines that it
 //! stands for: a removal, and an add with the same body. On random texts, on every
-//! small panel, and the smallest text for the removal's Loop.
+//! small panel, and the smallest text for the removal's Loop. A parked link is altered
+//! where it is (request 8).
+
+mod support;
 
 use harness::compare::check_met;
-use harness::generate::text;
-use harness::plain::{hex, lines, Command, Refusal, Run, TEXT_LIMIT};
+use harness::plain::{hex, lines, new_link, Command, Refusal, Run, Standing};
 use harness::shrink::shorten;
 use harness::worked::changes::refusals::loop_of_the_removal;
-use std::collections::BTreeMap;
-
-/// How often each outcome was met.
-type Met = BTreeMap<&'static str, usize>;
+use support::held::bytes;
+use support::panels::{bodies, runs_with_links, runs_with_parked, touched};
+use support::texts::{check_lines, Met};
 
 /// Treats a line of kind 06 and checks it against the lines of kinds 03 and 02 with
 /// its number and body. The answer is its outcome.
 fn check_change(before: &Run, line: &[u8]) -> &'static str {
     let line = std::str::from_utf8(line).expect("digits");
-    let (remove, add) = (format!("03{}", &line[2..4]), format!("02{}", &line[2..]));
+    // A line of the kind's byte alone has no number.
+    let number = line.get(2..4).unwrap_or("");
+    let (remove, add) = (format!("03{number}"), format!("02{}", &line[2..]));
     let mut after = before.clone();
     let reply = after.line(line.as_bytes());
     check_tally(before, &after, &reply);
@@ -27,6 +30,9 @@ fn check_change(before: &Run, line: &[u8]) -> &'static str {
         ("a check of an add", Some(added_beside))
     } else if added_beside != "FF08" {
         ("NoSuchLink", Some("FF09".to_string()))
+    } else if before.panel.is_parked(bytes(line)[1]) {
+        check_parked(before, &after, &bytes(line), &reply);
+        return "parked";
     } else if both.line(remove.as_bytes()) == "FF0B" {
         ("the removal's Loop", Some("FF0B".to_string()))
     } else {
@@ -49,6 +55,22 @@ fn check_change(before: &Run, line: &[u8]) -> &'static str {
     outcome
 }
 
+/// A parked link is altered and stays parked; its formula is kept with its covered fields,
+/// and all else is as before.
+fn check_parked(before: &Run, after: &Run, frame: &[u8], reply: &str) {
+    assert_eq!(reply, "0000", "{frame:?}");
+    let mut link = new_link(frame[1], frame[2], &frame[3..]).expect("a sound link");
+    link.standing = Standing::Parked;
+    assert_eq!(after.panel.links()[&frame[1]], link);
+    check_formulas(before, after);
+    let without = |run: &Run| {
+        let mut run = run.clone();
+        assert_eq!(run.line(hex(&[3, frame[1]]).as_bytes()), "0000");
+        (run.panel, run.values, run.scans)
+    };
+    assert_eq!(without(before), without(after));
+}
+
 /// It is one line, accepted or refused.
 fn check_tally(before: &Run, after: &Run, reply: &str) {
     let mut tally = before.tally.clone();
@@ -63,111 +85,54 @@ fn check_tally(before: &Run, after: &Run, reply: &str) {
     assert_eq!(after.tally, tally);
 }
 
-/// The panel is the one after both lines, the values are as before, and so are the
-/// formulas but for that of a link whose covered fields are not the same. "Moved
+/// The panel is the one after both lines, and the values are as before. "Moved
 /// compares the state before with the state after both", whatever the two lines count.
 fn check_accepted(before: &Run, after: &Run, both: &Run, reply: &str) {
     assert_eq!(after.panel, both.panel);
     assert_eq!(after.values, before.values);
+    check_formulas(before, after);
+    let moved = after.panel.redrawn(&before.panel).len();
+    assert_eq!(reply, format!("00{moved:02X}"));
+}
+
+/// A formula is kept exactly where the covered fields are the same.
+fn check_formulas(before: &Run, after: &Run) {
     let mut formulas = before.formulas.clone();
     let covered = |run: &Run, id: &u8| run.panel.links()[id].covered.clone();
     formulas.retain(|id, _| covered(before, id) == covered(after, id));
     assert_eq!(after.formulas, formulas);
-    let moved = after.panel.redrawn(&before.panel).len();
-    assert_eq!(reply, format!("00{moved:02X}"));
 }
 
 /// Every line of kind 06 in random texts, those that are refused with BadHex left out.
 #[test]
 fn removal_and_add_as_one_on_random_texts() {
-    let mut met = Met::new();
-    for seed in 0..1_500 {
-        let text = text(seed);
-        if text.len() > TEXT_LIMIT {
-            continue;
-        }
-        let mut run = Run::default();
-        for line in lines(&text) {
-            let before = run.clone();
-            let reply = run.line(line);
-            if line.starts_with(b"06") && line.len() >= 4 && !reply.starts_with("FF01") {
-                *met.entry(check_change(&before, line)).or_default() += 1;
-            }
-        }
-    }
+    let met = check_lines(b"06", check_change);
     let least = [
         ("a check of an add", 500),
         ("NoSuchLink", 4_000),
-        ("the removal's Loop", 700),
-        ("Conflict", 250),
-        ("the adding's Loop", 700),
-        ("accepted", 10_000),
+        ("parked", 1_200),
+        ("the removal's Loop", 550),
+        ("Conflict", 150),
+        ("the adding's Loop", 500),
+        ("accepted", 7_500),
     ];
     check_met(&met, &least);
-}
-
-/// The bodies of a link over so many fields, at each of the levels: every covered set
-/// with every set of outputs.
-fn bodies(fields: u8, levels: &[u8]) -> Vec<Vec<u8>> {
-    let mut choices: Vec<Vec<u8>> = vec![Vec::new()];
-    for field in 0..fields {
-        let with = |byte: u8| {
-            choices
-                .iter()
-                .map(move |bytes| [&bytes[..], &[byte]].concat())
-        };
-        let more: Vec<Vec<u8>> = with(field).chain(with(field | 0x80)).collect();
-        choices.extend(more);
-    }
-    choices.retain(|bytes| bytes.iter().any(|&byte| byte >= 0x80));
-    let at_levels = |bytes: &Vec<u8>| -> Vec<Vec<u8>> {
-        let body = |&level: &u8| [&[level], &bytes[..]].concat();
-        levels.iter().map(body).collect()
-    };
-    choices.iter().flat_map(at_levels).collect()
-}
-
-/// The runs after an opening and the adds of so many links, numbered from 0, that are
-/// all accepted. Each link over two fields or more has a formula.
-fn runs_with_links(fields: u8, levels: &[u8], links: u8) -> Vec<Run> {
-    let mut opened = Run::default();
-    opened.line(hex(&[1, fields]).as_bytes());
-    let mut runs = vec![opened];
-    for id in 0..links {
-        let mut longer = Vec::new();
-        for run in &runs {
-            for body in bodies(fields, levels) {
-                let mut run = run.clone();
-                let reply = run.line(hex(&[&[2, id], &body[..]].concat()).as_bytes());
-                if reply.starts_with("00") {
-                    // Of a link over one field a BadFormula.
-                    run.line(hex(&[8, id, 2, body[1] % 128]).as_bytes());
-                    longer.push(run);
-                }
-            }
-        }
-        runs = longer;
-    }
-    runs
 }
 
 /// Every change of every number up to that of one more link, on every panel of so many
 /// fields and links, as it is and with each field touched.
 fn check_all_changes(fields: u8, levels: &[u8], links: u8) -> Met {
-    let bodies = bodies(fields, levels);
+    let runs = runs_with_links(fields, levels, links);
+    check_all_changes_on(&runs, &bodies(fields, levels), links)
+}
+
+/// The same on these panels, with these bodies.
+fn check_all_changes_on(runs: &[Run], bodies: &[Vec<u8>], links: u8) -> Met {
     let mut met = Met::new();
-    for run in runs_with_links(fields, levels, links) {
-        let mut touched = vec![run.clone()];
-        for field in 0..fields {
-            let mut run = run.clone();
-            run.line(hex(&[4, field]).as_bytes());
-            touched.push(run);
-        }
-        for run in touched {
-            for (id, body) in (0..=links).flat_map(|id| bodies.iter().map(move |body| (id, body))) {
-                let line = hex(&[&[6, id], &body[..]].concat());
-                *met.entry(check_change(&run, line.as_bytes())).or_default() += 1;
-            }
+    for run in runs.iter().flat_map(touched) {
+        for (id, body) in (0..=links).flat_map(|id| bodies.iter().map(move |body| (id, body))) {
+            let line = hex(&[&[6, id], &body[..]].concat());
+            *met.entry(check_change(&run, line.as_bytes())).or_default() += 1;
         }
     }
     met
@@ -199,6 +164,22 @@ fn every_change_of_two_links_over_three_fields() {
     ];
     check_met(&met, &least);
     assert_eq!(met.get("the removal's Loop"), None);
+}
+
+/// Some of the links are parked: each of them is altered where it is.
+#[test]
+fn every_change_with_parked_links() {
+    let levels = [0, 1, 2];
+    let runs = runs_with_parked(2, &levels, 2);
+    let met = check_all_changes_on(&runs, &bodies(2, &levels), 2);
+    let least = [
+        ("NoSuchLink", 30_000),
+        ("parked", 35_000),
+        ("Conflict", 450),
+        ("the adding's Loop", 2_500),
+        ("accepted", 25_000),
+    ];
+    check_met(&met, &least);
 }
 
 /// Whether the last line of a text is a change that its removal's Loop refuses.

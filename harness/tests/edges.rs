@@ -172,7 +172,7 @@ fn lower_numbers_come_first() {
 // The reading "later kinds".
 #[test]
 fn other_kinds_are_bad_frames() {
-    for kind in (0..=255).filter(|kind| ![1, 2, 3, 4, 5, 6, 7, 8].contains(kind)) {
+    for kind in (0..=255).filter(|kind| !(1..=9).contains(kind)) {
         for rest in [&[][..], &[0], &[0, 0], &[0, 0, 0x80], &[0; 5], &[0; 6]] {
             let line = hex(&[&[kind], rest].concat());
             assert_eq!(last_reply(&[&line]), "FF02", "{line}");
@@ -184,7 +184,7 @@ fn other_kinds_are_bad_frames() {
 #[test]
 fn lengths_of_frames() {
     // Kind 08 has a length for each formula kind, see `worked::values`.
-    let right: [(u8, &[usize]); 7] = [
+    let right: [(u8, &[usize]); 8] = [
         (1, &[2]),
         (2, &[4, 5, 6, 7, 8, 9, 10, 11]),
         (3, &[2]),
@@ -192,6 +192,7 @@ fn lengths_of_frames() {
         (5, &[1]),
         (6, &[4, 5, 6, 7, 8, 9, 10, 11]),
         (7, &[6]),
+        (9, &[3]),
     ];
     for (kind, right) in right {
         for length in 1..=20 {
@@ -345,6 +346,12 @@ fn changes_of_links() {
 #[test]
 fn redraw_counts() {
     check_worked(worked::redraws::all());
+}
+
+// Document 02, request 8.
+#[test]
+fn parked_links() {
+    check_worked(worked::parked::all());
 }
 
 #[test]

@@ -3,8 +3,8 @@
 
 use harness::generate::text;
 use harness::plain::{
-    lines, new_link, read_frame, read_hex, run_text, Command, Formula, Item, Panel, Refusal, Run,
-    Standing, TEXT_LIMIT,
+    lines, new_link, read_frame, read_hex, run_text, Command, Formula, Item, Link, Panel, Refusal,
+    Run, Standing, TEXT_LIMIT,
 };
 use harness::worked::tally_line;
 use std::collections::BTreeMap;
@@ -40,6 +40,7 @@ fn note_text(cases: &mut Cases, text: &[u8]) {
         if let Ok(command) = command {
             note_command(cases, &before.panel, &command, &run.panel, &reply);
             note_change(cases, &before, &command, &run.panel, &reply);
+            note_parked(cases, &before, &command, &reply);
             note_values(cases, &before, &command, &run, &reply);
             note_redraw(cases, &before, &command, &run, &reply);
         }
@@ -128,15 +129,18 @@ fn note_command(cases: &mut Cases, before: &Panel, command: &Command, after: &Pa
     let (kind, middle, item) = match *command {
         Command::Add(id, level, ref field_bytes) => {
             let link = new_link(id, level, field_bytes).expect("a sound link");
-            let middle = before.with_waiting(id, link);
-            let blocked = middle.is_blocked(Item::Link(id)).then_some(Item::Link(id));
-            ("add", middle, blocked)
+            with_waiting("add", before, id, link)
         }
-        Command::Remove(id) => {
-            let middle = before.dropped(id);
-            note_blocked(cases, &middle);
-            let first = middle.first_blocked();
-            ("remove", middle, first)
+        Command::BringBack(id) if before.is_parked(id) => {
+            let link = Link {
+                standing: Standing::Waiting,
+                ..before.links()[&id].clone()
+            };
+            with_waiting("bring back", before, id, link)
+        }
+        Command::Remove(id) => with_first_blocked(cases, "remove", before.dropped(id)),
+        Command::Park(id) if !before.is_parked(id) => {
+            with_first_blocked(cases, "park", before.parked(id))
         }
         Command::Touch(field) | Command::Store(field, _) => {
             let middle = before.touched(field);
@@ -147,7 +151,7 @@ fn note_command(cases: &mut Cases, before: &Panel, command: &Command, after: &Pa
             };
             (kind, middle, blocked.then_some(Item::Stay(field)))
         }
-        Command::Open(_) | Command::Plan | Command::Change(..) | Command::Formula(..) => return,
+        _ => return,
     };
     match item {
         _ if reply == "FF0B" => note(cases, format!("{kind}: loop")),
@@ -156,26 +160,53 @@ fn note_command(cases: &mut Cases, before: &Panel, command: &Command, after: &Pa
     }
 }
 
+/// A kind of command with the panel on which its new link waits, and the link where it is
+/// blocked.
+fn with_waiting<'a>(
+    kind: &'a str,
+    before: &Panel,
+    id: u8,
+    link: Link,
+) -> (&'a str, Panel, Option<Item>) {
+    let middle = before.with_waiting(id, link);
+    let blocked = middle.is_blocked(Item::Link(id)).then_some(Item::Link(id));
+    (kind, middle, blocked)
+}
+
+/// A kind of command with the panel that a link has left, and the first blocked one.
+fn with_first_blocked<'a>(
+    cases: &mut Cases,
+    kind: &'a str,
+    middle: Panel,
+) -> (&'a str, Panel, Option<Item>) {
+    note_blocked(cases, kind, &middle);
+    let first = middle.first_blocked();
+    (kind, middle, first)
+}
+
 /// "Look at all blocked links and stays".
-fn note_blocked(cases: &mut Cases, middle: &Panel) {
+fn note_blocked(cases: &mut Cases, kind: &str, middle: &Panel) {
     let blocked = middle.blocked();
     let first = middle.first_blocked();
     let equals = blocked
         .iter()
         .filter(|&&item| first.is_some_and(|first| middle.level(first) == middle.level(item)));
     if equals.count() > 1 {
-        note(cases, "remove: tie of blocked links");
+        note(cases, format!("{kind}: tie of blocked links"));
     }
     let kinds = |item: &Item| matches!(item, Item::Link(_));
     if blocked.iter().any(kinds) && !blocked.iter().all(kinds) {
-        note(cases, "remove: blocked links and stays");
+        note(cases, format!("{kind}: blocked links and stays"));
     }
 }
 
 /// Accepted without turning.
 fn note_unturned(cases: &mut Cases, kind: &str, before: &Panel, command: &Command) {
     let waited = match *command {
-        Command::Remove(id) => before.standing(Item::Link(id)) == Standing::Waiting,
+        Command::Remove(id) if before.is_parked(id) => return note(cases, "remove: parked"),
+        Command::Remove(id) | Command::Park(id) => {
+            before.standing(Item::Link(id)) == Standing::Waiting
+        }
         Command::Touch(field) | Command::Store(field, _) => {
             before.standing(Item::Stay(field)) == Standing::Waiting
         }
@@ -230,7 +261,16 @@ fn note_change(cases: &mut Cases, before: &Run, command: &Command, after: &Panel
             true => "same fields",
             false => "other fields",
         };
-        note(cases, format!("change: formula, {fields}, {}", &reply[..2]));
+        let parked = if before.panel.is_parked(id) {
+            "parked, "
+        } else {
+            ""
+        };
+        let reply = &reply[..2];
+        note(cases, format!("change: {parked}formula, {fields}, {reply}"));
+    }
+    if before.panel.is_parked(id) {
+        return note(cases, format!("change: parked, {reply}"));
     }
     let mut removed = before.panel.clone();
     let Ok(moved) = removed.remove(id) else {
@@ -265,6 +305,38 @@ fn change_of_standing(standings: (Standing, Standing)) -> &'static str {
         (Standing::Holding(_), Standing::Waiting) => "waits now",
         (Standing::Holding(old), Standing::Holding(new)) if old == new => "holds the same field",
         (Standing::Holding(_), Standing::Holding(_)) => "holds another field",
+        (Standing::Parked, _) | (_, Standing::Parked) => unreachable!("seen before"),
+    }
+}
+
+/// The cases of kind 09, and of other kinds that name a parked link.
+fn note_parked(cases: &mut Cases, before: &Run, command: &Command, reply: &str) {
+    let is_parked = |id: u8| before.panel.is_parked(id);
+    match *command {
+        Command::Park(_) | Command::BringBack(_) if ["FF04", "FF06", "FF09"].contains(&reply) => {
+            note(cases, format!("kind 09: {reply}"));
+        }
+        Command::Park(id) if is_parked(id) => note(cases, "park: parked"),
+        Command::BringBack(id) if !is_parked(id) => note(cases, "bring back: not parked"),
+        Command::Park(id) | Command::BringBack(id) if before.formulas.contains_key(&id) => {
+            let kind = match command {
+                Command::Park(_) => "park",
+                _ => "bring back",
+            };
+            note(cases, format!("{kind}: formula, {}", &reply[..2]));
+        }
+        Command::Add(id, ..) if is_parked(id) && reply == "FF08" => {
+            note(cases, "add: number of a parked link");
+        }
+        Command::Store(..)
+            if reply.starts_with("00") && before.formulas.keys().any(|&id| is_parked(id)) =>
+        {
+            note(cases, "value: formula of a parked link");
+        }
+        _ => {}
+    }
+    if let (Command::BringBack(_), "FF0A") = (command, reply) {
+        note(cases, "bring back: conflict");
     }
 }
 
@@ -286,8 +358,11 @@ fn note_values(cases: &mut Cases, before: &Run, command: &Command, after: &Run, 
                 true => "replaced",
                 false => "new",
             };
-            let waits = before.panel.standing(Item::Link(id)) == Standing::Waiting;
-            let standing = if waits { "waiting" } else { "holding" };
+            let standing = match before.panel.standing(Item::Link(id)) {
+                Standing::Waiting => "waiting",
+                Standing::Holding(_) => "holding",
+                Standing::Parked => "parked",
+            };
             note(cases, format!("formula: {old}, {standing}"));
         }
         Command::Store(..) if reply == "FF0E" && is_stuck(before) => {
@@ -312,6 +387,8 @@ fn note_redraw(cases: &mut Cases, before: &Run, command: &Command, after: &Run, 
         Command::Touch(_) => "touch",
         Command::Change(..) => "change",
         Command::Store(..) => "value",
+        Command::Park(_) => "park",
+        Command::BringBack(_) => "bring back",
         Command::Open(_) | Command::Plan | Command::Formula(..) => return,
     };
     let (old, new) = (before.panel.setters(), after.panel.setters());
@@ -543,6 +620,43 @@ const CASES: &[&str] = &[
     "change: formula, same fields, FF",
     "change: formula, other fields, 00",
     "change: formula, other fields, FF",
+    "change: parked, 0000",
+    "change: parked, formula, same fields, 00",
+    "change: parked, formula, other fields, 00",
+    "kind 09: FF04",
+    "kind 09: FF06",
+    "kind 09: FF09",
+    "park: parked",
+    "park: not turned, waiting",
+    "park: not turned, holding",
+    "park: turned for a link",
+    "park: turned for a stay",
+    "park: blocked links and stays",
+    "park: tie of blocked links",
+    "park: loop",
+    "park: walk of 1",
+    "park: walk of 2",
+    "park: walk of 3",
+    "park: walk of 4",
+    "park: formula, 00",
+    "park: formula, FF",
+    "bring back: not parked",
+    "bring back: not turned, waiting",
+    "bring back: turned for a link",
+    "bring back: conflict",
+    "bring back: loop",
+    "bring back: tie of outputs",
+    "bring back: tie in the walk",
+    "bring back: walk ends at a link",
+    "bring back: walk of 1",
+    "bring back: walk of 2",
+    "bring back: walk of 3",
+    "bring back: walk of 4",
+    "bring back: formula, 00",
+    "bring back: formula, FF",
+    "remove: parked",
+    "add: number of a parked link",
+    "value: formula of a parked link",
     "value: not turned, holding",
     "value: turned for a stay",
     "value: loop",
@@ -564,6 +678,8 @@ const CASES: &[&str] = &[
     "formula: new, waiting",
     "formula: replaced, holding",
     "formula: replaced, waiting",
+    "formula: new, parked",
+    "formula: replaced, parked",
     "remove: link with a formula, 00",
     "remove: link with a formula, FF",
     "FF0F: zero",
@@ -579,6 +695,10 @@ const CASES: &[&str] = &[
     "touch: downstream through others",
     "change: downstream directly",
     "change: downstream through others",
+    "park: downstream directly",
+    "park: downstream through others",
+    "bring back: downstream directly",
+    "bring back: downstream through others",
     "value: downstream directly",
     "value: downstream through others",
     "value: no value changed",

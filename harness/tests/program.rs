@@ -81,6 +81,12 @@ fn redraw_counts() {
     check(&worked::redraws::all());
 }
 
+/// Document 02, request 8.
+#[test]
+fn parked_links() {
+    check(&worked::parked::all());
+}
+
 #[test]
 fn full_panels() {
     check(&worked::panels::all());
@@ -238,7 +244,7 @@ fn damaged_run() {
 
 /// A text of middle size, with damaged lines.
 fn middle_text() -> Vec<u8> {
-    let text = generate::text(814);
+    let text = generate::text(813);
     assert!((9_000..20_000).contains(&text.len()), "{}", text.len());
     text
 }

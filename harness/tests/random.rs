@@ -1,5 +1,5 @@
 //! The run program and the plain solver on random and damaged texts: the same
-//! output for every one of more than 1,700,000 lines.
+//! output for every one of more than 1,900,000 lines.
 //!
 //! The texts go up to the limit, since each costs the start of a process. About
 //! half of them are damaged.
@@ -10,22 +10,22 @@ use harness::plain::{hex, lines, values_after, TEXT_LIMIT};
 use harness::program::PANEL;
 use harness::worked::values::{look, store, LOOK};
 use harness::worked::Lines;
-use std::collections::BTreeMap;
+use std::collections::{BTreeMap, BTreeSet};
 
 /// Number of fields and number of links; a third of the texts for each. That
-/// makes about 595,000 lines in texts for 1 to 8 fields, as many for 9 to 31, and
-/// 556,000 for 32 to 64.
+/// makes about 655,000 lines in texts for 1 to 8 fields, as many for 9 to 31, and
+/// 630,000 for 32 to 64.
 const SIZES: [((usize, usize), usize); 3] = [((1, 8), 16), ((9, 31), 60), ((32, 64), 128)];
 
 /// As many adds as removes, so that the number of links keeps changing.
 const EVEN: Mix = Mix {
-    weights: [40, 40, 16, 4, 6, 4, 8],
+    weights: [40, 40, 16, 4, 6, 4, 8, 8],
     damaged_percent: 4,
     ..MIXES[0]
 };
 
 /// What the texts are drawn from, each in every size.
-const SHAPES: [Mix; 9] = [
+const SHAPES: [Mix; 10] = [
     EVEN,
     // Many required links: conflicts.
     Mix {
@@ -50,7 +50,7 @@ const SHAPES: [Mix; 9] = [
         levels: &[0, 0, 2, 7],
         covered: (2, 3),
         output_percent: 90,
-        weights: [30, 30, 38, 2, 6, 4, 8],
+        weights: [30, 30, 38, 2, 6, 4, 8, 8],
         ..EVEN
     },
     // All levels, up to eight fields a link.
@@ -64,14 +64,20 @@ const SHAPES: [Mix; 9] = [
         levels: &[0, 1, 4, 4, 9, 15],
         covered: (1, 3),
         output_percent: 80,
-        weights: [60, 24, 12, 4, 6, 4, 8],
+        weights: [60, 24, 12, 4, 6, 4, 8, 8],
         ..EVEN
     },
     // Links that stay and are changed again and again, often only in what they read.
     Mix {
         levels: &[0, 0, 1, 4, 4, 9],
-        weights: [24, 6, 14, 4, 6, 6, 60],
+        weights: [24, 6, 14, 4, 6, 6, 60, 8],
         reread_percent: 40,
+        ..EVEN
+    },
+    // Links that are parked and brought back again and again.
+    Mix {
+        levels: &[0, 0, 1, 4, 4, 9],
+        weights: [24, 8, 14, 4, 8, 6, 24, 80],
         ..EVEN
     },
     // Mostly damaged lines.
@@ -89,7 +95,7 @@ const VALUE_SHAPES: [Mix; 3] = [
         levels: &[0, 0, 2, 7],
         covered: (2, 2),
         output_percent: 85,
-        weights: [14, 9, 3, 2, 50, 22, 10],
+        weights: [14, 9, 3, 2, 50, 22, 10, 8],
         few_values_percent: 50,
         ..EVEN
     },
@@ -97,7 +103,7 @@ const VALUE_SHAPES: [Mix; 3] = [
     Mix {
         covered: (2, 4),
         output_percent: 35,
-        weights: [14, 9, 3, 2, 50, 22, 10],
+        weights: [14, 9, 3, 2, 50, 22, 10, 8],
         ..EVEN
     },
     // Formulas over up to eight fields, links that come and go.
@@ -105,7 +111,7 @@ const VALUE_SHAPES: [Mix; 3] = [
         levels: &[0, 1, 4, 9],
         covered: (1, 8),
         output_percent: 70,
-        weights: [22, 20, 4, 2, 32, 20, 16],
+        weights: [22, 20, 4, 2, 32, 20, 16, 12],
         ..EVEN
     },
 ];
@@ -138,23 +144,48 @@ struct Counts {
     by_size: [usize; SIZES.len()],
     /// Lines by their reply.
     by_reply: BTreeMap<String, usize>,
+    /// Lines that meet a parked link, by their command.
+    on_parked: BTreeMap<String, usize>,
 }
 
 impl Counts {
     fn note(&mut self, size: usize, text: &[u8], output: &[u8]) {
         let lines = lines(text);
         self.by_size[size] += lines.len();
+        let mut parked = BTreeSet::new();
         for (line, reply) in lines.into_iter().zip(output.split(|&byte| byte == b'\n')) {
             *self.by_reply.entry(kind(line, reply)).or_default() += 1;
+            self.note_parked(line, reply, &mut parked);
+        }
+    }
+
+    /// Notes a line that names a parked link, or stores a value beside one, and follows
+    /// which links are parked. A line refused with 1 or 2 names nothing.
+    fn note_parked(&mut self, line: &[u8], reply: &[u8], parked: &mut BTreeSet<Vec<u8>>) {
+        let (command, accepted) = (command(line), reply.starts_with(b"00"));
+        if reply.starts_with(b"FF01") || reply == b"FF02" || line.len() < 4 {
+            return;
+        }
+        let number = line[2..4].to_vec();
+        let met = match command {
+            "open" | "touch" | "plan" => false,
+            "value" => accepted && !parked.is_empty(),
+            _ => parked.contains(&number),
+        };
+        if met {
+            *self.on_parked.entry(command.to_string()).or_default() += 1;
+        }
+        match command {
+            "park" if accepted => drop(parked.insert(number)),
+            "remove" | "bring back" if accepted => drop(parked.remove(&number)),
+            _ => {}
         }
     }
 }
 
-/// The kind of a reply: the refusal, or the command with its moved count. BadHex
-/// is told apart by its offset, NoSuchLink, Conflict, Loop and BadFormula by the
-/// command.
-fn kind(line: &[u8], reply: &[u8]) -> String {
-    let command = match &line.get(..2) {
+/// The command of a line.
+fn command(line: &[u8]) -> &'static str {
+    match &line.get(..2) {
         Some(b"01") => "open",
         Some(b"02") => "add",
         Some(b"03") => "remove",
@@ -164,8 +195,17 @@ fn kind(line: &[u8], reply: &[u8]) -> String {
         Some(b"07") => "value",
         Some(b"08") if line.get(4..6) == Some(b"01") => "ratio",
         Some(b"08") => "sum",
+        Some(b"09") if line.ends_with(b"01") => "park",
+        Some(b"09") => "bring back",
         _ => "other",
-    };
+    }
+}
+
+/// The kind of a reply: the refusal, or the command with its moved count. BadHex
+/// is told apart by its offset, NoSuchLink, Conflict, Loop and BadFormula by the
+/// command.
+fn kind(line: &[u8], reply: &[u8]) -> String {
+    let command = command(line);
     let reply = String::from_utf8_lossy(reply);
     match &*reply {
         bad_hex if bad_hex.starts_with("FF01") => bad_hex_kind(line, &bad_hex[4..]),
@@ -195,7 +235,7 @@ fn bad_hex_kind(line: &[u8], offset: &str) -> String {
 /// How often each kind of reply is met at least, in each half. A touch that
 /// turns a walk moves two fields or more, as a value's does; a value moves 0 where
 /// it is the one that the field has.
-const LEAST: [(&str, usize); 50] = [
+const LEAST: [(&str, usize); 63] = [
     ("FF01 empty line", 600),
     ("FF01 character up to 255", 5_000),
     ("FF01 character over 255", 250),
@@ -212,11 +252,16 @@ const LEAST: [(&str, usize); 50] = [
     ("FF09 change", 14_000),
     ("FF09 ratio", 2_000),
     ("FF09 sum", 7_000),
+    ("FF09 park", 9_000),
+    ("FF09 bring back", 6_000),
     ("FF0A add", 7_000),
-    ("FF0A change", 2_800),
+    ("FF0A change", 2_200),
+    ("FF0A bring back", 300),
     ("FF0B add", 25_000),
     ("FF0B remove", 7_500),
     ("FF0B change", 9_000),
+    ("FF0B park", 2_300),
+    ("FF0B bring back", 1_100),
     ("FF0B touch", 2_500),
     ("FF0B value", 1_800),
     ("FF0D", 10_000),
@@ -234,7 +279,7 @@ const LEAST: [(&str, usize); 50] = [
     ("remove, moved more", 3_300),
     ("touch, moved 0", 70_000),
     ("touch, moved up to 9", 6_500),
-    ("touch, moved more", 1_300),
+    ("touch, moved more", 900),
     ("plan", 16_000),
     ("change, moved 0", 32_000),
     ("change, moved 1", 3_300),
@@ -246,6 +291,26 @@ const LEAST: [(&str, usize); 50] = [
     ("value, moved more", 900),
     ("ratio, moved 0", 8_000),
     ("sum, moved 0", 14_000),
+    ("park, moved 0", 13_000),
+    ("park, moved 1", 8_000),
+    ("park, moved up to 9", 6_000),
+    ("park, moved more", 650),
+    ("bring back, moved 0", 15_000),
+    ("bring back, moved 1", 3_800),
+    ("bring back, moved up to 9", 3_400),
+    ("bring back, moved more", 400),
+];
+
+/// How often each command meets a parked link at least, in each half.
+const LEAST_ON_PARKED: [(&str, usize); 8] = [
+    ("add", 2_500),
+    ("remove", 8_000),
+    ("change", 5_500),
+    ("value", 22_000),
+    ("ratio", 1_200),
+    ("sum", 2_500),
+    ("park", 3_500),
+    ("bring back", 17_000),
 ];
 
 /// The output that the program and the plain solver both give a text.
@@ -264,9 +329,10 @@ fn compare_texts(seeds: std::ops::Range<u64>) {
     }
     // Shown with `cargo test -- --nocapture`.
     println!("{counts:#?}");
-    assert!(counts.by_size.iter().sum::<usize>() >= 850_000);
-    assert!(counts.by_size.iter().all(|&lines| lines >= 270_000));
+    assert!(counts.by_size.iter().sum::<usize>() >= 950_000);
+    assert!(counts.by_size.iter().all(|&lines| lines >= 300_000));
     check_met(&counts.by_reply, &LEAST);
+    check_met(&counts.on_parked, &LEAST_ON_PARKED);
 }
 
 /// The two halves run at the same time.

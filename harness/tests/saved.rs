@@ -1,21 +1,21 @@
 //! The saving program, `target/bin/panel_save`, and the resuming program,
-//! `target/bin/panel_resume` (document 02, request 7): panels and texts worked out by
+//! `target/bin/panel_resume` (document 02, requests 7 and 8): panels and texts worked out by
 //! hand, random panels saved, read and answered on, changed and random saved texts
 //! beside the plain solver, and how they treat their input, file and output.
 
 use harness::compare::{check_met, check_output, compared_with};
 use harness::generate::{image, long_text, text, with_lines_changed, Mix, Rng, MIXES};
-use harness::plain::{lines, resume_text, save_text, Link, Run, Standing, TEXT_LIMIT};
+use harness::plain::{lines, resume_text, run_text_with, save_text, Run, Standing, TEXT_LIMIT};
 use harness::program::{outcome_of, run_closing_output, Program, RESUME, SAVE};
 use harness::worked::panels::longest_output;
-use harness::worked::saved::{look, panels, readings, resumed};
+use harness::worked::saved::{in_version, look, panels, readings, resumed};
 use harness::worked::{edges, tally_line};
 use std::collections::BTreeMap;
 use std::path::PathBuf;
 use std::sync::atomic::{AtomicUsize, Ordering};
 
 /// A small panel.
-const ONE_FIELD: &[u8] = b"0A0101\n0B00\n";
+const ONE_FIELD: &[u8] = b"0A0201\n0B00\n";
 
 /// The tally of no line.
 const NO_LINES: &str = "EE00000000000000000000\n";
@@ -75,6 +75,13 @@ fn check_resume(name: &str, saved: &[u8], text: &[u8]) -> Vec<u8> {
     })
 }
 
+/// The run after a text, on an unopened panel.
+fn run_of(text: &[u8]) -> Run {
+    let mut run = Run::default();
+    run_text_with(&mut run, text);
+    run
+}
+
 /// The reply to the reading, in an output of the resuming program.
 fn reply_to_reading(output: &[u8]) -> String {
     String::from_utf8_lossy(lines(output)[0]).to_string()
@@ -105,8 +112,9 @@ fn refused_readings_answer_no_line() {
     let over = vec![b'\n'; TEXT_LIMIT + 1];
     for (saved, reply) in [
         (&b""[..], "FF13\n"),
-        (b"0A0201\n0B00\n", "FF14\n"),
-        (b"0A0101\n0B00\n0C0005FF80\n", "FF15\n"),
+        (b"0A0301\n0B00\n", "FF14\n"),
+        (b"0A0101\n0B00\n0C0005FE80\n", "FF13\n"),
+        (b"0A0201\n0B00\n0C0005FF80\n", "FF15\n"),
         (&over, "FF0C\n"),
     ] {
         for text in [&b"05\n"[..], b"0101\n05\n", &over] {
@@ -126,7 +134,7 @@ fn worked_resumed() {
 /// Nothing is open: there is nothing to save.
 #[test]
 fn unopened_panel() {
-    for text in ["", "\n", "05\n", "0100\n0141\n010g", "0A0101\n0B00\n"] {
+    for text in ["", "\n", "05\n", "0100\n0141\n010g", "0A0201\n0B00\n"] {
         check_output(text, &SAVE.run(text.as_bytes()), b"FF04\n");
     }
 }
@@ -145,10 +153,7 @@ impl<'a> Cut<'a> {
         let place = rng.below(text.len() + 1);
         let line_end = text[place..].iter().position(|&byte| byte == b'\n');
         let (first, second) = text.split_at(line_end.map_or(text.len(), |end| place + end + 1));
-        let mut run = Run::default();
-        lines(first)
-            .into_iter()
-            .for_each(|line| drop(run.line(line)));
+        let mut run = run_of(first);
         let between = run.clone();
         let replies = lines(second).into_iter().map(|line| run.line(line));
         Cut {
@@ -180,6 +185,7 @@ struct Counts {
     unopened: usize,
     links: usize,
     waiting: usize,
+    parked: usize,
     formulas: usize,
     values: usize,
     lines: usize,
@@ -188,10 +194,11 @@ struct Counts {
 impl Counts {
     fn note(&mut self, cut: &Cut) {
         let links = cut.between.panel.links();
-        let waiting = |link: &&Link| link.standing == Standing::Waiting;
+        let standing = |standing| links.values().filter(move |link| link.standing == standing);
         self.cuts += 1;
         self.links += links.len();
-        self.waiting += links.values().filter(waiting).count();
+        self.waiting += standing(Standing::Waiting).count();
+        self.parked += standing(Standing::Parked).count();
         self.formulas += cut.between.formulas.len();
         self.values += cut.between.values.iter().filter(|&&v| v != 0).count();
         self.lines += cut.replies.len();
@@ -202,6 +209,9 @@ impl Counts {
 fn check_cuts(texts: impl IntoIterator<Item = Vec<u8>>) -> Counts {
     let mut counts = Counts::default();
     for (seed, text) in texts.into_iter().enumerate() {
+        if lines(&text).iter().any(|line| line.len() > TEXT_LIMIT) {
+            continue;
+        }
         let cut = Cut::new(&text, &mut Rng::new(seed as u64));
         if cut.first.len().max(cut.second.len()) > TEXT_LIMIT {
             continue;
@@ -226,8 +236,9 @@ fn check_cuts(texts: impl IntoIterator<Item = Vec<u8>>) -> Counts {
 fn random_panels() {
     let counts = check_cuts((0..780).map(text));
     assert!(counts.cuts > 700 && counts.unopened > 30, "{counts:?}");
-    assert!(counts.links > 8_000 && counts.waiting > 3_000, "{counts:?}");
-    assert!(counts.formulas > 500 && counts.values > 1_500, "{counts:?}");
+    assert!(counts.links > 7_500 && counts.waiting > 2_300, "{counts:?}");
+    assert!(counts.parked > 350 && counts.formulas > 450, "{counts:?}");
+    assert!(counts.values > 1_500, "{counts:?}");
     assert!(counts.lines > 35_000, "{counts:?}");
 }
 
@@ -238,14 +249,15 @@ fn random_panels_of_long_texts() {
         fields: [(1, 8), (9, 31), (64, 64)][seed as usize % 3],
         ids: [16, 40, 128][seed as usize % 3],
         covered: [(1, 3), (2, 4), (1, 8)][seed as usize / 3 % 3],
-        weights: [30, 12, 6, 2, 30, 20, 10],
+        weights: [30, 12, 6, 2, 30, 20, 10, 20],
         damaged_percent: 4,
         ..MIXES[0]
     };
     let counts = check_cuts((0..45).map(|seed| long_text(seed, &mix(seed))));
     assert!(counts.cuts > 40 && counts.lines > 60_000, "{counts:?}");
     assert!(counts.links > 900 && counts.waiting > 300, "{counts:?}");
-    assert!(counts.formulas > 350 && counts.values > 500, "{counts:?}");
+    assert!(counts.parked > 120 && counts.formulas > 350, "{counts:?}");
+    assert!(counts.values > 500, "{counts:?}");
 }
 
 /// Random saved texts, taken in or not, with lines behind them.
@@ -280,20 +292,21 @@ fn worked_panels_with_lines_changed() {
     check_met(&met, &[("0000", 20), ("FF13", 200), ("FF15", 5)]);
 }
 
-/// A saved text that has each kind of line.
-fn each_kind_of_line() -> Vec<u8> {
+/// The saved text of a worked panel.
+fn worked_panel(name: &str) -> Vec<u8> {
     let panels = panels::all();
-    let panel = panels
-        .iter()
-        .find(|panel| panel.name == "each kind of line");
+    let panel = panels.iter().find(|panel| panel.name == name);
     panel.expect("a worked panel").saved.clone()
 }
 
-/// A saved text cut at every place, with every byte dropped, and with every byte changed
-/// in some ways.
-#[test]
-fn damaged_panel() {
-    let saved = each_kind_of_line();
+/// A saved text that has each kind of line.
+fn each_kind_of_line() -> Vec<u8> {
+    worked_panel("each kind of line")
+}
+
+/// How often each reply is met where a saved text is cut at every place, with every byte
+/// dropped, and with every byte changed in some ways.
+fn damaged(saved: &[u8]) -> BTreeMap<String, usize> {
     let mut met = BTreeMap::new();
     let mut check = |saved: &[u8]| {
         let output = check_resume("damaged", saved, b"05\n");
@@ -301,18 +314,49 @@ fn damaged_panel() {
     };
     for place in 0..saved.len() {
         check(&saved[..place]);
-        let mut fewer = saved.clone();
+        let mut fewer = saved.to_vec();
         fewer.remove(place);
         check(&fewer);
-        for byte in *b"\n\r\x0001258ACFf:@\xFF" {
-            let mut changed = saved.clone();
+        for byte in *b"\n\r\x00012358ACEFf:@\xFF" {
+            let mut changed = saved.to_vec();
             changed[place] = byte;
             check(&changed);
         }
     }
     println!("{met:?}");
+    met
+}
+
+#[test]
+fn damaged_panel() {
+    let saved = each_kind_of_line();
     let least = [("0000", 200), ("FF13", 800), ("FF14", 12), ("FF15", 1)];
-    check_met(&met, &least);
+    check_met(&damaged(&saved), &least);
+    check_met(&damaged(&in_version(b"01", &saved)), &least);
+}
+
+/// The same of a text with a parked link, in version 01 a BadImage.
+#[test]
+fn damaged_panel_with_a_parked_link() {
+    let saved = worked_panel("a formula of a parked link");
+    let least = [("0000", 200), ("FF13", 800), ("FF14", 12), ("FF15", 1)];
+    check_met(&damaged(&saved), &least);
+    let old = in_version(b"01", &saved);
+    check_met(&damaged(&old), &[("FF13", 800), ("FF14", 12)]);
+}
+
+/// A text of version 01 and the same of version 02 are resumed alike: each worked panel
+/// with no parked link, and looks at it.
+#[test]
+fn worked_panels_in_version_01() {
+    let mut met = BTreeMap::new();
+    for panel in panels::all() {
+        let old = in_version(b"01", &panel.saved);
+        let output = check_resume(panel.name, &old, &look(&run_of(&panel.text)));
+        *met.entry(reply_to_reading(&output)).or_default() += 1;
+    }
+    println!("{met:?}");
+    check_met(&met, &[("0000", 25), ("FF13", 8)]);
 }
 
 /// The limit holds for the file and for the text, each on its own; over it nothing is
@@ -335,7 +379,7 @@ fn limit_of_a_text() {
     }
     let mut text = b"0102\n0701FFFFFFFF\n".to_vec();
     text.resize(TEXT_LIMIT, b'\n');
-    let panel = b"0A0102\n0B0100\n0D01FFFFFFFF\n";
+    let panel = b"0A0202\n0B0100\n0D01FFFFFFFF\n";
     check_output("at the limit", &SAVE.run(&text), panel);
 }
 
@@ -355,7 +399,7 @@ fn reading_stops_over_the_limit() {
 
 /// A text of middle size, with damaged lines.
 fn middle_text() -> Vec<u8> {
-    let text = text(814);
+    let text = text(813);
     assert!((9_000..20_000).contains(&text.len()), "{}", text.len());
     text
 }
@@ -440,7 +484,7 @@ fn other_numbers_of_arguments() {
 /// The file is only read.
 #[test]
 fn file_stays_as_it_is() {
-    for saved in [each_kind_of_line(), b"0A0201\n".to_vec()] {
+    for saved in [each_kind_of_line(), b"0A0301\n".to_vec()] {
         let file = Kept::new(&saved);
         for _ in 0..2 {
             let output = file.program().run(b"0701000002EE\n");

@@ -1,5 +1,5 @@
-//! Saved panels (document 02, request 7) on the plain solver: those worked out by hand,
-//! every refusal and their order, and random panels saved, read and answered on.
+//! Saved panels (document 02, requests 7 and 8) on the plain solver: those worked out by
+//! hand, every refusal and their order, and random panels saved, read and answered on.
 
 mod support;
 
@@ -8,13 +8,13 @@ use harness::generate::{image, text, with_lines_changed};
 use harness::plain::{
     lines, resume_text, run_text_with, save_text, Refusal, Run, Tally, TEXT_LIMIT,
 };
-use harness::worked::saved::{look, panels, readings, resumed};
+use harness::worked::saved::{in_version, look, panels, readings, resumed, written_out};
 use harness::worked::tally_line;
 use std::collections::BTreeMap;
 use support::state::state;
 
 /// A small panel.
-const ONE_FIELD: &[u8] = b"0A0101\n0B00\n";
+const ONE_FIELD: &[u8] = b"0A0201\n0B00\n";
 
 /// A tally that is not zero.
 fn some_tally() -> Tally {
@@ -67,7 +67,7 @@ fn worked_panels_taken_back() {
 }
 
 /// A reading touches no tally, and one that is refused changes nothing. What is taken
-/// in is written out the same.
+/// in is written out the same, of version 01 but for its version byte.
 #[test]
 fn worked_readings() {
     let mut met = BTreeMap::new();
@@ -81,7 +81,7 @@ fn worked_readings() {
         assert_eq!(given, reading.reply, "{}", reading.name);
         assert_eq!(run.tally, some_tally(), "{}", reading.name);
         match run.saved() {
-            Ok(saved) => assert_eq!(saved, reading.text, "{}", reading.name),
+            Ok(saved) => assert_eq!(saved, written_out(&reading.text), "{}", reading.name),
             Err(refusal) => assert_eq!(refusal, Refusal::NotOpen),
         }
         if given != "0000" {
@@ -89,9 +89,10 @@ fn worked_readings() {
         }
         *met.entry(given).or_default() += 1;
     }
-    let least = [("0000", 35), ("FF13", 150), ("FF14", 14), ("FF15", 14)];
+    println!("{met:?}");
+    let least = [("0000", 100), ("FF13", 340), ("FF14", 18), ("FF15", 32)];
     check_met(&met, &least);
-    check_met(&met, &[("FF0C", 12)]);
+    check_met(&met, &[("FF0C", 17)]);
 }
 
 #[test]
@@ -123,7 +124,7 @@ fn reading_into_an_open_panel() {
 #[test]
 fn saving_an_unopened_panel() {
     assert_eq!(Run::default().saved(), Err(Refusal::NotOpen));
-    for text in ["", "\n", "05\n", "0100\n0141\n010g\n", "0A0101\n0B00\n"] {
+    for text in ["", "\n", "05\n", "0100\n0141\n010g\n", "0A0201\n0B00\n"] {
         check_output(text, &save_text(text.as_bytes()), b"FF04\n");
     }
 }
@@ -133,7 +134,7 @@ fn saving_an_unopened_panel() {
 fn unopened_after_a_refused_reading() {
     let mut run = Run::default();
     assert_eq!(
-        run.read_saved(b"0A0101\n0B00\n0C0000FF80\n"),
+        run.read_saved(b"0A0201\n0B00\n0C0000FF80\n"),
         Err(Refusal::Unfit)
     );
     let mut opened = run.clone();
@@ -188,22 +189,103 @@ fn random_panels() {
 }
 
 /// What a reading of a random saved text gives: what is taken in is written out the
-/// same, and a look shows the values that were read.
+/// same, of version 01 but for its version byte, and a look shows the values that were
+/// read.
 #[test]
 fn random_images() {
-    let mut met = BTreeMap::new();
+    let (mut met, mut parked) = (BTreeMap::new(), 0);
     for seed in 0..20_000 {
         let text = image(seed);
         let mut run = Run::default();
         let given = reply(run.read_saved(&text));
         if given == "0000" {
-            assert_eq!(run.saved().as_ref(), Ok(&text), "seed {seed}");
+            assert_eq!(run.saved(), Ok(written_out(&text)), "seed {seed}");
             check_look(&text, &run);
+            parked += parked_links(&run);
         }
-        *met.entry(given).or_default() += 1;
+        let version = match &text[..4] {
+            b"0A01" => "01",
+            b"0A02" => "02",
+            _ => "other",
+        };
+        *met.entry(format!("{version}: {given}")).or_default() += 1;
+    }
+    println!("{met:?}, {parked} parked");
+    let least = [
+        ("01: 0000", 2_200),
+        ("01: FF13", 2_000),
+        ("01: FF15", 1_200),
+        ("02: 0000", 5_000),
+        ("02: FF13", 3_400),
+        ("02: FF15", 2_500),
+        ("other: FF14", 200),
+    ];
+    check_met(&met, &least);
+    assert!(parked > 2_000, "{parked}");
+}
+
+/// How many links are parked.
+fn parked_links(run: &Run) -> usize {
+    let numbers = run.panel.links().keys();
+    numbers.filter(|&&id| run.panel.is_parked(id)).count()
+}
+
+/// The same text in version 01 and in version 02 is taken in as one panel, or refused
+/// alike; but where something is parked that of version 01 is a BadImage.
+#[test]
+fn images_in_both_versions() {
+    let (mut alike, mut parked) = (BTreeMap::new(), 0);
+    for seed in 0..6_000 {
+        let text = image(seed);
+        if !text.starts_with(b"0A01") && !text.starts_with(b"0A02") {
+            continue;
+        }
+        let [mut old, mut new] = [Run::default(), Run::default()];
+        let of_old = reply(old.read_saved(&in_version(b"01", &text)));
+        let of_new = reply(new.read_saved(&written_out(&text)));
+        if of_old != of_new {
+            assert_eq!(of_old, "FF13", "seed {seed}");
+            assert!(of_new != "0000" || parked_links(&new) > 0, "seed {seed}");
+            parked += 1;
+        } else {
+            assert_eq!(old, new, "seed {seed}");
+            assert_eq!(parked_links(&new), 0, "seed {seed}");
+            *alike.entry(of_new).or_default() += 1;
+        }
+    }
+    println!("{alike:?}, {parked} parked");
+    check_met(&alike, &[("0000", 1_800), ("FF13", 1_500), ("FF15", 650)]);
+    assert!(parked > 950, "{parked}");
+}
+
+/// Worked panels with parked links, in both versions, with each byte as every other byte:
+/// what is taken in is written out the same, of version 01 but for its version byte.
+#[test]
+fn every_byte_of_panels_with_parked_links() {
+    let mut met = BTreeMap::new();
+    let parked = |panel: &panels::Saved| panel.name.contains("parked") && panel.saved.len() < 100;
+    for panel in panels::all().into_iter().filter(parked) {
+        for version in [b"01", b"02"] {
+            let text = in_version(version, &panel.saved);
+            for (place, byte) in (0..text.len()).flat_map(|p| (0..=255).map(move |b| (p, b))) {
+                let (mut text, mut run) = (text.clone(), Run::default());
+                text[place] = byte;
+                let given = reply(run.read_saved(&text));
+                if given == "0000" {
+                    assert_eq!(run.saved(), Ok(written_out(&text)), "{}", panel.name);
+                }
+                *met.entry(given).or_default() += 1;
+            }
+        }
     }
     println!("{met:?}");
-    check_met(&met, &[("0000", 5_000), ("FF13", 4_000), ("FF15", 4_000)]);
+    let least = [
+        ("0000", 1_200),
+        ("FF13", 150_000),
+        ("FF14", 500),
+        ("FF15", 45),
+    ];
+    check_met(&met, &least);
 }
 
 /// The last replies to a look, of the values, are 0000, where all links go.
@@ -228,7 +310,7 @@ fn worked_panels_with_lines_changed() {
             let mut run = Run::default();
             let given = reply(run.read_saved(&text));
             if given == "0000" {
-                assert_eq!(run.saved().as_ref(), Ok(&text));
+                assert_eq!(run.saved(), Ok(written_out(&text)));
                 assert!(text.len() < panel.saved.len(), "{}", panel.name);
             }
             *met.entry(given).or_default() += 1;

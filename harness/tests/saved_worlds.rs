@@ -1,31 +1,17 @@
-//! Saved panels (document 02, request 7) in small worlds, whole: every saved text of few
+//! Saved panels (document 02, requests 7 and 8) in small worlds, whole: every saved text of few
 //! links over few fields, and every panel that commands reach from the opening or from
 //! such a text.
 
 mod support;
 
 use harness::plain::{hex, Run};
-use harness::worked::saved::text_of;
+use harness::worked::saved::{in_version, text_of, written_out};
 use std::collections::BTreeMap;
 use support::book::{Book, Name};
 use support::choices::best_counts;
 use support::held::{bytes, closed_walk, held, held_counts, Held};
+use support::panels::all_field_bytes;
 use support::state::state;
-
-/// The field bytes of a link over some of so many fields: each field is not covered, read
-/// or an output, and one is an output.
-fn all_field_bytes(fields: u8) -> Vec<Vec<u8>> {
-    let mut all = vec![Vec::new()];
-    for field in 0..fields {
-        let more = |bytes: &Vec<u8>| {
-            let with = |byte: u8| [&bytes[..], &[byte]].concat();
-            [bytes.clone(), with(field), with(0x80 + field)]
-        };
-        all = all.iter().flat_map(more).collect();
-    }
-    all.retain(|bytes| bytes.iter().any(|&byte| byte >= 0x80));
-    all
-}
 
 /// So many fields, links 0, 1 and so on, and levels from 0 on.
 #[derive(Clone, Copy, Debug)]
@@ -40,7 +26,8 @@ fn all_links(world: World, id: u8) -> Vec<Option<Vec<u8>>> {
     let mut links = vec![None];
     for bytes in all_field_bytes(world.fields) {
         let outputs = bytes.iter().filter(|&&byte| byte >= 0x80);
-        let standings: Vec<u8> = outputs.map(|byte| byte - 0x80).chain([0xFF]).collect();
+        let held = outputs.map(|byte| byte - 0x80);
+        let standings: Vec<u8> = held.chain([0xFE, 0xFF]).collect();
         for level in 0..world.levels {
             let line = |standing| [&[0x0C, id, level, standing], &bytes[..]].concat();
             links.extend(standings.iter().map(|&standing| Some(line(standing))));
@@ -67,12 +54,12 @@ fn all_orders(fields: u8) -> Vec<Vec<u8>> {
     orders
 }
 
-/// Every saved text of a world, with no formula and no value.
+/// Every saved text of a world, of version 02, with no formula and no value.
 fn all_images(world: World) -> Vec<Vec<u8>> {
     let mut images: Vec<Vec<String>> = Vec::new();
     for order in all_orders(world.fields) {
         let stays = "0B".to_string() + &hex(&order);
-        images.push(vec![hex(&[0x0A, 1, world.fields]), stays]);
+        images.push(vec![hex(&[0x0A, 2, world.fields]), stays]);
     }
     for id in 0..world.links {
         let lines: Vec<Option<String>> = all_links(world, id)
@@ -112,10 +99,14 @@ fn said_to_hold(text: &[u8], fields: u8) -> Option<Vec<Held>> {
 }
 
 /// The reply to a saved text whose lines are right each for itself, told without
-/// strengths: a field held twice is a BadImage; Unfit is a loop, a choice that holds more
-/// up to some level (then something is blocked), and a required link that waits.
+/// strengths: a field held twice is a BadImage, and in version 01 a parked link; Unfit is
+/// a loop, a choice that holds more up to some level (then something is blocked), and a
+/// required link in force that waits.
 fn judged(text: &[u8]) -> &'static str {
     let book = Book::of_saved(text);
+    if text.starts_with(b"0A01") && !book.aside().is_empty() {
+        return "FF13";
+    }
     let Some(held) = said_to_hold(text, book.fields()) else {
         return "FF13";
     };
@@ -130,11 +121,13 @@ fn judged(text: &[u8]) -> &'static str {
     }
 }
 
-/// Reads every saved text of a world, as judged. What is taken in holds what the standings
-/// say and is written out the same.
+/// Reads every saved text of a world, of both versions, as judged. What is taken in holds
+/// what the standings say and is written out the same, of version 01 but for its version
+/// byte.
 fn check_images(world: World) -> BTreeMap<&'static str, usize> {
     let mut met = BTreeMap::new();
-    for text in all_images(world) {
+    let images = all_images(world).into_iter();
+    for text in images.flat_map(|text| [in_version(b"01", &text), text]) {
         let mut run = Run::default();
         let reply = match run.read_saved(&text) {
             Ok(()) => "0000".to_string(),
@@ -150,7 +143,7 @@ fn check_images(world: World) -> BTreeMap<&'static str, usize> {
                 entries.any(|entry| (entry.field, entry.setter) == (said.field, said.setter))
             };
             assert!(said.iter().all(is_planned));
-            assert_eq!(run.saved(), Ok(text));
+            assert_eq!(run.saved(), Ok(written_out(&text)));
         }
         *met.entry(judged).or_default() += 1;
     }
@@ -164,29 +157,29 @@ const SMALL: World = World {
     levels: 3,
 };
 
-/// A link is none or one of 33: of three levels, over one field or both in 5 ways, 11
-/// with their standings.
+/// A link is none or one of 48: of three levels, over one field or both in 5 ways, 16
+/// with their standings. Each text is there in both versions.
 #[test]
 fn every_image_of_two_fields() {
     let met = check_images(SMALL);
-    assert_eq!(met.values().sum::<usize>(), 2 * 34 * 34);
+    assert_eq!(met.values().sum::<usize>(), 2 * 2 * 49 * 49);
     let met = check_images(World { links: 3, ..SMALL });
     // Shown with `cargo test -- --nocapture`.
     println!("{met:?}");
-    assert_eq!(met.values().sum::<usize>(), 2 * 34 * 34 * 34);
-    assert!(met.values().all(|&met| met > 6_000), "{met:?}");
+    assert_eq!(met.values().sum::<usize>(), 2 * 2 * 49 * 49 * 49);
+    assert!(met.values().all(|&met| met > 50_000), "{met:?}");
 }
 
 #[test]
 fn every_image_of_three_fields() {
     let met = check_images(World { fields: 3, ..SMALL });
     println!("{met:?}");
-    assert_eq!(met.values().sum::<usize>(), 6 * 139 * 139);
-    assert!(met.values().all(|&met| met > 13_000), "{met:?}");
+    assert_eq!(met.values().sum::<usize>(), 2 * 6 * 196 * 196);
+    assert!(met.values().all(|&met| met > 80_000), "{met:?}");
 }
 
 /// The commands of a world but for values and formulas: links added with every body,
-/// changed to some, and removed; touches.
+/// changed to some, parked, brought back and removed; touches.
 fn commands(world: World) -> Vec<Vec<u8>> {
     let mut frames: Vec<Vec<u8>> = (0..world.fields).map(|field| vec![4, field]).collect();
     for id in 0..world.links {
@@ -195,7 +188,7 @@ fn commands(world: World) -> Vec<Vec<u8>> {
             frames.extend((0..world.levels).map(add));
         }
         frames.extend([vec![6, id, 0, 0, 0x81], vec![6, id, 1, 0x80, 0x81]]);
-        frames.push(vec![3, id]);
+        frames.extend([vec![3, id], vec![9, id, 1], vec![9, id, 0]]);
     }
     frames
 }
@@ -286,7 +279,7 @@ fn find_world(world: World, commands: &[Vec<u8>]) -> [usize; 2] {
 fn every_panel_of_two_fields() {
     let commands = [commands(SMALL), values_and_formulas()].concat();
     let [reached, all] = find_world(SMALL, &commands);
-    assert!(reached > 4_900, "{reached}");
+    assert!(reached > 31_000, "{reached}");
     assert_eq!(all, reached);
 }
 
@@ -299,6 +292,6 @@ fn every_panel_of_three_fields() {
         ..SMALL
     };
     let [reached, all] = find_world(world, &commands(world));
-    assert!(reached > 6_000, "{reached}");
+    assert!(reached > 32_000, "{reached}");
     assert_eq!(all, reached);
 }

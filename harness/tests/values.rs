@@ -4,7 +4,7 @@
 use harness::generate::Rng;
 use harness::plain::{lines, run_text, values_after, Formula, Run};
 use harness::worked::values::{self, frames, ratios, refusals, steps, sums, Valued};
-use harness::worked::{changes, redraws};
+use harness::worked::{changes, parked, redraws};
 
 /// The replies to the text up to each part, and the values after it.
 fn check(texts: Vec<Valued>) {
@@ -61,6 +61,12 @@ fn worked_changes() {
 #[test]
 fn worked_redraws() {
     check(redraws::valued());
+}
+
+/// Request 8: what parking and bringing back leave of them.
+#[test]
+fn worked_parked() {
+    check(parked::valued());
 }
 
 #[test]

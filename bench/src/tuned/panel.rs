@@ -2,6 +2,7 @@
 
 use crate::fields::{each, only, without};
 use crate::formula::Formula;
+use crate::link::{Link, NO_LINK};
 use crate::text::Refusal;
 
 /// In the place of a link number: the field is set by its stay.
@@ -9,23 +10,6 @@ pub const STAY: u8 = 128;
 
 /// "The stay at place p, from 0, has level 16 + p."
 pub const FIRST_STAY_LEVEL: u8 = 16;
-
-/// A link. Every link in use has an output; one without is not in use.
-#[derive(Clone, Copy)]
-pub(super) struct Link {
-    pub covered: u64,
-    pub outputs: u64,
-    pub level: u8,
-    /// The field that it sets; none while it waits.
-    pub holds: Option<u8>,
-}
-
-pub(super) const NO_LINK: Link = Link {
-    covered: 0,
-    outputs: 0,
-    level: 0,
-    holds: None,
-};
 
 /// A link or a stay as a setter: a link's number and covered fields, or `STAY`
 /// and no field.
@@ -111,7 +95,7 @@ impl Panel {
         &mut self.formulas[id as usize & 127]
     }
 
-    /// Enters whether a link in use waits.
+    /// Enters whether a link waits.
     #[inline]
     pub(super) fn set_waiting(&mut self, id: u8, waits: bool) {
         let word = &mut self.waiting[(id as usize / 64) & 1];

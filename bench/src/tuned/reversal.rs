@@ -3,6 +3,7 @@
 use super::panel::{Panel, Setter, STAY};
 use super::strength::Strengths;
 use crate::fields::{each, has, lowest, only, without};
+use crate::link::Standing;
 use crate::text::Refusal;
 
 /// The fields of a walk, in its order.
@@ -41,7 +42,7 @@ impl Panel {
             return Err(Refusal::Loop);
         }
         if waits.id != STAY {
-            self.link_mut(waits.id).holds = None;
+            self.link_mut(waits.id).standing = Standing::Waiting;
             self.set_waiting(waits.id, true);
         }
         if setter.id != STAY {
@@ -57,7 +58,7 @@ impl Panel {
         for field in each(fields) {
             let id = self.setter[field];
             if id != STAY {
-                self.link_mut(id).holds = Some(field as u8);
+                self.link_mut(id).standing = Standing::Holding(field as u8);
             }
         }
     }

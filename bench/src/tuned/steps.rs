@@ -1,10 +1,12 @@
-//! Opening, add, remove, change and touch. Each answers the moved count.
+//! Opening, add, remove, change, parking, bringing back and touch. Each answers the
+//! moved count.
 
-use super::panel::{Link, Panel, Setter, A_STAY, FIRST_STAY_LEVEL, NO_LINK, STAY};
+use super::panel::{Panel, Setter, A_STAY, FIRST_STAY_LEVEL, STAY};
 use super::strength::Strengths;
 use crate::fields::{each, has, only};
 use crate::formula::Formula;
-use crate::frame::{read_link, read_size};
+use crate::frame::read_size;
+use crate::link::{Link, Standing, NO_LINK};
 use crate::text::Refusal;
 
 impl Panel {
@@ -15,8 +17,8 @@ impl Panel {
     }
 
     pub fn add(&mut self, id: u8, level: u8, field_bytes: &[u8]) -> Result<u8, Refusal> {
-        let link = self.new_link(id, level, field_bytes)?;
-        if self.link(id).outputs != 0 {
+        let link = Link::read(id, level, field_bytes, self.size)?;
+        if self.link(id).is_used() {
             return Err(Refusal::LinkTaken);
         }
         let moved = self.enter_link(id, link)?;
@@ -24,29 +26,57 @@ impl Panel {
     }
 
     pub fn remove(&mut self, id: u8) -> Result<u8, Refusal> {
-        self.must_be_open()?;
-        if id > 127 {
-            return Err(Refusal::BadLink);
-        }
-        if self.link(id).outputs == 0 {
-            return Err(Refusal::NoSuchLink);
-        }
-        let moved = self.drop_link(id)?;
+        Link::named(id, &self.links, self.size)?;
+        let moved = self.withdraw_link(id, NO_LINK)?;
         *self.formula_mut(id) = Formula::None;
         Ok(count(self.redrawn(moved)))
     }
 
-    /// "Removes the link and adds it anew as one, its formula kept if the covered
-    /// fields are the same, else dropped"; "a refusal changes nothing".
+    /// Alters a link, "its formula kept if the covered fields are the same, else
+    /// dropped"; "frame 06 on a parked link alters it and leaves it parked".
     pub fn change(&mut self, id: u8, level: u8, field_bytes: &[u8]) -> Result<u8, Refusal> {
-        let link = self.new_link(id, level, field_bytes)?;
+        let link = Link::read(id, level, field_bytes, self.size)?;
         let old = *self.link(id);
-        if old.outputs == 0 {
+        if !old.is_used() {
             return Err(Refusal::NoSuchLink);
         }
+        let mut moved = 0;
+        if old.is_parked() {
+            *self.link_mut(id) = link.with(Standing::Parked);
+        } else {
+            moved = self.exchange_links(id, link)?;
+        }
+        if link.covered != old.covered {
+            *self.formula_mut(id) = Formula::None;
+        }
+        Ok(count(self.redrawn(moved)))
+    }
+
+    /// "Parks as Remove would", and the link stays in its place. One that is parked
+    /// is left so.
+    pub fn park(&mut self, id: u8) -> Result<u8, Refusal> {
+        let link = Link::named(id, &self.links, self.size)?;
+        let moved = self.withdraw_link(id, link.with(Standing::Parked))?;
+        Ok(count(self.redrawn(moved)))
+    }
+
+    /// "Brings back as Add would; .. bringing back another one replies 0."
+    pub fn bring_back(&mut self, id: u8) -> Result<u8, Refusal> {
+        let link = Link::named(id, &self.links, self.size)?;
+        if !link.is_parked() {
+            return Ok(0);
+        }
+        let moved = self.enter_link(id, link.with(Standing::Waiting))?;
+        Ok(count(self.redrawn(moved)))
+    }
+
+    /// "Removes the link and adds it anew as one"; "a refusal changes nothing". The
+    /// answer is the set of the fields moved.
+    fn exchange_links(&mut self, id: u8, new: Link) -> Result<u64, Refusal> {
+        let old = *self.link(id);
         let (setters, waiting) = (self.setter, self.waiting);
-        let freed = self.drop_link(id)?;
-        let taken = match self.enter_link(id, link) {
+        let freed = self.withdraw_link(id, NO_LINK)?;
+        let taken = match self.enter_link(id, new) {
             Ok(taken) => taken,
             Err(refusal) => {
                 *self.link_mut(id) = old;
@@ -54,40 +84,24 @@ impl Panel {
                 return Err(refusal);
             }
         };
-        if link.covered != old.covered {
-            *self.formula_mut(id) = Formula::None;
-        }
         let moved = each(freed | taken).filter(|&field| self.setter[field] != setters[field]);
-        let moved = moved.fold(0, |set, field| set | only(field));
-        Ok(count(self.redrawn(moved)))
-    }
-
-    /// The link of an add or a change, after the checks 4, 6 and 7.
-    fn new_link(&self, id: u8, level: u8, field_bytes: &[u8]) -> Result<Link, Refusal> {
-        self.must_be_open()?;
-        let (covered, outputs) = read_link(id, level, field_bytes, self.size)?;
-        Ok(Link {
-            covered,
-            outputs,
-            level,
-            holds: None,
-        })
+        Ok(moved.fold(0, |set, field| set | only(field)))
     }
 
     /// "The new link waits. If it is not blocked: at level 0 refuse with
     /// Conflict, else accept." If it is blocked, turn. The answer is the set of the
-    /// fields moved; a refusal leaves the number not in use. This and `drop_link` are
-    /// inlined for both callers: by a call an add takes 4 percent more instructions.
+    /// fields moved; a refusal leaves all as it was. This and `withdraw_link` are
+    /// inlined for all callers: by a call an add takes 4 percent more instructions.
     #[inline(always)]
     fn enter_link(&mut self, id: u8, link: Link) -> Result<u64, Refusal> {
         let mut strengths = Strengths::new(self);
         let (start, greatest) = self.strongest(link.outputs, &mut strengths);
         if greatest > link.level {
-            *self.link_mut(id) = link;
+            let before = std::mem::replace(self.link_mut(id), link);
             let covered = link.covered;
             let moved = self.turn(start, &strengths, Setter { id, covered });
             if moved.is_err() {
-                *self.link_mut(id) = NO_LINK;
+                *self.link_mut(id) = before;
             }
             return moved;
         }
@@ -99,13 +113,14 @@ impl Panel {
         Ok(0)
     }
 
-    /// "If the link waits, drop it. If it sets v, drop it and let v's stay set
-    /// v." Then turn for what is blocked. The answer is the set of the fields moved;
-    /// a refusal leaves all as it was.
+    /// Takes a link out of force and leaves this in its place: "if the link waits,
+    /// drop it. If it sets v, drop it and let v's stay set v." Then turn for what is
+    /// blocked. The answer is the set of the fields moved; a refusal leaves all as it
+    /// was.
     #[inline(always)]
-    fn drop_link(&mut self, id: u8) -> Result<u64, Refusal> {
-        let link = std::mem::replace(self.link_mut(id), NO_LINK);
-        let Some(field) = link.holds else {
+    fn withdraw_link(&mut self, id: u8, left: Link) -> Result<u64, Refusal> {
+        let link = std::mem::replace(self.link_mut(id), left);
+        let Standing::Holding(field) = link.standing else {
             self.set_waiting(id, false);
             return Ok(0);
         };
@@ -139,7 +154,7 @@ impl Panel {
             let covered = if id == STAY { 0 } else { self.link(id).covered };
             let now = self.give(field, Setter { id, covered });
             if now.id != STAY {
-                self.link_mut(now.id).holds = None;
+                self.link_mut(now.id).standing = Standing::Waiting;
             }
         }
         self.enter_setters(fields);

@@ -112,7 +112,7 @@ says kind reply x = go reply x.form (bytes_hex reply x.bytes)
         record {
           refusal = λ e. absurd (clash e refl);
           number = λ e. l;
-          rows = λ e p. absurd (⊎_elim (λ c. omega arith) (⊎_elim (λ c. omega arith) (λ c. omega arith)) k);
+          rows = λ e p. absurd (⊎_elim (λ c. omega arith) (⊎_elim (λ c. omega arith) (⊎_elim (λ c. omega arith) (λ c. omega arith))) k);
           two = λ e p. refl;
           number_only = λ e. absurd (clash e refl);
           offset = λ e. absurd (clash e refl);

@@ -10,6 +10,7 @@ use native.Mathlib.Decide.{ℕ_discrete}
 use native.Mathlib.Omega.{arith}
 use borrow.Author.Tests.{ltb-true, ne_eqb}
 use lib.IntN.{ℤ}
+use lib.Dec.{eqb}
 use lib.ListN.{length, get_or, drop}
 use Rattle.fieldset.specs.Tables.{at}
 use Rattle.fieldset.specs.Lists.{In, All}
@@ -25,19 +26,19 @@ use Rattle.panel.specs.Answers.{Answer, refusal_bytes}
 use Rattle.panel.specs.Solution.{level, strength_of, plan_of, rows_of}
 use Rattle.panel.specs.Moved.{moved}
 use Rattle.panel.specs.Commands as panel
-use Rattle.panel.specs.Commands.{opening, adding, removing, touching, planning, changing, check_reply}
+use Rattle.panel.specs.Commands.{opening, adding, removing, touching, planning, changing, parking, unparking, check_reply}
 use Rattle.panel.specs.Legal.{Legal}
 use Rattle.panel.proofs.Legal.{force_formed}
 use Rattle.panel.proofs.Setters.{whole, setter_force}
 use Rattle.optimality.proofs.Graphs.{setters_of, legal_whole, strength_least}
 use Rattle.optimality.proofs.Held.{plan_whole}
-use Rattle.optimality.proofs.Answers.{Outcome, OfChecks, opening_outcome, adding_outcome, changing_outcome, removing_outcome, touching_outcome, planning_outcome}
+use Rattle.optimality.proofs.Answers.{Outcome, OfChecks, opening_outcome, adding_outcome, changing_outcome, removing_outcome, touching_outcome, planning_outcome, parking_outcome, unparking_outcome}
 use Rattle.values.specs.Words.{value_of}
 use Rattle.formulas.specs.declared.Formula.{Formula}
 use Rattle.sheet.specs.declared.Sheet.{Sheet}
 use Rattle.exactness.specs.Beginnings.{start_of}
 use Rattle.exactness.proofs.Beginnings.{begun_legal}
-use Rattle.sheet.specs.Commands.{Command, entering, formula_checks, performed}
+use Rattle.sheet.specs.Commands.{Command, solving, entering, formula_checks, performed}
 use Rattle.sheet.specs.Legal.{LegalSheet}
 use Rattle.sheet.proofs.Legal.{legal_sheet}
 use Rattle.sheet.proofs.Answers.{entering_reply, checks_reply}
@@ -131,29 +132,32 @@ kind_for (removing id) = 0x03
 kind_for (touching f) = 0x04
 kind_for planning = 0x05
 kind_for (changing id level bytes) = 0x06
+kind_for (parking id) = 0x09
+kind_for (unparking id) = 0x09
 
 abbrev Known : ℕ → Type 0
-Known kind = In kind (0x01 ∷ 0x02 ∷ 0x03 ∷ 0x04 ∷ 0x05 ∷ 0x06 ∷ 0x07 ∷ 0x08 ∷ [])
+Known kind = In kind (0x01 ∷ 0x02 ∷ 0x03 ∷ 0x04 ∷ 0x05 ∷ 0x06 ∷ 0x07 ∷ 0x08 ∷ 0x09 ∷ [])
 
 fits_kind_lem : (kind form n : ℕ) → fits_kind kind form n ≡ true → Known kind
 unfolding fits_kind
 fits_kind_lem k form n e =
     go (ℕ_discrete k 0x01) (ℕ_discrete k 0x02) (ℕ_discrete k 0x03) (ℕ_discrete k 0x04) (ℕ_discrete k 0x05) (ℕ_discrete k 0x06) (ℕ_discrete k 0x07)
-    (ℕ_discrete k 0x08)
+    (ℕ_discrete k 0x08) (ℕ_discrete k 0x09)
   where
-    go : Dec (k ≡ 0x01) → Dec (k ≡ 0x02) → Dec (k ≡ 0x03) → Dec (k ≡ 0x04) → Dec (k ≡ 0x05) → Dec (k ≡ 0x06) → Dec (k ≡ 0x07) → Dec (k ≡ 0x08) → Known k
-    go (yes a) b c d f g h i = inl a
-    go (no a) (yes b) c d f g h i = inr (inl b)
-    go (no a) (no b) (yes c) d f g h i = inr (inr (inl c))
-    go (no a) (no b) (no c) (yes d) f g h i = inr (inr (inr (inl d)))
-    go (no a) (no b) (no c) (no d) (yes f) g h i = inr (inr (inr (inr (inl f))))
-    go (no a) (no b) (no c) (no d) (no f) (yes g) h i = inr (inr (inr (inr (inr (inl g)))))
-    go (no a) (no b) (no c) (no d) (no f) (no g) (yes h) i = inr (inr (inr (inr (inr (inr (inl h))))))
-    go (no a) (no b) (no c) (no d) (no f) (no g) (no h) (yes i) = inr (inr (inr (inr (inr (inr (inr (inl i)))))))
-    go (no a) (no b) (no c) (no d) (no f) (no g) (no h) (no i) =
+    go : Dec (k ≡ 0x01) → Dec (k ≡ 0x02) → Dec (k ≡ 0x03) → Dec (k ≡ 0x04) → Dec (k ≡ 0x05) → Dec (k ≡ 0x06) → Dec (k ≡ 0x07) → Dec (k ≡ 0x08) → Dec (k ≡ 0x09) → Known k
+    go (yes a) b c d f g h i j = inl a
+    go (no a) (yes b) c d f g h i j = inr (inl b)
+    go (no a) (no b) (yes c) d f g h i j = inr (inr (inl c))
+    go (no a) (no b) (no c) (yes d) f g h i j = inr (inr (inr (inl d)))
+    go (no a) (no b) (no c) (no d) (yes f) g h i j = inr (inr (inr (inr (inl f))))
+    go (no a) (no b) (no c) (no d) (no f) (yes g) h i j = inr (inr (inr (inr (inr (inl g)))))
+    go (no a) (no b) (no c) (no d) (no f) (no g) (yes h) i j = inr (inr (inr (inr (inr (inr (inl h))))))
+    go (no a) (no b) (no c) (no d) (no f) (no g) (no h) (yes i) j = inr (inr (inr (inr (inr (inr (inr (inl i)))))))
+    go (no a) (no b) (no c) (no d) (no f) (no g) (no h) (no i) (yes j) = inr (inr (inr (inr (inr (inr (inr (inr (inl j))))))))
+    go (no a) (no b) (no c) (no d) (no f) (no g) (no h) (no i) (no j) =
         absurd
         (clash
-        (rw (ne_eqb k 0x01 a, ne_eqb k 0x02 b, ne_eqb k 0x03 c, ne_eqb k 0x04 d, ne_eqb k 0x05 f, ne_eqb k 0x06 g, ne_eqb k 0x07 h, ne_eqb k 0x08 i) at e) refl)
+        (rw (ne_eqb k 0x01 a, ne_eqb k 0x02 b, ne_eqb k 0x03 c, ne_eqb k 0x04 d, ne_eqb k 0x05 f, ne_eqb k 0x06 g, ne_eqb k 0x07 h, ne_eqb k 0x08 i, ne_eqb k 0x09 j) at e) refl)
 
 -- ---- commands
 
@@ -187,6 +191,11 @@ module _ (p : Panel) (h : Legal p) where
   outcome (changing id level bytes) =
       changing_outcome _ _ p (early 0x06) (λ q. moved_reply 0x06 p q (inr (inl refl))) (refusal_reply 0x06 Loop (omega arith) (omega arith))
       id level bytes (λ e. refusal_reply 0x06 Conflict (omega arith) (omega arith))
+  outcome (parking id) =
+      parking_outcome _ _ p (early 0x09) (λ q. moved_reply 0x09 p q (inr (inr (inr refl)))) (refusal_reply 0x09 Loop (omega arith) (omega arith)) id
+  outcome (unparking id) =
+      unparking_outcome _ _ p (early 0x09) (λ q. moved_reply 0x09 p q (inr (inr (inr refl)))) (refusal_reply 0x09 Loop (omega arith) (omega arith))
+      id (λ e. refusal_reply 0x09 Conflict (omega arith) (omega arith))
   outcome planning = planning_outcome _ _ p (early 0x05) (λ e. plan_reply p h (ltb-true 0 p.size e))
 
   command_reply : (c : panel.Command) → IsReply (kind_for c) (panel.performed p c).reply
@@ -218,14 +227,18 @@ formula_reply p id formula =
 module _ (s : Sheet) (h : LegalSheet s) where
   entered_reply : (f : ℕ) (v : ℤ) → IsReply 0x07 (performed s (entering f v)).reply
   entered_reply f v =
-      entering_reply (IsReply 0x07) s f v (touch_reply s.panel h.panel 0x07 (inr (inr refl)) f) (value_reply 14 (omega arith) (omega arith))
-      (value_reply 13 (omega arith) (omega arith)) (λ m l. count_reply 0x07 m (inr (inr refl)) l)
+      entering_reply (IsReply 0x07) s f v (touch_reply s.panel h.panel 0x07 (inr (inr (inl refl))) f) (value_reply 14 (omega arith) (omega arith))
+      (value_reply 13 (omega arith) (omega arith)) (λ m l. count_reply 0x07 m (inr (inr (inl refl))) l)
 
   -- a frame is answered as the command of its kind
   frame_reply : (bytes : List ℕ) → is_frame bytes ≡ true → IsReply (at bytes 0) (answered s bytes (command_of bytes)).reply
   unfolding is_frame command_of
   frame_reply bytes e = go (fits_kind_lem (at bytes 0) (at bytes 2) (length bytes) (and_left _ _ e))
     where
+      switched : (b : Bool) → IsReply 0x09 (performed s (solving (cond b (parking (at bytes 1)) (unparking (at bytes 1))))).reply
+      switched true = command_reply s.panel h.panel (parking (at bytes 1))
+      switched false = command_reply s.panel h.panel (unparking (at bytes 1))
+
       go : Known (at bytes 0) → IsReply (at bytes 0) (answered s bytes (command_of bytes)).reply
       go (inl k) = rw k (command_reply s.panel h.panel (opening (at bytes 1)))
       go (inr (inl k)) = rw k (command_reply s.panel h.panel (adding (at bytes 1) (at bytes 2) (drop 3 bytes)))
@@ -235,6 +248,7 @@ module _ (s : Sheet) (h : LegalSheet s) where
       go (inr (inr (inr (inr (inr (inl k)))))) = rw k (command_reply s.panel h.panel (changing (at bytes 1) (at bytes 2) (drop 3 bytes)))
       go (inr (inr (inr (inr (inr (inr (inl k))))))) = rw k (entered_reply (at bytes 1) (value_of (word_of (drop 2 bytes))))
       go (inr (inr (inr (inr (inr (inr (inr (inl k)))))))) = rw k (formula_reply s.panel (at bytes 1) (formula_in (drop 2 bytes)))
+      go (inr (inr (inr (inr (inr (inr (inr (inr (inl k))))))))) = rw k (switched (eqb (at bytes 2) 0x01))
 
   line_reply : (line : List ℕ) → IsReply (kind_of line) (line_answer s line).reply
   unfolding line_answer frame_of checked_frame command_of

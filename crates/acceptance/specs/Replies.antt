@@ -13,11 +13,12 @@ kind_of line = at (frame_of line) 0
 
 -- a kind whose reply has a moved count that may be other than 0
 abbrev pub Counts : ℕ → Type 0
-Counts kind = (kind ≤ 0x04) ⊎ ((kind ≡ 0x06) ⊎ (kind ≡ 0x07))
+Counts kind = (kind ≤ 0x04) ⊎ ((kind ≡ 0x06) ⊎ ((kind ≡ 0x07) ⊎ (kind ≡ 0x09)))
 
 -- a reply to a line of this kind
 pub data Form (kind : ℕ) : List ℕ → Type 0 where
-  -- "00 m (m the moved count)", for an opening, add, remove or touch, for a change (document 02, request 5) and for a value that is entered (request 2)
+  -- "00 m (m the moved count)", for an opening, add, remove or touch, for a change (document 02, request 5), for a value that is entered (request 2), and
+  -- for a link that is parked or brought back (request 8)
   count : (m : ℕ) → Counts kind → m ≤ 64 → Form kind (0x00 ∷ m ∷ [])
   -- "0 for kind 08" (document 02, request 2)
   formula : kind ≡ 0x08 → Form kind (0x00 ∷ 0x00 ∷ [])

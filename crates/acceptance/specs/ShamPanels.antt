@@ -5,7 +5,8 @@ use Prim.Native.String.{String}
 use Rattle.fieldset.specs.Numbers.{any}
 use Rattle.fieldset.specs.Tables.{at}
 use Rattle.panel.specs.declared.Panel.{Panel}
-use Rattle.panel.specs.declared.Standing.TheVariants.{Waiting}
+use Rattle.panel.specs.declared.Standing.{Standing}
+use Rattle.panel.specs.declared.Standing.TheVariants.{Waiting, Holding, Parked}
 use Rattle.panel.specs.declared.Refusal.TheVariants.{BadFrame}
 use Rattle.panel.specs.Items.{link_at}
 use Rattle.panel.specs.Answers.{is_refusal, refusal_bytes}
@@ -27,12 +28,17 @@ refuses_all s line = record { state = s; reply = 0xFF ∷ refusal_bytes BadFrame
 unfoldable pub replies_zeros : LineAnswer Sheet
 replies_zeros s line = record { state = (line_answer s line).state; reply = 0x00 ∷ 0x00 ∷ [] }
 
--- "one never changing a setter": it does all else and replies as document 01; its links wait
+-- "one never changing a setter": it does all else and replies as document 01; its links wait, or are parked
+abbrev holds_none : Standing → Standing
+holds_none Waiting = Waiting
+holds_none (Holding f) = Waiting
+holds_none Parked = Parked
+
 unfoldable pub keeps_setters : LineAnswer Sheet
 keeps_setters s line =
     let a = line_answer s line in
     let q = a.state.panel in
-    let p : Panel = record { size = q.size; links = map (λ l. standing l Waiting) q.links; place = q.place; setter = s.panel.setter } in
+    let p : Panel = record { size = q.size; links = map (λ l. standing l (holds_none l.standing)) q.links; place = q.place; setter = s.panel.setter } in
     record { state = sheet_of p a.state.formulas a.state.values; reply = a.reply }
 
 -- "one that solves the first link and afterwards only replies": once a link is in use the reply is document 01's and the panel stays
@@ -41,12 +47,13 @@ solves_first_link_only s line =
     let a = line_answer s line in
     record { state = cond (any (λ i. (link_at s.panel.links i).used) 128) s a.state; reply = a.reply }
 
--- "one that invents the moved count": one more than it is, for each add, remove, touch, change and value (kinds 02 to 04, 06 and 07) that is not refused
+-- "one that invents the moved count": one more than it is, for each add, remove, touch, change, value, parking and bringing back (kinds 02 to 04, 06, 07
+-- and 09) that is not refused
 unfoldable pub invents_moved : LineAnswer Sheet
 invents_moved s line =
     let a = line_answer s line in
     let kind = at (frame_of line) 0 in
-    let counts = ((ltb 1 kind && ltb kind 5) || eqb kind 6 || eqb kind 7) && not (is_refusal a.reply) in
+    let counts = ((ltb 1 kind && ltb kind 5) || eqb kind 6 || eqb kind 7 || eqb kind 9) && not (is_refusal a.reply) in
     record { state = a.state; reply = cond counts (0x00 ∷ (at a.reply 1 + 1) ∷ []) a.reply }
 
 -- ---- each with a text

@@ -162,7 +162,7 @@ module _ {p : Panel} {id level₁ covered outputs : ℕ} {cmd : Command} (x : En
   new_change = record {
     legal = x.legal;
     size = refl;
-    field = λ v e. absurd (holding_not_waiting e refl);
+    frees = tt;
     gone = λ v e. absurd (holding_not_waiting e refl);
     keeps = λ f l e. absurd (unset f l (omega (arith, x.number)) e);
   }

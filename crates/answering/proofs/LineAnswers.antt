@@ -21,7 +21,7 @@ use Rattle.panel.specs.Answers.{is_refusal, reply_bytes, rows_length}
 use Rattle.panel.specs.Moved.{turned}
 use Rattle.panel.specs.Outcomes.{taken, Takes, counted, redrawn_by, step_reply, Decides}
 use Rattle.panel.specs.Legal.{Legal}
-use Rattle.panel.specs.Commands.{opening, adding, removing, touching, planning, changing, covered_in, performed}
+use Rattle.panel.specs.Commands.{opening, adding, removing, touching, planning, changing, unparking, dropping, covered_in, performed}
 use Rattle.panel.proofs.Checks.{changeable}
 use Rattle.panel.proofs.Performed.{removed_number, changed_passes, legal_performed}
 use Rattle.panel.proofs.Outcomes.{takes_size}
@@ -33,13 +33,13 @@ use Rattle.formulas.specs.declared.Formula.TheVariants.{None}
 use Rattle.formulas.specs.declared.Formulas.{Formulas}
 use Rattle.sheet.specs.declared.Sheet.{Sheet}
 use Rattle.sheet.specs.Sheets.{sheet_of, formula_at, with_formula}
-use Rattle.sheet.specs.Commands.{solving, entering, relating}
+use Rattle.sheet.specs.Commands.{solving, entering, relating, formulas_after}
 use Rattle.sheet.specs.Legal.{LegalSheet}
 use Rattle.sheet.proofs.Legal.{legal_sheet, entered_formulas}
 use Rattle.sheet.proofs.Sizes.{sheet_size}
 use Rattle.entering.specs.Entered.{SettersOf, Entered}
 use Rattle.frames.specs.declared.Command.{Command}
-use Rattle.frames.specs.declared.Command.TheVariants.{Open, Add, Remove, Touch, Plan, Change, Enter, Relate, Refused}
+use Rattle.frames.specs.declared.Command.TheVariants.{Open, Add, Drop, Touch, Plan, Change, Enter, Relate, Unpark, Refused}
 use Rattle.frames.specs.Frames.{frame_of, word_of, formula_in, command_bytes, command_of, number_of, answered, command_answer, line_answer}
 use Rattle.replies.specs.Replies.{whole_reply}
 use Rattle.replies.proofs.Replies.{reply_short}
@@ -60,23 +60,29 @@ line_answer_lem q line k fields read = go k ∙ ap (λ (x : List ℕ). answered 
   go : (c : Command) → command_answer q c fields ≡ answered q (command_bytes c fields) (command_of (command_bytes c fields))
   go (Open n) = refl
   go (Add id level) = refl
-  go (Remove id) = refl
+  go (Drop id true) = refl
+  go (Drop id false) = refl
   go (Touch f) = refl
   go Plan = refl
   go (Change id level) = refl
   go (Enter f b) = refl
   go (Relate id form) = refl
+  go (Unpark id) = refl
   go (Refused r) = refl
 
-pub removal_no_change : {id i level : ℕ} → Remove id ≡ Change i level → ⊥
-removal_no_change e = let z : ◌≡◌ {A = ℕ} 2 5 = ap (tag_of the_type) e in omega arith
+pub drop_no_change : {id i level : ℕ} {park : Bool} → Drop id park ≡ Change i level → ⊥
+drop_no_change e = let z : ◌≡◌ {A = ℕ} 2 5 = ap (tag_of the_type) e in omega arith
 
--- the count after its command is that after a line: a removal's, and for another command as it was
-pub removed_scan : (n : ℕ) (q : Sheet) (line : List ℕ) (k : Command) (fields : List ℕ) → command_bytes k fields ≡ frame_of line → (id : ℕ) → k ≡ Remove id
-    → scan_count n q.panel id ≡ line_scan n q line
+-- the count after its command is that after a line: that of a link that is dropped, and for another command as it was
+pub dropped_scan : (n : ℕ) (q : Sheet) (line : List ℕ) (k : Command) (fields : List ℕ) → command_bytes k fields ≡ frame_of line → (id : ℕ) (park : Bool)
+    → k ≡ Drop id park → scan_count n q.panel id ≡ line_scan n q line
 unfolding line_scan command_of
-removed_scan n q line k fields read id e =
-    ap (λ (x : List ℕ). command_scan n q.panel (command_of x)) (sym (ap (λ (c : Command). command_bytes c fields) e) ∙ read)
+dropped_scan n q line k fields read id park e =
+    counts park ∙ ap (λ (x : List ℕ). command_scan n q.panel (command_of x)) (sym (ap (λ (c : Command). command_bytes c fields) e) ∙ read)
+  where
+    counts : (park : Bool) → scan_count n q.panel id ≡ command_scan n q.panel (command_of (command_bytes (Drop id park) fields))
+    counts true = refl
+    counts false = refl
 
 changed_scan : (n : ℕ) (q : Sheet) (line : List ℕ) (k : Command) (fields : List ℕ) → command_bytes k fields ≡ frame_of line → (id level : ℕ) → k ≡ Change id level
     → change_count n q.panel id level fields ≡ line_scan n q line
@@ -85,31 +91,33 @@ changed_scan n q line k fields read id level e =
     ap (λ (x : List ℕ). command_scan n q.panel (command_of x)) (sym (ap (λ (c : Command). command_bytes c fields) e) ∙ read)
 
 pub no_scan : (n : ℕ) (q : Sheet) (line : List ℕ) (k : Command) (fields : List ℕ) → command_bytes k fields ≡ frame_of line
-    → OneOf (0 ∷ 1 ∷ 3 ∷ 4 ∷ 5 ∷ 6 ∷ 7 ∷ 8 ∷ []) (tag_of the_type k) → OneOf (0 ∷ 1 ∷ 2 ∷ 3 ∷ 4 ∷ 6 ∷ 7 ∷ 8 ∷ []) (tag_of the_type k) → n ≡ line_scan n q line
+    → OneOf (0 ∷ 1 ∷ 3 ∷ 4 ∷ 5 ∷ 6 ∷ 7 ∷ 8 ∷ 9 ∷ []) (tag_of the_type k) → OneOf (0 ∷ 1 ∷ 2 ∷ 3 ∷ 4 ∷ 6 ∷ 7 ∷ 8 ∷ 9 ∷ []) (tag_of the_type k) → n ≡ line_scan n q line
 unfolding line_scan command_of
 no_scan n q line k fields read h g = go k h g ∙ ap (λ (x : List ℕ). command_scan n q.panel (command_of x)) read
   where
-    go : (c : Command) → OneOf (0 ∷ 1 ∷ 3 ∷ 4 ∷ 5 ∷ 6 ∷ 7 ∷ 8 ∷ []) (tag_of the_type c) → OneOf (0 ∷ 1 ∷ 2 ∷ 3 ∷ 4 ∷ 6 ∷ 7 ∷ 8 ∷ []) (tag_of the_type c)
+    go : (c : Command) → OneOf (0 ∷ 1 ∷ 3 ∷ 4 ∷ 5 ∷ 6 ∷ 7 ∷ 8 ∷ 9 ∷ []) (tag_of the_type c) → OneOf (0 ∷ 1 ∷ 2 ∷ 3 ∷ 4 ∷ 6 ∷ 7 ∷ 8 ∷ 9 ∷ []) (tag_of the_type c)
         → n ≡ command_scan n q.panel (command_of (command_bytes c fields))
     go (Open m) h g = refl
     go (Add id level) h g = refl
-    go (Remove id) h g = absurd (not_among 2 (0 ∷ 1 ∷ 3 ∷ 4 ∷ 5 ∷ 6 ∷ 7 ∷ 8 ∷ []) refl h)
+    go (Drop id park) h g = absurd (not_among 2 (0 ∷ 1 ∷ 3 ∷ 4 ∷ 5 ∷ 6 ∷ 7 ∷ 8 ∷ 9 ∷ []) refl h)
     go (Touch f) h g = refl
     go Plan h g = refl
-    go (Change id level) h g = absurd (not_among 5 (0 ∷ 1 ∷ 2 ∷ 3 ∷ 4 ∷ 6 ∷ 7 ∷ 8 ∷ []) refl g)
+    go (Change id level) h g = absurd (not_among 5 (0 ∷ 1 ∷ 2 ∷ 3 ∷ 4 ∷ 6 ∷ 7 ∷ 8 ∷ 9 ∷ []) refl g)
     go (Enter f b) h g = refl
     go (Relate id form) h g = refl
+    go (Unpark id) h g = refl
     go (Refused r) h g = refl
 
 pub answer_legal : (q : Sheet) (k : Command) (fields : List ℕ) → LegalSheet q → LegalSheet (command_answer q k fields).state
 answer_legal q (Open n) fields h = legal_sheet q h (solving (opening n))
 answer_legal q (Add id level) fields h = legal_sheet q h (solving (adding id level fields))
-answer_legal q (Remove id) fields h = legal_sheet q h (solving (removing id))
+answer_legal q (Drop id park) fields h = legal_sheet q h (solving (dropping park id))
 answer_legal q (Touch f) fields h = legal_sheet q h (solving (touching f))
 answer_legal q Plan fields h = legal_sheet q h (solving planning)
 answer_legal q (Change id level) fields h = legal_sheet q h (solving (changing id level fields))
 answer_legal q (Enter f b) fields h = legal_sheet q h (entering f (value_of (word_of (b ∷ fields))))
 answer_legal q (Relate id form) fields h = legal_sheet q h (relating id (formula_in (form ∷ fields)))
+answer_legal q (Unpark id) fields h = legal_sheet q h (solving (unparking id))
 answer_legal q (Refused r) fields h = h
 
 -- an open panel keeps its size
@@ -120,12 +128,13 @@ answer_sizes q k fields = go (dec_lt 0 q.panel.size) k
     go (no n) k = inr (omega arith)
     go (yes o) (Open n) = inl (sheet_size q (solving (opening n)) o)
     go (yes o) (Add id level) = inl (sheet_size q (solving (adding id level fields)) o)
-    go (yes o) (Remove id) = inl (sheet_size q (solving (removing id)) o)
+    go (yes o) (Drop id park) = inl (sheet_size q (solving (dropping park id)) o)
     go (yes o) (Touch f) = inl (sheet_size q (solving (touching f)) o)
     go (yes o) Plan = inl (sheet_size q (solving planning) o)
     go (yes o) (Change id level) = inl (sheet_size q (solving (changing id level fields)) o)
     go (yes o) (Enter f b) = inl (sheet_size q (entering f (value_of (word_of (b ∷ fields)))) o)
     go (yes o) (Relate id form) = inl (sheet_size q (relating id (formula_in (form ∷ fields))) o)
+    go (yes o) (Unpark id) = inl (sheet_size q (solving (unparking id)) o)
     go (yes o) (Refused r) = inl refl
 
 -- ---- the step that is decided
@@ -134,24 +143,26 @@ answer_sizes q k fields = go (dec_lt 0 q.panel.size) k
 abbrev pub step_panel : Sheet → List ℕ → Command → Panel
 step_panel s tail (Open n) = (command_answer s (Open n) tail).state.panel
 step_panel s tail (Add id level) = (command_answer s (Add id level) tail).state.panel
-step_panel s tail (Remove id) = (command_answer s (Remove id) tail).state.panel
+step_panel s tail (Drop id park) = (command_answer s (Drop id park) tail).state.panel
 step_panel s tail (Touch f) = (command_answer s (Touch f) tail).state.panel
 step_panel s tail Plan = (command_answer s Plan tail).state.panel
 step_panel s tail (Change id level) = s.panel
 step_panel s tail (Enter f b) = (command_answer s (Enter f b) tail).state.panel
 step_panel s tail (Relate id form) = (command_answer s (Relate id form) tail).state.panel
+step_panel s tail (Unpark id) = (command_answer s (Unpark id) tail).state.panel
 step_panel s tail (Refused x) = (command_answer s (Refused x) tail).state.panel
 
 -- what else is known then: the rest of the answer, and of a change that no value has changed
 abbrev StepRest : Sheet → ℕ → List ℕ → List ℕ → List ℤ → Step → Command → Type 0
 StepRest s k tail rows values step (Open n) = AnswerRest s k (Open n) tail rows values (step_reply step (step_panel s tail (Open n)))
 StepRest s k tail rows values step (Add id level) = AnswerRest s k (Add id level) tail rows values (step_reply step (step_panel s tail (Add id level)))
-StepRest s k tail rows values step (Remove id) = AnswerRest s k (Remove id) tail rows values (step_reply step (step_panel s tail (Remove id)))
+StepRest s k tail rows values step (Drop id park) = AnswerRest s k (Drop id park) tail rows values (step_reply step (step_panel s tail (Drop id park)))
 StepRest s k tail rows values step (Touch f) = AnswerRest s k (Touch f) tail rows values (step_reply step (step_panel s tail (Touch f)))
 StepRest s k tail rows values step Plan = AnswerRest s k Plan tail rows values (step_reply step (step_panel s tail Plan))
 StepRest s k tail rows values step (Change id level) = (values ≡ s.values) × (step.revalued ≡ 0)
 StepRest s k tail rows values step (Enter f b) = AnswerRest s k (Enter f b) tail rows values (step_reply step (step_panel s tail (Enter f b)))
 StepRest s k tail rows values step (Relate id form) = AnswerRest s k (Relate id form) tail rows values (step_reply step (step_panel s tail (Relate id form)))
+StepRest s k tail rows values step (Unpark id) = AnswerRest s k (Unpark id) tail rows values (step_reply step (step_panel s tail (Unpark id)))
 StepRest s k tail rows values step (Refused x) = AnswerRest s k (Refused x) tail rows values (step_reply step (step_panel s tail (Refused x)))
 
 pub record Stepped (s : Sheet) (k : ℕ) (c : Command) (tail path rows : List ℕ) (values : List ℤ) (step : Step) : Type 0 where
@@ -162,58 +173,73 @@ pub record Stepped (s : Sheet) (k : ℕ) (c : Command) (tail path rows : List �
 pub step_legal : (s : Sheet) (tail : List ℕ) (c : Command) → LegalSheet s → Legal (step_panel s tail c)
 step_legal s tail (Open n) h = (answer_legal s (Open n) tail h).panel
 step_legal s tail (Add id level) h = (answer_legal s (Add id level) tail h).panel
-step_legal s tail (Remove id) h = (answer_legal s (Remove id) tail h).panel
+step_legal s tail (Drop id park) h = (answer_legal s (Drop id park) tail h).panel
 step_legal s tail (Touch f) h = (answer_legal s (Touch f) tail h).panel
 step_legal s tail Plan h = (answer_legal s Plan tail h).panel
 step_legal s tail (Change id level) h = h.panel
 step_legal s tail (Enter f b) h = (answer_legal s (Enter f b) tail h).panel
 step_legal s tail (Relate id form) h = (answer_legal s (Relate id form) tail h).panel
+step_legal s tail (Unpark id) h = (answer_legal s (Unpark id) tail h).panel
 step_legal s tail (Refused x) h = (answer_legal s (Refused x) tail h).panel
 
 pub step_sizes : (s : Sheet) (tail : List ℕ) (c : Command) → Sizes s.panel (step_panel s tail c)
 step_sizes s tail (Open n) = answer_sizes s (Open n) tail
 step_sizes s tail (Add id level) = answer_sizes s (Add id level) tail
-step_sizes s tail (Remove id) = answer_sizes s (Remove id) tail
+step_sizes s tail (Drop id park) = answer_sizes s (Drop id park) tail
 step_sizes s tail (Touch f) = answer_sizes s (Touch f) tail
 step_sizes s tail Plan = answer_sizes s Plan tail
 step_sizes s tail (Change id level) = inl refl
 step_sizes s tail (Enter f b) = answer_sizes s (Enter f b) tail
 step_sizes s tail (Relate id form) = answer_sizes s (Relate id form) tail
+step_sizes s tail (Unpark id) = answer_sizes s (Unpark id) tail
 step_sizes s tail (Refused x) = answer_sizes s (Refused x) tail
 
--- of a line that is no removal and enters no value
+-- of a line that drops no link, brings none back and enters no value
 pub decided_stepped : (p : Panel) (k : ℕ) (named : Link) (tail path rows : List ℕ) (step : Step) (c : Command)
-    → OneOf (0 ∷ 1 ∷ 3 ∷ 4 ∷ 5 ∷ 6 ∷ 7 ∷ 8 ∷ []) (tag_of the_type c) → OneOf (0 ∷ 1 ∷ 2 ∷ 3 ∷ 4 ∷ 5 ∷ 7 ∷ 8 ∷ []) (tag_of the_type c)
+    → OneOf (0 ∷ 1 ∷ 3 ∷ 4 ∷ 5 ∷ 6 ∷ 7 ∷ 8 ∷ 9 ∷ []) (tag_of the_type c) → OneOf (0 ∷ 1 ∷ 2 ∷ 3 ∷ 4 ∷ 5 ∷ 6 ∷ 7 ∷ 9 ∷ []) (tag_of the_type c)
+    → OneOf (0 ∷ 1 ∷ 2 ∷ 3 ∷ 4 ∷ 5 ∷ 7 ∷ 8 ∷ 9 ∷ []) (tag_of the_type c)
     → named ≡ link_at p.links k → DecidedLine p k named tail path rows step c → (formulas : Formulas) (values : List ℤ)
     → Stepped (sheet_of p formulas values) k c tail path rows values step
-decided_stepped p k named tail path rows step (Open n) h g same d formulas values =
+decided_stepped p k named tail path rows step (Open n) h u g same d formulas values =
     let l = d formulas values in record { takes = l.takes; rest = l.replied; rows_full = l.rows_full }
-decided_stepped p k named tail path rows step (Add id level) h g same d formulas values =
+decided_stepped p k named tail path rows step (Add id level) h u g same d formulas values =
     let l = d formulas values in record { takes = l.takes; rest = l.replied; rows_full = l.rows_full }
-decided_stepped p k named tail path rows step (Remove id) h g same d formulas values = absurd (not_among 2 (0 ∷ 1 ∷ 3 ∷ 4 ∷ 5 ∷ 6 ∷ 7 ∷ 8 ∷ []) refl h)
-decided_stepped p k named tail path rows step (Touch f) h g same d formulas values =
+decided_stepped p k named tail path rows step (Drop id park) h u g same d formulas values = absurd (not_among 2 (0 ∷ 1 ∷ 3 ∷ 4 ∷ 5 ∷ 6 ∷ 7 ∷ 8 ∷ 9 ∷ []) refl h)
+decided_stepped p k named tail path rows step (Touch f) h u g same d formulas values =
     let l = d formulas values in record { takes = l.takes; rest = l.replied; rows_full = l.rows_full }
-decided_stepped p k named tail path rows step Plan h g same d formulas values =
+decided_stepped p k named tail path rows step Plan h u g same d formulas values =
     let l = d formulas values in record { takes = l.takes; rest = l.replied; rows_full = l.rows_full }
-decided_stepped p k named tail path rows step (Change id level) h g same d formulas values =
+decided_stepped p k named tail path rows step (Change id level) h u g same d formulas values =
     record {
       takes = rw d.is (takes_size p k named (Accepted 0) same path d.path_full p.size p refl);
       rest = (refl, ap (λ (s : Step). s.revalued) d.is);
       rows_full = d.rows_full;
     }
-decided_stepped p k named tail path rows step (Enter f b) h g same d formulas values = absurd (not_among 6 (0 ∷ 1 ∷ 2 ∷ 3 ∷ 4 ∷ 5 ∷ 7 ∷ 8 ∷ []) refl g)
-decided_stepped p k named tail path rows step (Relate id form) h g same d formulas values =
+decided_stepped p k named tail path rows step (Enter f b) h u g same d formulas values = absurd (not_among 6 (0 ∷ 1 ∷ 2 ∷ 3 ∷ 4 ∷ 5 ∷ 7 ∷ 8 ∷ 9 ∷ []) refl g)
+decided_stepped p k named tail path rows step (Relate id form) h u g same d formulas values =
     let l = d formulas values in record { takes = l.takes; rest = l.replied; rows_full = l.rows_full }
-decided_stepped p k named tail path rows step (Refused x) h g same d formulas values =
+decided_stepped p k named tail path rows step (Unpark id) h u g same d formulas values = absurd (not_among 8 (0 ∷ 1 ∷ 2 ∷ 3 ∷ 4 ∷ 5 ∷ 6 ∷ 7 ∷ 9 ∷ []) refl u)
+decided_stepped p k named tail path rows step (Refused x) h u g same d formulas values =
     let l = d formulas values in record { takes = l.takes; rest = l.replied; rows_full = l.rows_full }
 
 -- ---- the steps that are decided beside the others
 
-pub removed_step : (s : Sheet) (id : ℕ) (fields path rows : List ℕ) → length rows ≡ rows_length → (step : Step) → Decides s.panel (id % 128) (removing id) path step
-    → Stepped s (id % 128) (Remove id) fields path rows s.values step
-removed_step s id fields path rows full step d =
-    let l = solved_step s (id % 128) fields path rows full (Remove id) (removing id) step refl (λ r. refl)
-    (λ e. ap (λ (k : ℕ). with_formula s.formulas k None) (mod-eq_of_lt (removed_number s.panel id e))) d in
+pub dropped_step : (s : Sheet) (id : ℕ) (park : Bool) (fields path rows : List ℕ) → length rows ≡ rows_length → (step : Step)
+    → Decides s.panel (id % 128) (dropping park id) path step → Stepped s (id % 128) (Drop id park) fields path rows s.values step
+dropped_step s id park fields path rows full step d =
+    let l = solved_step s (id % 128) fields path rows full (Drop id park) (dropping park id) step refl (λ r. refl) (given park) d in
+    record { takes = l.takes; rest = l.replied; rows_full = full }
+  where
+    -- a parking keeps the formula
+    given : (park : Bool) → is_refusal (performed s.panel (dropping park id)).reply ≡ false
+        → with_formula s.formulas (id % 128) (cond park (formula_at s.formulas (id % 128)) None) ≡ formulas_after s (dropping park id)
+    given true e = formula_kept s.formulas (id % 128)
+    given false e = ap (λ (k : ℕ). with_formula s.formulas k None) (mod-eq_of_lt (removed_number s.panel id e))
+
+pub unparked_step : (s : Sheet) (id : ℕ) (fields path rows : List ℕ) → length rows ≡ rows_length → (step : Step) → Decides s.panel (id % 128) (unparking id) path step
+    → Stepped s (id % 128) (Unpark id) fields path rows s.values step
+unparked_step s id fields path rows full step d =
+    let l = solved_step s (id % 128) fields path rows full (Unpark id) (unparking id) step refl (λ r. refl) (λ e. formula_kept s.formulas (id % 128)) d in
     record { takes = l.takes; rest = l.replied; rows_full = full }
 
 -- the panel after the step of a touch
@@ -248,16 +274,17 @@ entered_step s f b fields path rows v e full touch touches after step d =
 
 -- where no change is asked the step is all
 module _ {s : Sheet} {k : ℕ} {tail path rows : List ℕ} {values : List ℤ} {step : Step} where
-  pub step_panel_lem : (c : Command) → OneOf (0 ∷ 1 ∷ 2 ∷ 3 ∷ 4 ∷ 6 ∷ 7 ∷ 8 ∷ []) (tag_of the_type c) → Stepped s k c tail path rows values step
+  pub step_panel_lem : (c : Command) → OneOf (0 ∷ 1 ∷ 2 ∷ 3 ∷ 4 ∷ 6 ∷ 7 ∷ 8 ∷ 9 ∷ []) (tag_of the_type c) → Stepped s k c tail path rows values step
       → (step_panel s tail c ≡ (command_answer s c tail).state.panel) × AnswerRest s k c tail rows values (step_reply step (step_panel s tail c))
   step_panel_lem (Open n) h d = (refl, d.rest)
   step_panel_lem (Add id level) h d = (refl, d.rest)
-  step_panel_lem (Remove id) h d = (refl, d.rest)
+  step_panel_lem (Drop id park) h d = (refl, d.rest)
   step_panel_lem (Touch f) h d = (refl, d.rest)
   step_panel_lem Plan h d = (refl, d.rest)
-  step_panel_lem (Change id level) h d = absurd (not_among 5 (0 ∷ 1 ∷ 2 ∷ 3 ∷ 4 ∷ 6 ∷ 7 ∷ 8 ∷ []) refl h)
+  step_panel_lem (Change id level) h d = absurd (not_among 5 (0 ∷ 1 ∷ 2 ∷ 3 ∷ 4 ∷ 6 ∷ 7 ∷ 8 ∷ 9 ∷ []) refl h)
   step_panel_lem (Enter f b) h d = (refl, d.rest)
   step_panel_lem (Relate id form) h d = (refl, d.rest)
+  step_panel_lem (Unpark id) h d = (refl, d.rest)
   step_panel_lem (Refused x) h d = (refl, d.rest)
 
 -- ---- a change

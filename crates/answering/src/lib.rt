@@ -16,12 +16,13 @@ use frames::{Command, value_of};
 use keeping::refresh;
 use panel::{Panel, ROWS};
 use redrawing::count_reply;
-use removing::remove;
+use removing::drop_link;
 use replies::{LONGEST, put_reply, refusal_of};
 use sheet::Sheet;
 use tables::{fill_tables, stay_levels};
 use taking::reverse;
 use tally::{Tally, tallied_line};
+use unparking::unpark;
 
 // Where a run over a text stands: the position of the next line, the sheet, the tally, how many bytes were written, and how many strengths were worked
 // out for the last scan, 0 where none was made.
@@ -62,8 +63,8 @@ fn progress_of(
 
 // Answers whole lines from a position on while the room has place for a longest reply; what does not fit the buffer is counted, not stored. Past the
 // text's end there is no line. The step of a line is decided, and the panel takes it; a change, whose step leaves the panel as it is, is then carried
-// out. A removal and a change scan all links, and a value that is entered needs all formulas: they stand here, since in decide_line they would have the
-// panel or the formulas copied for every line.
+// out. A link that is dropped or changed has all links scanned, and a value that is entered needs all formulas: they stand here, since in decide_line
+// they would have the panel or the formulas copied for every line; so would a link that is brought back have the panel.
 pub fn answer_lines(
     text: &[u8],
     mut at: usize,
@@ -98,8 +99,20 @@ pub fn answer_lines(
         let command = line.command;
         let k = wide(frames::number_of(command));
         let old = q.links[k];
-        let step = if let Command::Remove(id) = command {
-            remove(q, old, &levels, &others, &reads, id, &mut path, &mut worked)
+        let step = if let Command::Drop(id, park) = command {
+            drop_link(
+                q,
+                old,
+                &levels,
+                &others,
+                &reads,
+                id,
+                park,
+                &mut path,
+                &mut worked,
+            )
+        } else if let Command::Unpark(id) = command {
+            unpark(q, old, &levels, &others, &reads, id, &mut path)
         } else {
             let step = decide_line(q, old, &levels, &others, &reads, line, &mut path, &mut rows);
             if let Command::Enter(f, b) = command {

@@ -1,6 +1,7 @@
--- What a change comes to, from its halves: refused by its checks (`checks_refused`), with the removal (`removal_refused`) or with the add
--- (`addition_refused`), else the panel of both (`both_accepted`), with the count from the first panel to the last (`count_is`).
-use Prim.Native.Nat.{ℕ, ◌%◌}
+-- What a change comes to: refused by its checks (`checks_refused`); then a parked link is altered (`altered_changes`), and any other is changed by its
+-- halves: refused with the removal (`removal_refused`) or with the add (`addition_refused`), else the panel of both (`both_accepted`), with the count
+-- from the first panel to the last (`count_is`).
+use Prim.Native.Nat.{ℕ, ◌%◌, ◌<◌}
 use mathlib.Core.Path.{◌≡◌, refl, sym, ap, ◌∙◌, subst}
 use mathlib.Core.Bool.{Bool, false, not, cond}
 use mathlib.Core.Logic.{inl, inr}
@@ -11,28 +12,36 @@ use Rattle.fieldset.specs.Tables.{at}
 use Rattle.fieldset.specs.Fields.{size}
 use Rattle.fieldset.proofs.Numbers.{clash}
 use Rattle.fieldset.proofs.Fields.{set_of_lt, member_setOf_lt}
+use Rattle.panel.specs.declared.Standing.TheVariants.{Parked}
 use Rattle.panel.specs.declared.Link.{Link}
 use Rattle.panel.specs.declared.Panel.{Panel}
 use Rattle.panel.specs.declared.Refusal.{Refusal}
 use Rattle.panel.specs.declared.Refusal.TheVariants.{NoSuchLink}
 use Rattle.panel.specs.declared.Reply.{Reply}
 use Rattle.panel.specs.declared.Reply.TheVariants.{Accepted, Refused}
-use Rattle.panel.specs.Items.{link_at}
+use Rattle.panel.specs.Items.{link_at, is_parked}
 use Rattle.panel.specs.Answers.{Answer, is_refusal, refused, reply_bytes}
+use Rattle.panel.specs.Panels.{parked_link, with_link}
 use Rattle.panel.specs.Moved.{turned, moved}
-use Rattle.panel.specs.Steps.{accepted, change_step}
+use Rattle.panel.specs.Steps.{accepted, quiet, change_step}
 use Rattle.panel.specs.Commands.{Check, check, check_reply, Passes, covered_in, outputs_in, add_checks, change_checks, adding, removing, changing, performed}
-use Rattle.panel.specs.Outcomes.{counted, redrawn_by}
+use Rattle.panel.specs.Outcomes.{Uncounted, counted, redrawn_by}
 use Rattle.panel.specs.Legal.{Legal}
+use Rattle.panel.proofs.Standings.{parked_not_holding}
 use Rattle.panel.proofs.Checks.{Agree, agree_reply, reply_refused, reply_accepted, named_link, changeable, change_adds}
 use Rattle.panel.proofs.Performed.{legal_performed, performed_size, without_unused}
-use Rattle.panel.proofs.Changing.{Alike, Cases, change_cases}
+use Rattle.panel.proofs.Changing.{Alike, Cases, change_parked, change_cases}
 use Rattle.panel.proofs.Moved.{turned_is, turned_none, redrawn_by_lem, counted_still, counted_none}
+use Rattle.tables.specs.Tables.{Tabled}
+use Rattle.tables.proofs.Settings.{tabled_link}
+use Rattle.scanning.proofs.Dropped.{sets_holds}
 use Rattle.fieldbytes.specs.Bytes.{FieldsOf}
 use Rattle.adding.specs.Checks.{check_link}
 use Rattle.adding.proofs.Adding.{link_agree}
 use Rattle.removing.specs.Scans.{scan_count}
-use Rattle.changing.specs.Changed.{changed_fields, change_count}
+use Rattle.removing.proofs.Removed.{count_unset}
+use Rattle.changing.specs.Changed.{changed_fields, change_count, Changes}
+use Rattle.changing.specs.declared.Changed.{Changed}
 
 -- ---- the checks
 
@@ -65,6 +74,31 @@ module _ (p : Panel) (id level : ℕ) (bytes : List ℕ) (c o : ℕ) (r : Bool) 
   pub count_passed : (m : ℕ) → reply ≡ Accepted m → (n : ℕ) → scan_count n p id ≡ change_count n p id level bytes
   count_passed m e n = rw e at (scan_counted n)
 
+  -- a parked link that passes is altered, and nothing else: no setter changes, a link that sets nothing is in no table, and makes no scan
+  module _ (h : Legal p) (parked : old.standing ≡ Parked) (m : ℕ) (accepts : reply ≡ Accepted m) where
+    pub altered_number : id < 128
+    altered_number = (changeable p id level bytes (checks_passed m accepts)).number
+
+    stands : (link_at p.links id).standing ≡ Parked
+    stands = ap (λ (x : Link). x.standing) (sym (named_link p.links id old same altered_number)) ∙ parked
+
+    altered_step : quiet (with_link p id (parked_link level c o)) ≡ performed p (changing id level bytes)
+    altered_step = rw (f.covered, f.outputs) (sym (change_parked p id level bytes (checks_passed m accepts) stands))
+
+    pub altered_changes : {levels others reads : List ℕ} → Tabled p levels others reads → (n : ℕ) (r : Changed)
+        → r ≡ record { panel = with_link p id (parked_link level c o); reply = reply; changed = 0 } → Changes p id level bytes levels others reads n n r
+    altered_changes t n r is =
+        let q : Panel = with_link p id (parked_link level c o) in
+        let zero : reply ≡ Accepted 0 = accepts ∙ ap Accepted (reply_accepted p own (change_checks p id level bytes) step agree reply checks m accepts).0 in
+        rw is (record {
+          panel = ap (λ (a : Answer). a.panel) altered_step;
+          changed = sym (turned_none p q refl);
+          reply = ap reply_bytes (counted_still reply q ∙ zero) ∙ ap (λ (a : Answer). a.reply) altered_step;
+          uncounted = subst Uncounted (sym zero) refl;
+          tabled = tabled_link p id (parked_link level c o) (λ g l k e. parked_not_holding stands g (sets_holds p h id g altered_number l e)) t;
+          scan = count_unset p h id n (parked_not_holding stands) ∙ count_passed m accepts n;
+        })
+
 -- the panel of a refusal, no setter of which changed, and its reply
 pub refused_parts : (p : Panel) (a : Answer) (reply : Reply) (x : Refusal) → reply ≡ Refused x → refused p x ≡ a
     → (p ≡ a.panel) × (0 ≡ turned p p) × (reply_bytes (counted reply (redrawn_by 0 0 p)) ≡ a.reply)
@@ -76,7 +110,8 @@ refused_parts p a reply x e is = (
 
 -- ---- the halves
 
-module _ (p : Panel) (h : Legal p) (id level : ℕ) (bytes : List ℕ) (passed : Passes (change_checks p id level bytes)) where
+module _ (p : Panel) (h : Legal p) (id level : ℕ) (bytes : List ℕ) (passed : Passes (change_checks p id level bytes))
+    (other : is_parked (link_at p.links id).standing ≡ false) where
   abbrev removal : Answer
   removal = performed p (removing id)
 
@@ -84,7 +119,7 @@ module _ (p : Panel) (h : Legal p) (id level : ℕ) (bytes : List ℕ) (passed :
   change = performed p (changing id level bytes)
 
   pub removal_refused : (x : Refusal) → removal ≡ refused p x → refused p x ≡ change
-  removal_refused x e = go (change_cases p id level bytes h passed)
+  removal_refused x e = go (change_cases p id level bytes h passed other)
     where
       go : Cases p id level bytes → refused p x ≡ change
       go (inl (r, same, is)) = sym (is ∙ e)
@@ -96,7 +131,7 @@ module _ (p : Panel) (h : Legal p) (id level : ℕ) (bytes : List ℕ) (passed :
     legal_between = subst Legal leaves (legal_performed p (removing id) h)
 
     pub adds_between : Passes (add_checks q id level bytes)
-    adds_between = go (change_cases p id level bytes h passed)
+    adds_between = go (change_cases p id level bytes h passed other)
       where
         go : Cases p id level bytes → Passes (add_checks q id level bytes)
         go (inl (r, same, is)) = absurd (clash r goes)
@@ -105,7 +140,7 @@ module _ (p : Panel) (h : Legal p) (id level : ℕ) (bytes : List ℕ) (passed :
             (change_adds p id level bytes passed removal.panel w.size (without_unused w h (changeable p id level bytes passed).number))
 
     alike : Alike p q change (performed q (adding id level bytes))
-    alike = go (change_cases p id level bytes h passed)
+    alike = go (change_cases p id level bytes h passed other)
       where
         go : Cases p id level bytes → Alike p q change (performed q (adding id level bytes))
         go (inl (r, same, is)) = absurd (clash r goes)

@@ -21,7 +21,7 @@ use Rattle.panel.specs.declared.Reply.{Reply}
 use Rattle.panel.specs.declared.Reply.TheVariants.{Accepted, Refused}
 use Rattle.panel.specs.Items.{no_link, link_at, item_of}
 use Rattle.panel.specs.Answers.{Answer, is_refusal, refused}
-use Rattle.panel.specs.Panels.{waiting_link, with_link, with_setter, freed, dropped}
+use Rattle.panel.specs.Panels.{waiting_link, with_link, with_setter, freed, replaced, dropped}
 use Rattle.panel.specs.Solution.{reversed}
 use Rattle.panel.specs.Steps.{accepted, drop_step, remove_step}
 use Rattle.panel.specs.Commands.{Passes, remove_checks, add_checks, Command, adding, removing, performed}
@@ -29,6 +29,7 @@ use Rattle.panel.specs.Legal.{Legal}
 use Rattle.panel.specs.Outcomes.{taken, PathOf, Decides}
 use Rattle.panel.proofs.Legal.{holding_not_waiting}
 use Rattle.panel.proofs.Checks.{checked_step}
+use Rattle.panel.proofs.Changes.{none_aside}
 use Rattle.tables.specs.Tables.{Tabled}
 use Rattle.tables.proofs.Settings.{tabled_link}
 use Rattle.reversal.specs.declared.Verdict.{Verdict}
@@ -38,7 +39,8 @@ use Rattle.reversal.specs.Reversals.{Resolved, setter_by, count_by, step_of}
 use Rattle.fieldbytes.specs.Bytes.{FieldsOf}
 use Rattle.adding.specs.Checks.{verdict_reply}
 use Rattle.adding.proofs.Adding.{Entering, passed_entering, entry_refused, entry_done}
-use Rattle.removing.specs.Settled.{Settles}
+use Rattle.removing.specs.Settled.{SettlesBy, Settles}
+use Rattle.scanning.specs.Scan.{TabledWithout}
 use Rattle.scanning.proofs.Dropped.{sets_holds}
 
 -- the panel with the path of a verdict reversed
@@ -72,7 +74,7 @@ turned_free p (Path count m) c path h = absurd (⊎_elim (λ e. omega arith) (λ
 module _ (p : Panel) (h : Legal p) (id : ℕ) (small : id < 128) (passed : Passes (remove_checks p id)) where
   pub drop_waits : {levels others reads : List ℕ} → (link_at p.links id).standing ≡ Waiting → Tabled p levels others reads → (path : List ℕ) → length path ≡ 64
       → (q : Panel) → q ≡ with_link p id no_link → Done p (removing id) levels others reads path q
-  unfolding remove_step dropped
+  unfolding remove_step replaced
   drop_waits {levels} {others} {reads} rests tab path long q same =
       let step : performed p (removing id) ≡ accepted p (with_link p id no_link) =
       checked_step p (remove_checks p id) (remove_step p id) passed ∙ ap (λ (s : Standing). drop_step p (freed (with_link p id no_link) s) s) rests in
@@ -91,23 +93,23 @@ module _ (p : Panel) (h : Legal p) (id : ℕ) (small : id < 128) (passed : Passe
     sets : at p.setter v ≡ id
     sets = h.holding_sets id v small holds
 
-    pub without_tabled : {levels others reads : List ℕ} → Tabled (dropped p (at p.setter v)) levels others reads → {q : Panel} → q ≡ without
+    pub without_tabled : {levels others reads : List ℕ} → TabledWithout p (at p.setter v) levels others reads → {q : Panel} → q ≡ without
         → Tabled q levels others reads
-    unfolding dropped
+    unfolding replaced
     without_tabled {levels} {others} {reads} t same =
-        subst (λ (q : Panel). Tabled q levels others reads) (ap (dropped p) sets ∙ ap (freed (with_link p id no_link)) holds ∙ sym same) t
+        subst (λ (q : Panel). Tabled q levels others reads) (ap (dropped p) sets ∙ ap (freed (with_link p id no_link)) holds ∙ sym same) (t no_link (none_aside p.size))
 
     module _ (path : List ℕ) (number : ℕ) (t : Verdict) (settled : Settles p (at p.setter v) v path number t) where
-      own : Settles p id v path number t
-      own = rw sets at settled
+      own : SettlesBy false p id v path number t
+      own = rw sets at (settled false)
 
-      decides : (t : Verdict) → Settles p id v path number t → t ≢ Looped → Decides p id (removing id) path (step_of t p.size p.place no_link (Holding v) number)
+      decides : (t : Verdict) → SettlesBy false p id v path number t → t ≢ Looped → Decides p id (removing id) path (step_of t p.size p.place no_link (Holding v) number)
       decides Free d ne = d
       decides Looped d ne = absurd (ne refl)
       decides (Path count m) d ne = d
 
       pub drop_loops : t ≡ Looped → performed p (removing id) ≡ refused p Loop
-      drop_loops e = (subst (Settles p id v path number) e own).0
+      drop_loops e = (subst (SettlesBy false p id v path number) e own).0
 
       pub drop_path : t ≢ Looped → PathOf path (count_by t)
       drop_path ne = (decides t own ne).takes.path_of

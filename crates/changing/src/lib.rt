@@ -1,18 +1,19 @@
-// Changing a link: it is dropped and entered anew as one.
+// Changing a link: it is dropped and entered anew as one; a parked one is altered where it is.
 #![tactic(auto)]
 
-ghost use Rattle.std.specs.Prelude.{◌≡◌, ◌%◌, length};
+ghost use Rattle.std.specs.Prelude.{◌≡◌, ◌%◌, ◌<◌, length};
 ghost use Rattle.panel.specs.declared.Standing.TheVariants.{Waiting};
 ghost use Rattle.panel.specs.Items.{no_link, link_at};
+ghost use Rattle.panel.specs.Panels.{parked_link, with_link};
 ghost use Rattle.panel.specs.Legal.{Legal};
 ghost use Rattle.tables.specs.Tables.{Tabled};
 ghost use Rattle.reversal.specs.Reversals.{step_of};
 ghost use Rattle.changing.specs.Changed.{changed_fields, Changes};
 
 use adding::{check_link, check_verdict, waiting_link};
-use fieldbytes::read_fields;
+use fieldbytes::{Fields, read_fields};
 use fieldset::{wide, with};
-use panel::{Link, Panel, Refusal, Reply, STAY, Standing, Step, no_link};
+use panel::{Link, Panel, Refusal, Reply, STAY, Standing, Step, at_standing, no_link};
 use removing::settle;
 use reversal::{Verdict, resolve, step_of};
 use taking::reverse;
@@ -60,11 +61,22 @@ fn kept(p: Panel, reply: Reply) -> Changed
     }
 }
 
-// Changes a link; `old` is the link that stands under its number. It is removed and added anew on copies, and the panel and its tables become these
-// only where both are accepted. Where the removal makes a scan, `worked` becomes the number of strengths that were worked out for it.
-// Both halves stand here: a function for each would copy the panel more often.
-// The contract rules out, for instance, a removal that a refused add leaves and a count from after the removal (must-fail: removal_kept,
-// moved_from_after_the_removal).
+// The panel with a parked link altered, and a reply.
+fn altered(p: Panel, id: u8, level: u8, fields: Fields, reply: Reply) -> Changed
+    requires { id < 128 }
+    ensures { result ≡ record { panel = with_link p id (parked_link level fields.covered fields.outputs); reply = reply; changed = 0 } }
+{
+    let i = wide(id);
+    let mut q = p;
+    q.links[i] = at_standing(waiting_link(level, fields), Standing::Parked);
+    kept(q, reply)
+}
+
+// Changes a link; `old` is the link that stands under its number. A parked one is altered where it is. Any other is removed and added anew on copies,
+// and the panel and its tables become these only where both are accepted; where the removal makes a scan, `worked` becomes the number of strengths that
+// were worked out for it. Both halves stand here: a function for each would copy the panel more often.
+// The contract rules out, for instance, a removal that a refused add leaves, a count from after the removal, and a parked link that waits afterwards
+// (must-fail: removal_kept, moved_from_after_the_removal, parked_link_waits).
 pub fn change(
     p: Panel,
     old: Link,
@@ -85,6 +97,10 @@ pub fn change(
     if let Reply::Refused(_) = checks {
         return kept(p, checks);
     }
+    let s = old.standing;
+    if let Standing::Parked = s {
+        return altered(p, id, level, fields, checks);
+    }
     let mut fresh = *levels;
     let mut outs = *others;
     let mut reading = *reads;
@@ -94,7 +110,6 @@ pub fn change(
     let k = wide(id);
     let mut q = p;
     q.links[k] = no_link();
-    let s = old.standing;
     if let Standing::Holding(h) = s {
         let v = wide(h);
         let settled = settle(p, v, &mut fresh, &mut outs, &mut reading, &mut path, worked);

@@ -11,10 +11,10 @@ use borrow.Author.Tests.{eqb-false}
 use lib.Dec.{eqb}
 use Rattle.fieldset.specs.Lists.{All}
 use Rattle.panel.specs.declared.Standing.{Standing}
-use Rattle.panel.specs.declared.Standing.TheVariants.{Waiting, Holding}
+use Rattle.panel.specs.declared.Standing.TheVariants.{Waiting, Holding, Parked}
 use Rattle.panel.specs.Items.{link_at}
 use Rattle.panel.specs.Answers.{is_refusal}
-use Rattle.panel.specs.Commands.{opening, adding, removing, touching, planning, changing, change_checks, check_reply}
+use Rattle.panel.specs.Commands.{opening, adding, removing, touching, planning, changing, parking, unparking, change_checks, check_reply}
 use Rattle.removing.specs.Scans.{count_after, scan_count}
 use Rattle.changing.specs.Changed.{change_count}
 use Rattle.sheet.specs.declared.Sheet.{Sheet}
@@ -50,6 +50,7 @@ lines_size s (l ∷ ls) is_open =
 count_of_lem : (n : ℕ) (s : Standing) → (count_after 0 n s ≡ 0) ⊎ (count_after 0 n s ≡ n)
 count_of_lem n Waiting = inl refl
 count_of_lem n (Holding v) = inr refl
+count_of_lem n Parked = inl refl
 
 either : {m n : ℕ} (b : Bool) → (m ≡ 0) ⊎ (m ≡ n) → (cond b 0 m ≡ 0) ⊎ (cond b 0 m ≡ n)
 either true h = inl refl
@@ -64,6 +65,8 @@ line_scan_lem s l = go (command_of (frame_of l))
     go (some (solving (opening n))) = inl refl
     go (some (solving (adding id level bytes))) = inl refl
     go (some (solving (removing id))) = count_of_lem s.panel.size (link_at s.panel.links id).standing
+    go (some (solving (parking id))) = count_of_lem s.panel.size (link_at s.panel.links id).standing
+    go (some (solving (unparking id))) = inl refl
     go (some (solving (touching f))) = inl refl
     go (some (solving planning)) = inl refl
     go (some (solving (changing id level bytes))) =

@@ -36,7 +36,7 @@ use Rattle.sheet.specs.Sheets.{sheet_of, formula_at, with_formula}
 use Rattle.sheet.specs.Commands.{solving, formulas_after, formula_checks, performed}
 use Rattle.sheet.proofs.Legal.{reply_passes}
 use Rattle.frames.specs.declared.Command.{Command}
-use Rattle.frames.specs.declared.Command.TheVariants.{Open, Add, Remove, Touch, Plan, Change, Enter, Relate, Refused}
+use Rattle.frames.specs.declared.Command.TheVariants.{Open, Add, Drop, Touch, Plan, Change, Enter, Relate, Unpark, Refused}
 use Rattle.frames.specs.declared.Line.{Line}
 use Rattle.frames.specs.contracts.Command.{the_type}
 use Rattle.frames.specs.Texts.{Answered}
@@ -88,34 +88,38 @@ not_among tag (a ∷ b ∷ cs) e (inr h) = go (eqb tag a) e (not_among tag (b �
 pub given_kept : (c : Command) (tail : List ℕ) (covered : ℕ) (old : Formula) → sets_formula c ≡ false → old ≡ formula_given c tail covered old
 given_kept (Open n) tail covered old h = refl
 given_kept (Add id level) tail covered old h = refl
-given_kept (Remove id) tail covered old h = absurd (clash refl h)
+given_kept (Drop id true) tail covered old h = refl
+given_kept (Drop id false) tail covered old h = absurd (clash refl h)
 given_kept (Touch f) tail covered old h = refl
 given_kept Plan tail covered old h = refl
 given_kept (Change id level) tail covered old h = absurd (clash refl h)
 given_kept (Enter f b) tail covered old h = refl
 given_kept (Relate id form) tail covered old h = absurd (clash refl h)
+given_kept (Unpark id) tail covered old h = refl
 given_kept (Refused x) tail covered old h = refl
 
-pub sets_none : (c : Command) → OneOf (0 ∷ 1 ∷ 3 ∷ 4 ∷ 6 ∷ 8 ∷ []) (tag_of the_type c) → false ≡ sets_formula c
+pub sets_none : (c : Command) → OneOf (0 ∷ 1 ∷ 3 ∷ 4 ∷ 6 ∷ 8 ∷ 9 ∷ []) (tag_of the_type c) → false ≡ sets_formula c
 sets_none (Open n) h = refl
 sets_none (Add id level) h = refl
-sets_none (Remove id) h = absurd (not_among 2 (0 ∷ 1 ∷ 3 ∷ 4 ∷ 6 ∷ 8 ∷ []) refl h)
+sets_none (Drop id park) h = absurd (not_among 2 (0 ∷ 1 ∷ 3 ∷ 4 ∷ 6 ∷ 8 ∷ 9 ∷ []) refl h)
 sets_none (Touch f) h = refl
 sets_none Plan h = refl
-sets_none (Change id level) h = absurd (not_among 5 (0 ∷ 1 ∷ 3 ∷ 4 ∷ 6 ∷ 8 ∷ []) refl h)
+sets_none (Change id level) h = absurd (not_among 5 (0 ∷ 1 ∷ 3 ∷ 4 ∷ 6 ∷ 8 ∷ 9 ∷ []) refl h)
 sets_none (Enter f b) h = refl
-sets_none (Relate id form) h = absurd (not_among 7 (0 ∷ 1 ∷ 3 ∷ 4 ∷ 6 ∷ 8 ∷ []) refl h)
+sets_none (Relate id form) h = absurd (not_among 7 (0 ∷ 1 ∷ 3 ∷ 4 ∷ 6 ∷ 8 ∷ 9 ∷ []) refl h)
+sets_none (Unpark id) h = refl
 sets_none (Refused x) h = refl
 
-pub touches_none : (c : Command) → OneOf (0 ∷ 1 ∷ 2 ∷ 4 ∷ 5 ∷ 7 ∷ 8 ∷ []) (tag_of the_type c) → 0 ≡ touched_field c
+pub touches_none : (c : Command) → OneOf (0 ∷ 1 ∷ 2 ∷ 4 ∷ 5 ∷ 7 ∷ 8 ∷ 9 ∷ []) (tag_of the_type c) → 0 ≡ touched_field c
 touches_none (Open n) h = refl
 touches_none (Add id level) h = refl
-touches_none (Remove id) h = refl
-touches_none (Touch f) h = absurd (not_among 3 (0 ∷ 1 ∷ 2 ∷ 4 ∷ 5 ∷ 7 ∷ 8 ∷ []) refl h)
+touches_none (Drop id park) h = refl
+touches_none (Touch f) h = absurd (not_among 3 (0 ∷ 1 ∷ 2 ∷ 4 ∷ 5 ∷ 7 ∷ 8 ∷ 9 ∷ []) refl h)
 touches_none Plan h = refl
 touches_none (Change id level) h = refl
-touches_none (Enter f b) h = absurd (not_among 6 (0 ∷ 1 ∷ 2 ∷ 4 ∷ 5 ∷ 7 ∷ 8 ∷ []) refl h)
+touches_none (Enter f b) h = absurd (not_among 6 (0 ∷ 1 ∷ 2 ∷ 4 ∷ 5 ∷ 7 ∷ 8 ∷ 9 ∷ []) refl h)
 touches_none (Relate id form) h = refl
+touches_none (Unpark id) h = refl
 touches_none (Refused x) h = refl
 
 -- the formulas after a command: a refusal leaves them
@@ -241,14 +245,15 @@ pub touched_step : (p : Panel) (k : ℕ) (named : Link) (tail path rows : List �
     → length rows ≡ rows_length → Decides p k (touching (touched_field c)) path s → DecidedLine p k named tail path rows s c
 touched_step p k named tail path rows s (Open n) h full d = absurd (not_among 0 (3 ∷ 6 ∷ []) refl h)
 touched_step p k named tail path rows s (Add id level) h full d = absurd (not_among 1 (3 ∷ 6 ∷ []) refl h)
-touched_step p k named tail path rows s (Remove id) h full d = absurd (not_among 2 (3 ∷ 6 ∷ []) refl h)
+touched_step p k named tail path rows s (Drop id park) h full d = absurd (not_among 2 (3 ∷ 6 ∷ []) refl h)
 touched_step p k named tail path rows s (Touch f) h full d =
     λ formulas values. solved_step (sheet_of p formulas values) k tail path rows full (Touch f) (touching f) s refl (λ r. refl) (λ a. formula_kept formulas k) d
 touched_step p k named tail path rows s Plan h full d = absurd (not_among 4 (3 ∷ 6 ∷ []) refl h)
 touched_step p k named tail path rows s (Change id level) h full d = absurd (not_among 5 (3 ∷ 6 ∷ []) refl h)
 touched_step p k named tail path rows s (Enter f b) h full d = record { decides = d; rows_full = full }
 touched_step p k named tail path rows s (Relate id form) h full d = absurd (not_among 7 (3 ∷ 6 ∷ []) refl h)
-touched_step p k named tail path rows s (Refused x) h full d = absurd (not_among 8 (3 ∷ 6 ∷ []) refl h)
+touched_step p k named tail path rows s (Unpark id) h full d = absurd (not_among 8 (3 ∷ 6 ∷ []) refl h)
+touched_step p k named tail path rows s (Refused x) h full d = absurd (not_among 9 (3 ∷ 6 ∷ []) refl h)
 
 pub entered_touch : (p : Panel) (named : Link) (tail path rows : List ℕ) (s : Step) (c : Command) (f b : ℕ) → c ≡ Enter f b
     → DecidedLine p (number_of c) named tail path rows s c → TouchStep p 0 f path rows s
@@ -256,14 +261,15 @@ entered_touch p named tail path rows s c f b e d = subst (λ (x : Command). Deci
 
 -- no change is asked
 pub unasked : (p : Panel) (tail levels others reads : List ℕ) (before worked : ℕ) (r : Changed) (c : Command)
-    → OneOf (0 ∷ 1 ∷ 2 ∷ 3 ∷ 4 ∷ 6 ∷ 7 ∷ 8 ∷ []) (tag_of the_type c) → Unasked p levels others reads before worked r
+    → OneOf (0 ∷ 1 ∷ 2 ∷ 3 ∷ 4 ∷ 6 ∷ 7 ∷ 8 ∷ 9 ∷ []) (tag_of the_type c) → Unasked p levels others reads before worked r
     → ChangedLine p tail levels others reads before worked r c
 unasked p tail levels others reads before worked r (Open n) h u = u
 unasked p tail levels others reads before worked r (Add id level) h u = u
-unasked p tail levels others reads before worked r (Remove id) h u = u
+unasked p tail levels others reads before worked r (Drop id park) h u = u
 unasked p tail levels others reads before worked r (Touch f) h u = u
 unasked p tail levels others reads before worked r Plan h u = u
-unasked p tail levels others reads before worked r (Change id level) h u = absurd (not_among 5 (0 ∷ 1 ∷ 2 ∷ 3 ∷ 4 ∷ 6 ∷ 7 ∷ 8 ∷ []) refl h)
+unasked p tail levels others reads before worked r (Change id level) h u = absurd (not_among 5 (0 ∷ 1 ∷ 2 ∷ 3 ∷ 4 ∷ 6 ∷ 7 ∷ 8 ∷ 9 ∷ []) refl h)
 unasked p tail levels others reads before worked r (Enter f b) h u = u
 unasked p tail levels others reads before worked r (Relate id form) h u = u
+unasked p tail levels others reads before worked r (Unpark id) h u = u
 unasked p tail levels others reads before worked r (Refused x) h u = u

@@ -1,5 +1,5 @@
 -- The step of one line.
-use Rattle.std.specs.Prelude.{ℕ, ◌≤◌, ◌≡◌, Bool, true, false, cond, List, ◌∷◌, ◌⊎◌, eqb, ℤ, length}
+use Rattle.std.specs.Prelude.{ℕ, ◌≤◌, ◌≡◌, Bool, true, false, not, cond, List, ◌∷◌, ◌⊎◌, eqb, ℤ, length}
 use Rattle.panel.specs.declared.Link.{Link}
 use Rattle.panel.specs.declared.Panel.{Panel}
 use Rattle.panel.specs.declared.Reply.{Reply}
@@ -19,7 +19,7 @@ use Rattle.sheet.specs.declared.Sheet.{Sheet}
 use Rattle.sheet.specs.Sheets.{sheet_of, formula_at, with_formula}
 use Rattle.hexadecimal.specs.Hex.{frame_room}
 use Rattle.frames.specs.declared.Command.{Command}
-use Rattle.frames.specs.declared.Command.TheVariants.{Open, Add, Remove, Touch, Plan, Change, Enter, Relate, Refused}
+use Rattle.frames.specs.declared.Command.TheVariants.{Open, Add, Drop, Touch, Plan, Change, Enter, Relate, Unpark, Refused}
 use Rattle.frames.specs.declared.Line.{Line}
 use Rattle.frames.specs.Frames.{formula_in, command_answer}
 use Rattle.replies.specs.Replies.{rest_of, whole_reply}
@@ -37,12 +37,13 @@ pub record Framed (line : Line) : Type 0 where
 abbrev pub formula_given : Command → List ℕ → ℕ → Formula → Formula
 formula_given (Open n) tail covered old = old
 formula_given (Add id level) tail covered old = old
-formula_given (Remove id) tail covered old = None
+formula_given (Drop id park) tail covered old = cond park old None
 formula_given (Touch f) tail covered old = old
 formula_given Plan tail covered old = old
 formula_given (Change id level) tail covered old = cond (eqb covered (covered_in tail)) old None
 formula_given (Enter f b) tail covered old = old
 formula_given (Relate id form) tail covered old = formula_in (form ∷ tail)
+formula_given (Unpark id) tail covered old = old
 formula_given (Refused r) tail covered old = old
 
 -- the formula of that link afterwards
@@ -53,24 +54,26 @@ formula_after c tail reply covered old = cond (is_refusal (reply_bytes reply)) o
 abbrev pub sets_formula : Command → Bool
 sets_formula (Open n) = false
 sets_formula (Add id level) = false
-sets_formula (Remove id) = true
+sets_formula (Drop id park) = not park
 sets_formula (Touch f) = false
 sets_formula Plan = false
 sets_formula (Change id level) = true
 sets_formula (Enter f b) = false
 sets_formula (Relate id form) = true
+sets_formula (Unpark id) = false
 sets_formula (Refused r) = false
 
 -- the field that a command touches; 0 where it touches none
 abbrev pub touched_field : Command → ℕ
 touched_field (Open n) = 0
 touched_field (Add id level) = 0
-touched_field (Remove id) = 0
+touched_field (Drop id park) = 0
 touched_field (Touch f) = f
 touched_field Plan = 0
 touched_field (Change id level) = 0
 touched_field (Enter f b) = f
 touched_field (Relate id form) = 0
+touched_field (Unpark id) = 0
 touched_field (Refused r) = 0
 
 -- ---- the step
@@ -107,10 +110,12 @@ pub record KeptStep (p : Panel) (named : Link) (path rows : List ℕ) (step : St
   pub path_full : length path ≡ 64
   pub rows_full : length rows ≡ rows_length
 
--- the step of a line but for a removal and a change, for which it leaves the panel as it is; for a value that is entered, the step of its touch
+-- the step of a line but for a link that is dropped, brought back or changed, for which it leaves the panel as it is; for a value that is entered, the
+-- step of its touch
 abbrev pub DecidedLine : Panel → ℕ → Link → List ℕ → List ℕ → List ℕ → Step → Command → Type 0
-DecidedLine p k named tail path rows s (Remove id) = KeptStep p named path rows s
+DecidedLine p k named tail path rows s (Drop id park) = KeptStep p named path rows s
 DecidedLine p k named tail path rows s (Change id level) = KeptStep p named path rows s
+DecidedLine p k named tail path rows s (Unpark id) = KeptStep p named path rows s
 DecidedLine p k named tail path rows s (Enter f b) = TouchStep p k f path rows s
 DecidedLine p k named tail path rows s (Open n) = PanelStep p k (Open n) tail path rows s
 DecidedLine p k named tail path rows s (Add id level) = PanelStep p k (Add id level) tail path rows s
@@ -130,9 +135,10 @@ abbrev pub ChangedLine : Panel → List ℕ → List ℕ → List ℕ → List �
 ChangedLine p tail levels others reads before worked r (Change id level) = Changes p id level tail levels others reads before worked r
 ChangedLine p tail levels others reads before worked r (Open n) = Unasked p levels others reads before worked r
 ChangedLine p tail levels others reads before worked r (Add id level) = Unasked p levels others reads before worked r
-ChangedLine p tail levels others reads before worked r (Remove id) = Unasked p levels others reads before worked r
+ChangedLine p tail levels others reads before worked r (Drop id park) = Unasked p levels others reads before worked r
 ChangedLine p tail levels others reads before worked r (Touch f) = Unasked p levels others reads before worked r
 ChangedLine p tail levels others reads before worked r Plan = Unasked p levels others reads before worked r
 ChangedLine p tail levels others reads before worked r (Enter f b) = Unasked p levels others reads before worked r
 ChangedLine p tail levels others reads before worked r (Relate id form) = Unasked p levels others reads before worked r
+ChangedLine p tail levels others reads before worked r (Unpark id) = Unasked p levels others reads before worked r
 ChangedLine p tail levels others reads before worked r (Refused x) = Unasked p levels others reads before worked r

@@ -33,7 +33,7 @@ pub fn sets_formula(command: Command) -> bool
     ensures { result ≡ sets_formula command }
 {
     match command {
-        Command::Remove(_) => true,
+        Command::Drop(_, park) => !park,
         Command::Change(_, _) => true,
         Command::Relate(_, _) => true,
         _ => false,
@@ -61,9 +61,15 @@ pub fn rule_after(line: Line, reply: Reply, covered: u64, old: Rule) -> Rule
     match reply {
         Reply::Refused(_) => old,
         Reply::Accepted(_) => match command {
-            Command::Remove(_) => Rule {
-                formula: Formula::None,
-            },
+            Command::Drop(_, park) => {
+                if park {
+                    old
+                } else {
+                    Rule {
+                        formula: Formula::None,
+                    }
+                }
+            }
             Command::Change(_, _) => {
                 if covered == covered_by(line) {
                     old
@@ -93,8 +99,8 @@ fn touched(command: Command) -> u8
     }
 }
 
-// The step of a line by its command, but for a removal and a change, for which it leaves the panel as it is; for a value that is entered, the step of
-// its touch. `named` is the link of the number that the command names.
+// The step of a line by its command, but for a link that is dropped, brought back or changed, for which it leaves the panel as it is; for a value that
+// is entered, the step of its touch. `named` is the link of the number that the command names.
 pub fn decide_line(
     p: Panel,
     named: Link,
@@ -128,7 +134,7 @@ pub fn decide_line(
                 path,
             )
         }
-        Command::Remove(_) => keep(p, named, Reply::Accepted(0)),
+        Command::Drop(_, _) => keep(p, named, Reply::Accepted(0)),
         Command::Change(_, _) => keep(p, named, Reply::Accepted(0)),
         Command::Plan => {
             let reply = planning::plan(p, levels, others, reads, rows);
@@ -138,6 +144,7 @@ pub fn decide_line(
             let reply = relate(p, named, id, formula_of(line, form));
             keep(p, named, reply)
         }
+        Command::Unpark(_) => keep(p, named, Reply::Accepted(0)),
         Command::Refused(r) => keep(p, named, Reply::Refused(r)),
         // a touch, or a value that is entered: one call, so that the compiler inlines it
         _ => touching::touch(p, named, levels, others, reads, touched(command), path),

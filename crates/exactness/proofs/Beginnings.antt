@@ -1,5 +1,5 @@
--- Where runs begin, all is sound: the lines of a formed sheet's text enter its links, its stays and its formulas, by induction over the lines of each
--- number (`folded_gather`); of what reading took in the sheet is legal and nothing is blocked (`took`). Assumes nothing.
+-- Where runs begin, all is sound: the lines of a formed sheet's text, in any version, enter its links, its stays and its formulas, by induction over the
+-- lines of each number (`folded_gather`), a parked link aside; of what reading took in the sheet is legal and nothing is blocked (`took`). Assumes nothing.
 use Prim.Native.Nat.{ℕ, suc, ◌≤◌, ◌<◌, zero-le}
 use mathlib.Core.Path.{◌≡◌, refl, sym, ap, ap₂, subst, ◌∙◌}
 use mathlib.Core.Bool.{Bool, true, false, cond}
@@ -16,13 +16,15 @@ use Rattle.fieldset.specs.Lists.{In, All, place}
 use Rattle.fieldset.proofs.Tables.{length_tabulate, get_d_tabulate}
 use Rattle.fieldset.proofs.Numbers.{ltb_suc, Lowest, lowest_is}
 use Rattle.fieldset.proofs.Lists.{in_all, all_map, place_at, place_found, pigeonhole, tabulate_distinct, tabulate_below}
+use Rattle.panel.specs.declared.Standing.{Standing}
+use Rattle.panel.specs.declared.Standing.TheVariants.{Waiting, Holding, Parked}
 use Rattle.panel.specs.declared.Link.{Link}
 use Rattle.panel.specs.declared.Panel.{Panel}
-use Rattle.panel.specs.Items.{Item, link_at, no_link}
+use Rattle.panel.specs.Items.{Item, link_at, no_link, is_parked}
 use Rattle.panel.specs.Panels.{opened}
 use Rattle.panel.specs.Solution.{is_blocked, least_blocked}
 use Rattle.panel.specs.Legal.{Legal}
-use Rattle.panel.proofs.InForce.{used_force, unused_off}
+use Rattle.panel.proofs.InForce.{used_force, unused_off, parked_off}
 use Rattle.panel.proofs.Changes.{legal_opened}
 use Rattle.panel.proofs.Least.{LeastBlocked, least_blocked_lem}
 use Rattle.values.specs.Limits.{value_at}
@@ -35,20 +37,22 @@ use Rattle.sheet.specs.Sheets.{unopened, formula_at}
 use Rattle.sheet.specs.Legal.{LegalSheet}
 use Rattle.sheet.proofs.Legal.{blank_none, legal_blank}
 use Rattle.optimality.specs.Condition3 as store
-use Rattle.optimality.specs.Condition3.{Entry, Store, empty}
-use Rattle.optimality.specs.Agreement.{entry_for, entry_of, Agrees, Sound}
+use Rattle.optimality.specs.Condition3.{Entry, Store, empty, new_entry}
+use Rattle.optimality.specs.Agreement.{entry_for, entry_of, aside_of, Agrees, Sound}
+use Rattle.optimality.proofs.Agreement.{force_entry, off_entry, parked_beside, unused_beside, other_beside}
 use Rattle.optimality.proofs.Runs.{after_sound}
-use Rattle.images.specs.Images.{gather, field_at, stay_order, link_frame, link_piece, formula_frames, formula_piece, four_bytes, value_piece, frames_of, image_of}
+use Rattle.images.specs.Images.{gather, field_at, stay_order, field_bytes, standing_byte, link_frame, link_piece, formula_frames, formula_piece, four_bytes, value_piece, frames_of, image_of}
 use Rattle.lines.specs.Lines.{lines_of}
 use Rattle.images.specs.Entries.{folded, line_bytes, candidate}
-use Rattle.images.specs.Reading.{version, Good}
+use Rattle.images.specs.Reading.{version as newest, version_of, Good}
 use Rattle.images.proofs.Lines.{frames_written, formula_back}
 use Rattle.images.proofs.Folds.{folded_append, folded_gather}
 use Rattle.images.proofs.FieldBytes.{covered_back, outputs_back}
 use Rattle.images.proofs.Facts.{Facts, formed_facts}
 use Rattle.images.proofs.Rounds.{frames_bytes}
+use Rattle.images.proofs.Versions.{version_byte}
 use Rattle.images.proofs.Reading.{took}
-use Rattle.exactness.specs.Beginnings.{line_store, store_of, line_gives, formulas_of, Beginning, from_unopened, from_text, start_of, given_of}
+use Rattle.exactness.specs.Beginnings.{link_store, line_store, store_of, line_gives, formulas_of, Beginning, from_unopened, from_text, start_of, given_of}
 
 -- ---- a table that is entered number by number
 
@@ -95,6 +99,9 @@ module _ (s : Sheet) (F : Facts s) where
   abbrev entries : ℕ → Option Entry
   entries k = entry_of (link_at p.links k)
 
+  abbrev asides : ℕ → Option Entry
+  asides k = aside_of (link_at p.links k)
+
   abbrev formulas : ℕ → Formula
   formulas k = formula_at s.formulas k
 
@@ -102,26 +109,54 @@ module _ (s : Sheet) (F : Facts s) where
   record Stored (i : ℕ) (b : Store) : Type 0 where
     stays : b.stays ≡ order
     links : UpTo none entries i b.links
+    aside : UpTo none asides i b.aside
 
   unused_entry : (l : Link) → l.used ≡ false → entry_of l ≡ none
-  unused_entry l u = rw (unused_off l u) refl
+  unused_entry l u = off_entry l (unused_off l u)
 
   link_stored : (i : ℕ) → i < 128 → (b : Store) → Stored i b → Stored (suc i) (folded line_store b (link_piece p.links i))
   link_stored i l b x = go (link_at p.links i).used refl
     where
-      go : (u : Bool) → (link_at p.links i).used ≡ u → Stored (suc i) (folded line_store b (cond u (link_frame i (link_at p.links i) ∷ []) []))
-      go true u =
+      k : Link
+      k = link_at p.links i
+
+      -- the entry that its line has
+      written : Entry
+      written = new_entry k.level (field_bytes k.covered k.outputs)
+
+      back : k.used ≡ true → some written ≡ some (entry_for k)
+      back u =
           let f = F.formed i l u in
-          let same : entry_of (link_at p.links i) ≡ some (entry_for (link_at p.links i)) = rw (used_force (link_at p.links i) u) refl in
+          ap₂ (λ (c o : ℕ). some (record { level = k.level; covered = c; outputs = o })) (covered_back k.covered k.outputs f.small)
+          (outputs_back k.covered k.outputs f.outputs_small f.subset)
+
+      stands : (byte : ℕ) → eqb byte 0xFE ≡ false → k.used ≡ true → is_parked k.standing ≡ false → Stored (suc i) (link_store b i byte written)
+      stands byte other u free =
+          rw other
+          (record {
+            stays = x.stays;
+            links = up_more none entries b.links i _ (back u ∙ sym (force_entry k (used_force k u free))) x.links;
+            aside = up_keep none asides b.aside i (other_beside k free) x.aside;
+          })
+
+      by : (s : Standing) → k.standing ≡ s → k.used ≡ true → Stored (suc i) (link_store b i (standing_byte s) written)
+      by Waiting e u = stands 0xFF refl u (ap is_parked e)
+      by (Holding f) e u = stands f (ne_eqb f 0xFE (λ q. omega (arith, (F.holding i f l e).field))) u (ap is_parked e)
+      by Parked e u =
           record {
             stays = x.stays;
-            links = up_more none entries b.links i _
-                (ap₂ (λ (c o : ℕ). some (record { level = (link_at p.links i).level; covered = c; outputs = o }))
-                (covered_back (link_at p.links i).covered (link_at p.links i).outputs f.small)
-                (outputs_back (link_at p.links i).covered (link_at p.links i).outputs f.outputs_small f.subset)
-                ∙ sym same) x.links;
+            links = up_keep none entries b.links i (off_entry k (parked_off k e)) x.links;
+            aside = up_more none asides b.aside i _ (back u ∙ sym (parked_beside k u e)) x.aside;
           }
-      go false u = record { stays = x.stays; links = up_keep none entries b.links i (unused_entry (link_at p.links i) u) x.links }
+
+      go : (u : Bool) → k.used ≡ u → Stored (suc i) (folded line_store b (cond u (link_frame i k ∷ []) []))
+      go true u = by k.standing refl u
+      go false u =
+          record {
+            stays = x.stays;
+            links = up_keep none entries b.links i (unused_entry k u) x.links;
+            aside = up_keep none asides b.aside i (unused_beside k u) x.aside;
+          }
 
   -- the other lines enter nothing
   formula_stored : (P : Store → Type 0) (i : ℕ) (b : Store) → P b → P (folded line_store b (formula_piece s.formulas i))
@@ -139,9 +174,9 @@ module _ (s : Sheet) (F : Facts s) where
       go true = h
       go false = h
 
-  frames_stored : Stored 128 (folded line_store empty (frames_of version s))
+  frames_stored : (version : ℕ) → Stored 128 (folded line_store empty (frames_of version s))
   unfolding frames_of
-  frames_stored =
+  frames_stored version =
       let L = gather (link_piece p.links) 128 in
       let R = gather (formula_piece s.formulas) 128 in
       let Q = gather (value_piece s.values) p.size in
@@ -149,7 +184,8 @@ module _ (s : Sheet) (F : Facts s) where
       rw (folded_append line_store b L (R ++ Q), folded_append line_store (folded line_store b L) R Q)
       (folded_gather line_store (λ i. Stored 128) (value_piece s.values) p.size (λ i l. value_stored (Stored 128) i) _
       (folded_gather line_store (λ i. Stored 128) (formula_piece s.formulas) 128 (λ i l. formula_stored (Stored 128) i) _
-      (folded_gather line_store Stored (link_piece p.links) 128 link_stored b (record { stays = refl; links = up_none none entries }))))
+      (folded_gather line_store Stored (link_piece p.links) 128 link_stored b
+      (record { stays = refl; links = up_none none entries; aside = up_none none asides }))))
 
   -- ---- the formulas
 
@@ -175,9 +211,9 @@ module _ (s : Sheet) (F : Facts s) where
       go true = h
       go false = h
 
-  frames_give : UpTo None formulas 128 (folded line_gives (λ i. None) (frames_of version s))
+  frames_give : (version : ℕ) → UpTo None formulas 128 (folded line_gives (λ i. None) (frames_of version s))
   unfolding frames_of
-  frames_give =
+  frames_give version =
       let L = gather (link_piece p.links) 128 in
       let R = gather (formula_piece s.formulas) 128 in
       let Q = gather (value_piece s.values) p.size in
@@ -234,35 +270,36 @@ module _ (s : Sheet) (F : Facts s) where
 
   stored_agrees : (b : Store) → Stored 128 b → Agrees b p
   stored_agrees b x = record {
-    links = up_all none entries b.links 128 past x.links;
+    links = up_all none entries b.links 128 (λ k h. (past k h).0) x.links;
+    aside = up_all none asides b.aside 128 (λ k h. (past k h).1) x.aside;
     stays = λ f l. rw x.stays (order_in f l);
     below = rw x.stays order_below;
     places = λ f l. rw x.stays (order_places f l);
   }
     where
-      past : (k : ℕ) → 128 ≤ k → entries k ≡ none
-      past k h = rw (get_or-eq_default p.links no_link {n = k} (omega (arith, F.links_long))) (unused_entry no_link refl)
+      past : (k : ℕ) → 128 ≤ k → (entries k ≡ none) × (asides k ≡ none)
+      past k h = rw (get_or-eq_default p.links no_link {n = k} (omega (arith, F.links_long))) (unused_entry no_link refl, unused_beside no_link refl)
 
   formulas_past : (k : ℕ) → 128 ≤ k → formulas k ≡ None
   formulas_past k h = ap (λ (r : Rule). r.formula) (get_or-eq_default s.formulas.of (record { formula = None }) {n = k} (omega (arith, F.rules_long)))
 
 -- ---- the lines of a text are those of the formed sheet that has it
 
-module _ (text : List ℕ) (s : Sheet) (G : Good text s) where
+module _ (version : ℕ) (byte : version < 256) (text : List ℕ) (s : Sheet) (G : Good version text s) where
   lines_are : map line_bytes (lines_of text) ≡ frames_of version s
   unfolding image_of
   lines_are =
       ap (λ (x : List ℕ). map line_bytes (lines_of x)) (sym G.is_text)
-      ∙ frames_written (frames_of version s) (frames_bytes s (formed_facts s G.formed) version (omega arith))
+      ∙ frames_written (frames_of version s) (frames_bytes s (formed_facts s G.formed) version byte)
 
   pub text_agrees : Agrees (store_of text) s.panel
   unfolding store_of
-  text_agrees = stored_agrees s (formed_facts s G.formed) _ (rw lines_are (frames_stored s (formed_facts s G.formed)))
+  text_agrees = stored_agrees s (formed_facts s G.formed) _ (rw lines_are (frames_stored s (formed_facts s G.formed) version))
 
   pub text_formulas : (k : ℕ) → formula_at s.formulas k ≡ formulas_of text k
   unfolding formulas_of
   text_formulas k =
-      sym (up_all None (formulas s (formed_facts s G.formed)) (formulas_of text) 128 (formulas_past s (formed_facts s G.formed)) (rw lines_are (frames_give s (formed_facts s G.formed))) k)
+      sym (up_all None (formulas s (formed_facts s G.formed)) (formulas_of text) 128 (formulas_past s (formed_facts s G.formed)) (rw lines_are (frames_give s (formed_facts s G.formed) version)) k)
 
 -- ---- beginnings
 
@@ -282,10 +319,12 @@ begun_sound (from_text text taken) =
     rw t.sheet
     (record {
       legal = t.legal.panel;
-      agrees = text_agrees text (candidate text) t.good;
+      agrees = text_agrees (version_of text) (version_byte newest (version_of text) (omega arith) t.known) text (candidate text) t.good;
       unblocked = none_blocked (candidate text).panel t.legal.panel t.unblocked;
     })
 
 pub begun_given : (x : Beginning) (k : ℕ) → formula_at (start_of x).state.formulas k ≡ given_of x k
 begun_given from_unopened k = blank_none (opened 0) k
-begun_given (from_text text taken) k = let t = took unopened text taken in rw t.sheet (text_formulas text (candidate text) t.good k)
+begun_given (from_text text taken) k =
+    let t = took unopened text taken in
+    rw t.sheet (text_formulas (version_of text) (version_byte newest (version_of text) (omega arith) t.known) text (candidate text) t.good k)

@@ -1,8 +1,8 @@
 -- Kind 06 by kinds 03 and 02. The reply and the panel by the cases of a change (`change_cases`): a check applies (`checked_refusal`), the removal is
 -- refused, or the change is answered as the add to what the removal leaves; the refusals behind the checks by the steps (`removal_loop`,
--- `add_conflict_or_loop`). The formulas by cases on the covered fields.
+-- `add_conflict_or_loop`). A parked link is altered (`change_parked`). The formulas by cases on the covered fields.
 use Prim.Native.Nat.{ℕ, ◌^◌, ◌<◌}
-use mathlib.Core.Path.{◌≡◌, refl, ap, ◌∙◌}
+use mathlib.Core.Path.{◌≡◌, refl, sym, ap, ◌∙◌}
 use mathlib.Core.Bool.{Bool, true, false, cond}
 use mathlib.Core.List.{List, [], ◌∷◌}
 use mathlib.Core.Logic.{◌≢◌, ◌⊎◌, inl, inr, ⊎_elim}
@@ -13,19 +13,22 @@ use lib.Seq.{get_or-set_same, get_or-set_other}
 use Rattle.fieldset.specs.Fields.{member}
 use Rattle.fieldset.proofs.Numbers.{clash}
 use Rattle.fieldset.proofs.Fields.{ext_member}
+use Rattle.panel.specs.declared.Standing.{Standing}
+use Rattle.panel.specs.declared.Standing.TheVariants.{Waiting, Holding, Parked}
 use Rattle.panel.specs.declared.Panel.{Panel}
-use Rattle.panel.specs.Items.{link_at}
+use Rattle.panel.specs.Items.{link_at, is_parked}
 use Rattle.panel.specs.Answers as answers
 use Rattle.panel.specs.Answers.{is_refusal}
+use Rattle.panel.specs.Panels.{with_link}
 use Rattle.panel.specs.Moved.{moved}
 use Rattle.panel.specs.Steps.{change_step}
 use Rattle.panel.specs.Commands as panel
 use Rattle.panel.specs.Commands.{changing, Passes, change_checks, check_reply, covered_in, outputs_in}
 use Rattle.panel.specs.Legal.{Legal}
-use Rattle.panel.proofs.Checks.{checked_refusal, removable, changeable, change_removes, change_adds, fields_lt}
+use Rattle.panel.proofs.Checks.{parked_new, checked_refusal, passes_reply, removable, changeable, change_removes, change_adds, fields_lt}
 use Rattle.panel.proofs.Performed.{changed_passes, without_unused}
 use Rattle.panel.proofs.Changing as panels
-use Rattle.panel.proofs.Changing.{Cases, change_cases}
+use Rattle.panel.proofs.Changing.{Cases, change_parked, change_cases}
 use Rattle.formulas.specs.declared.Formula.TheVariants.{None}
 use Rattle.formulas.specs.declared.Rule.{Rule}
 use Rattle.sheet.specs.declared.Sheet.{Sheet}
@@ -34,7 +37,7 @@ use Rattle.sheet.specs.Commands.{solving, performed}
 use Rattle.sheet.specs.Legal.{LegalSheet}
 use Rattle.sheet.proofs.Legal.{reply_passes}
 use Rattle.optimality.proofs.Answers.{removal_loop, add_conflict_or_loop}
-use Rattle.exactness.specs.Changes.{ChangeExactly, ChangesExactly}
+use Rattle.exactness.specs.Changes.{AlteredExactly, ChangeExactly, ChangesExactly}
 use Rattle.exactness.proofs.Values.{refused_sheet_unchanged}
 use Rattle.exactness.proofs.Lists.{legal_after}
 
@@ -51,29 +54,43 @@ module _ (p : Panel) (h : Legal p) (id level : ℕ) (bytes : List ℕ) where
   abbrev checks : List ℕ
   checks = check_reply (change_checks p id level bytes)
 
+  -- a check applies
+  refuses : is_refusal checks ≡ true → change ≡ record { panel = p; reply = checks }
+  refuses = checked_refusal p (change_checks p id level bytes) (change_step p id level (covered_in bytes) (outputs_in bytes))
+
   -- the reply, and the panel where it is no refusal
   abbrev Said : Bool → Bool → Bool → Type 0
   Said c r a =
       (change.reply ≡ cond c checks (cond r removal.reply (cond a addition.reply (0x00 ∷ moved p addition.panel ∷ []))))
       × (is_refusal change.reply ≡ false → change.panel ≡ addition.panel)
 
-  passed_said : Passes (change_checks p id level bytes) → Said false (is_refusal removal.reply) (is_refusal addition.reply)
-  passed_said n = go (change_cases p id level bytes h n)
+  passed_said : Passes (change_checks p id level bytes) → is_parked (link_at p.links id).standing ≡ false
+      → Said false (is_refusal removal.reply) (is_refusal addition.reply)
+  passed_said n other = go (change_cases p id level bytes h n other)
     where
       go : Cases p id level bytes → Said false (is_refusal removal.reply) (is_refusal addition.reply)
       go (inl (r, same, is)) = rw r (ap (λ (a : answers.Answer). a.reply) is, λ e. absurd (clash (ap (λ (a : answers.Answer). is_refusal a.reply) is ∙ r) e))
       go (inr (r, w, inl (x, ec, ea))) = rw (r, ea) (ap (λ (a : answers.Answer). a.reply) ec, λ e. absurd (clash (ap (λ (a : answers.Answer). is_refusal a.reply) ec) e))
       go (inr (r, w, inr (t, ec, ea))) = rw (r, ea) (ap (λ (a : answers.Answer). a.reply) ec, λ e. ap (λ (a : answers.Answer). a.panel) ec)
 
-  said : Said (is_refusal checks) (is_refusal removal.reply) (is_refusal addition.reply)
-  said = go (is_refusal checks) refl
+  said : is_parked (link_at p.links id).standing ≡ false → Said (is_refusal checks) (is_refusal removal.reply) (is_refusal addition.reply)
+  said other = go (is_refusal checks) refl
     where
-      refuses : is_refusal checks ≡ true → change ≡ record { panel = p; reply = checks }
-      refuses = checked_refusal p (change_checks p id level bytes) (change_step p id level (covered_in bytes) (outputs_in bytes))
-
       go : (c : Bool) → is_refusal checks ≡ c → Said c (is_refusal removal.reply) (is_refusal addition.reply)
       go true e = (ap (λ (a : answers.Answer). a.reply) (refuses e), λ n. absurd (clash (ap (λ (a : answers.Answer). is_refusal a.reply) (refuses e) ∙ e) n))
-      go false e = passed_said (reply_passes (change_checks p id level bytes) e)
+      go false e = passed_said (reply_passes (change_checks p id level bytes) e) other
+
+  -- a parked link
+  parked_said : (link_at p.links id).standing ≡ Parked
+      → (change.reply ≡ checks) × (is_refusal checks ≡ false → change.panel ≡ with_link p id (parked_new level bytes))
+  parked_said parked = go (is_refusal checks) refl
+    where
+      go : (c : Bool) → is_refusal checks ≡ c → (change.reply ≡ checks) × (is_refusal checks ≡ false → change.panel ≡ with_link p id (parked_new level bytes))
+      go true e = (ap (λ (a : answers.Answer). a.reply) (refuses e), λ n. absurd (clash e n))
+      go false e =
+          let passed = reply_passes (change_checks p id level bytes) e in
+          let is = change_parked p id level bytes passed parked in
+          (ap (λ (a : answers.Answer). a.reply) is ∙ sym (passes_reply (change_checks p id level bytes) passed), λ n. ap (λ (a : answers.Answer). a.panel) is)
 
   -- the refusals behind the checks
   loop_only : is_refusal checks ≡ false → is_refusal removal.reply ≡ true → removal.reply ≡ 0xFF ∷ 0x0B ∷ []
@@ -81,9 +98,9 @@ module _ (p : Panel) (h : Legal p) (id level : ℕ) (bytes : List ℕ) where
       ap (λ (a : answers.Answer). a.reply)
       (removal_loop p id (change_removes p id level bytes (reply_passes (change_checks p id level bytes) n)) e)
 
-  conflict_or_loop : is_refusal checks ≡ false → is_refusal removal.reply ≡ false → is_refusal addition.reply ≡ true
+  conflict_or_loop : is_parked (link_at p.links id).standing ≡ false → is_refusal checks ≡ false → is_refusal removal.reply ≡ false → is_refusal addition.reply ≡ true
       → (addition.reply ≡ 0xFF ∷ 0x0A ∷ []) ⊎ (addition.reply ≡ 0xFF ∷ 0x0B ∷ [])
-  conflict_or_loop n r e = go (change_cases p id level bytes h passed)
+  conflict_or_loop other n r e = go (change_cases p id level bytes h passed other)
     where
       passed : Passes (change_checks p id level bytes)
       passed = reply_passes (change_checks p id level bytes) n
@@ -132,15 +149,24 @@ module _ (s : Sheet) (h : LegalSheet s) (id level : ℕ) (bytes : List ℕ) wher
       go false true = refl
       go false false = ap (λ (r : Rule). r.formula) (get_or-set_other s.formulas.of id k (record { formula = None }) (record { formula = None }) d)
 
+  alters : (t : Standing) → (link_at s.panel.links id).standing ≡ t → is_parked t ≡ true → AlteredExactly s id level bytes
+  alters Waiting e q = absurd (clash q refl)
+  alters (Holding f) e q = absurd (clash q refl)
+  alters Parked e q = let x = parked_said s.panel h.panel id level bytes e in record { reply = x.0; panel = x.1 }
+
   exactly : ChangeExactly s id level bytes
   exactly =
-      let x = said s.panel h.panel id level bytes in
       record {
-        reply = x.0;
-        removal_loop = loop_only s.panel h.panel id level bytes;
-        adding_conflict_or_loop = conflict_or_loop s.panel h.panel id level bytes;
+        renewed = λ other.
+            let x = said s.panel h.panel id level bytes other in
+            record {
+              reply = x.0;
+              removal_loop = loop_only s.panel h.panel id level bytes;
+              adding_conflict_or_loop = conflict_or_loop s.panel h.panel id level bytes other;
+              panel = x.1;
+            };
+        altered = alters (link_at s.panel.links id).standing refl;
         unchanged = refused_sheet_unchanged s (solving (changing id level bytes));
-        panel = x.1;
         values = refl;
         kept = keeps;
         dropped = λ e f l. drops e f;

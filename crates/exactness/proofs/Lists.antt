@@ -17,15 +17,16 @@ use Rattle.fieldset.proofs.Lists.{all_in}
 use Rattle.panel.specs.declared.Link.{Link}
 use Rattle.panel.specs.declared.Panel.{Panel}
 use Rattle.panel.specs.declared.Refusal.TheVariants.{Conflict}
-use Rattle.panel.specs.declared.Standing.TheVariants.{Holding}
-use Rattle.panel.specs.Items.{link, stay, link_at, is_in_force}
+use Rattle.panel.specs.declared.Standing.{Standing}
+use Rattle.panel.specs.declared.Standing.TheVariants.{Waiting, Holding, Parked}
+use Rattle.panel.specs.Items.{link, stay, link_at, is_parked, is_in_force}
 use Rattle.panel.specs.Answers.{refusal_bytes, is_refusal}
 use Rattle.panel.specs.Solution.{plan_of}
 use Rattle.panel.specs.Legal.{Legal}
 use Rattle.panel.specs.Commands as panel
-use Rattle.panel.specs.Commands.{opening, adding, removing, touching, planning, changing, covered_in, Check, check_reply}
+use Rattle.panel.specs.Commands.{opening, adding, removing, touching, planning, changing, parking, unparking, covered_in, Check, check_reply}
 use Rattle.panel.proofs.Reversed.{setter_number, setter_own}
-use Rattle.panel.proofs.InForce.{used_force}
+use Rattle.panel.proofs.InForce.{used_force, parked_off}
 use Rattle.panel.proofs.Checks.{removable, changeable, change_removes}
 use Rattle.panel.proofs.Performed.{removed_number, changed_passes, opened_unopened}
 use Rattle.formulas.specs.declared.Formula.{Formula}
@@ -34,7 +35,7 @@ use Rattle.formulas.specs.declared.Formulas.{Formulas}
 use Rattle.formulas.specs.declared.Rule.{Rule}
 use Rattle.optimality.specs.Condition3 as store
 use Rattle.optimality.specs.Condition3.{Entry, Store, held, Run, stepped}
-use Rattle.optimality.specs.Agreement.{entry_for, entry_of, Agrees, Sound}
+use Rattle.optimality.specs.Agreement.{entry_for, entry_of, aside_of, Agrees, Sound}
 use Rattle.optimality.proofs.Matchings.{pair_setter}
 use Rattle.optimality.proofs.Graphs.{setters_of}
 use Rattle.optimality.proofs.Held.{plan_whole, held_pairs}
@@ -42,7 +43,8 @@ use Rattle.optimality.proofs.Agreement.{entry_force}
 use Rattle.optimality.proofs.Optimum.{sound_optimal}
 use Rattle.optimality.proofs.Answers.{touch_never_conflict}
 use Rattle.optimality.proofs.States.{sound_settled, optimal_best}
-use Rattle.optimality.proofs.Conflict.{sound_conflict_exactly, sound_change_conflict_exactly}
+use Rattle.optimality.proofs.Conflict.{sound_conflict_exactly, sound_change_conflict_exactly, sound_unpark_conflict_exactly}
+use Rattle.optimality.proofs.Parking.{parking_exactly}
 use Rattle.optimality.proofs.Removing.{looks_alike}
 use Rattle.optimality.proofs.Loops.{command_exactly}
 use Rattle.optimality.proofs.Runs.{performed_sound, kept_after, every_system}
@@ -52,9 +54,9 @@ use Rattle.sheet.specs.Commands.{Command, solving, entering, relating, Answer, f
 use Rattle.sheet.specs.Legal.{LegalSheet}
 use Rattle.sheet.proofs.Answers.{entering_reply}
 use Rattle.sheet.proofs.Legal.{reply_passes, Left, Stored, entering_cases, entered_formulas, legal_sheet}
-use Rattle.exactness.specs.Systems.{entered, sheets, covered_of, giving, gives, given_after}
+use Rattle.exactness.specs.Systems.{entered, sheets, covered_of, or_aside, giving, gives, given_after}
 use Rattle.exactness.specs.Beginnings.{start_of, given_of, AfterEveryRun}
-use Rattle.exactness.specs.Lists.{Condition3, EveryState, EitherReading, ConflictAndLoop, EnteringNeverConflict, FormulasFit, ValuesWithin, ValuesRight, OutOfRangeWhereNone, FormulasGiven, HeldRight, ZeroAtOpening, OthersKeepValues}
+use Rattle.exactness.specs.Lists.{Condition3, EveryState, EitherReading, ConflictAndLoop, ParkedStates, ParkingKeepsFormulas, EnteringNeverConflict, FormulasFit, ValuesWithin, ValuesRight, OutOfRangeWhereNone, FormulasGiven, HeldRight, ZeroAtOpening, OthersKeepValues}
 use Rattle.exactness.proofs.Beginnings.{begun_sound, begun_legal, begun_given}
 use Rattle.exactness.proofs.Values.{entered_exactly}
 use Rattle.exactness.proofs.Solutions.{out_of_range_exactly, values_only}
@@ -98,7 +100,12 @@ pub either_reading : EitherReading
 either_reading x commands = looks_alike (sound_after x commands)
 
 pub conflict_and_loop : ConflictAndLoop
-conflict_and_loop x commands = let h = sound_after x commands in (sound_conflict_exactly h, sound_change_conflict_exactly h, command_exactly _ h.legal)
+conflict_and_loop x commands =
+    let h = sound_after x commands in
+    (sound_conflict_exactly h, sound_change_conflict_exactly h, sound_unpark_conflict_exactly h, command_exactly _ h.legal)
+
+pub parked_states : ParkedStates
+parked_states x commands = parking_exactly (sound_after x commands)
 
 pub entering_never_conflict : EnteringNeverConflict
 entering_never_conflict s f v =
@@ -149,11 +156,16 @@ module _ (s : Sheet) (h : LegalSheet s) (given : ℕ → Formula) (same : (k : �
 
   module _ (b : Store) (agrees : Agrees b s.panel) where
     -- a link that is in use covers what the store says
-    covers : (id : ℕ) → (link_at s.panel.links id).used ≡ true → covered_of (b.links id) ≡ (link_at s.panel.links id).covered
-    covers id u = ap covered_of (agrees.links id) ∙ go (link_at s.panel.links id) (used_force (link_at s.panel.links id) u)
+    covers : (id : ℕ) → (link_at s.panel.links id).used ≡ true → covered_of (or_aside (b.links id) (b.aside id)) ≡ (link_at s.panel.links id).covered
+    covers id u = rw (agrees.links id, agrees.aside id) (go (link_at s.panel.links id) u (link_at s.panel.links id).standing refl)
       where
-        go : (l : Link) → is_in_force l ≡ true → covered_of (entry_of l) ≡ l.covered
-        go l e = rw e refl
+        stands : (l : Link) → is_in_force l ≡ true → covered_of (or_aside (entry_of l) (aside_of l)) ≡ l.covered
+        stands l e = rw e refl
+
+        go : (l : Link) → l.used ≡ true → (s : Standing) → l.standing ≡ s → covered_of (or_aside (entry_of l) (aside_of l)) ≡ l.covered
+        go l u Waiting e = stands l (used_force l u (ap is_parked e))
+        go l u (Holding f) e = stands l (used_force l u (ap is_parked e))
+        go l u Parked e = rw (parked_off l e, u, e) refl
 
     -- one command more
     given_step : (c : Command) (k : ℕ) → formula_at (performed s c).sheet.formulas k ≡ cond (is_refusal (performed s c).reply) given (gives b given c) k
@@ -175,6 +187,8 @@ module _ (s : Sheet) (h : LegalSheet s) (given : ℕ → Formula) (same : (k : �
             either_covers : id < 128 → (t : Bool) → formula_at (cond t s.formulas (with_formula s.formulas id None)) k ≡ cond t given (giving given id None) k
             either_covers l true = same k
             either_covers l false = put id None l k
+        go false e (parking id) i = same k
+        go false e (unparking id) i = same k
     given_step (entering f v) k = ap (λ (x : Formulas). formula_at x k) (entered_formulas s f v) ∙ same k ∙ sym (always (is_refusal (performed s (entering f v)).reply))
       where
         always : (t : Bool) → cond t given given k ≡ given k
@@ -200,6 +214,16 @@ given_after_lem (c ∷ cs) r h x given same k =
 
 pub formulas_given : FormulasGiven
 formulas_given x commands = given_after_lem commands (start_of x) (begun_legal x) (begun_sound x) (given_of x) (begun_given x)
+
+pub parking_keeps_formulas : ParkingKeepsFormulas
+parking_keeps_formulas s id = (
+  always (is_refusal (panel.performed s.panel (parking id)).reply),
+  always (is_refusal (panel.performed s.panel (unparking id)).reply),
+)
+  where
+    always : (t : Bool) → cond t s.formulas s.formulas ≡ s.formulas
+    always true = refl
+    always false = refl
 
 -- ---- what Plan answers
 

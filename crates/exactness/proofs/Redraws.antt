@@ -21,7 +21,7 @@ use Rattle.panel.specs.Solution.{setter_reads}
 use Rattle.panel.specs.Moved as panels
 use Rattle.panel.specs.Moved.{turned, moved}
 use Rattle.panel.specs.Commands as panel
-use Rattle.panel.specs.Commands.{opening, adding, removing, touching, planning, changing}
+use Rattle.panel.specs.Commands.{opening, adding, removing, touching, planning, changing, parking, unparking}
 use Rattle.panel.proofs.Moved.{turned_lt, member_turned}
 use Rattle.panel.proofs.Performed.{legal_performed}
 use Rattle.values.specs.Changes.{revalued}
@@ -31,7 +31,7 @@ use Rattle.sheet.specs.Commands.{Command, solving, entering, relating, Answer, r
 use Rattle.sheet.specs.Legal.{LegalSheet}
 use Rattle.sheet.proofs.Answers.{checks_reply}
 use Rattle.sheet.proofs.Legal.{Left, Stored, entering_cases}
-use Rattle.optimality.proofs.Answers.{Outcome, no, yes, opening_outcome, adding_outcome, removing_outcome, touching_outcome, changing_outcome}
+use Rattle.optimality.proofs.Answers.{Outcome, no, yes, opening_outcome, adding_outcome, removing_outcome, touching_outcome, changing_outcome, parking_outcome, unparking_outcome}
 use Rattle.exactness.specs.Redraws.{Redrawn, Revalued, CountsOf, RedrawExactly, RedrawsExactly}
 use Rattle.exactness.proofs.Lists.{legal_after}
 
@@ -122,6 +122,8 @@ module _ (s : Sheet) (h : LegalSheet s) where
   exactly (solving planning) e = tt
   exactly (solving (changing id level fields)) e =
       solved_counts (changing id level fields) (changing_outcome _ _ s.panel (λ r x. tt) (λ q. refl) tt id level fields (λ z. tt)) e
+  exactly (solving (parking id)) e = solved_counts (parking id) (parking_outcome _ _ s.panel (λ r x. tt) (λ q. refl) tt id) e
+  exactly (solving (unparking id)) e = solved_counts (unparking id) (unparking_outcome _ _ s.panel (λ r x. tt) (λ q. refl) tt id (λ z. tt)) e
   exactly (entering f v) e = go (entering_cases s f v)
     where
       go : Left s (performed s (entering f v)) ⊎ Stored s f v (performed s (entering f v))

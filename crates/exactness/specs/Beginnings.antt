@@ -1,5 +1,5 @@
--- Where runs begin: at an unopened panel, or at a saved text that was taken in. Quotations are of document 02, request 7, or of document 01 where that
--- is said.
+-- Where runs begin: at an unopened panel, or at a saved text that was taken in. Quotations are of document 02, request 7, or of document 01 or request 8
+-- where that is said.
 use Rattle.std.specs.Prelude.{ℕ, ◌≡◌, false, cond, List, map, eqb, drop}
 use Rattle.std.proofs.Math.Option.{some}
 use Rattle.fieldset.specs.Tables.{at}
@@ -8,7 +8,7 @@ use Rattle.formulas.specs.declared.Formula.{Formula}
 use Rattle.formulas.specs.declared.Formula.TheVariants.{None}
 use Rattle.sheet.specs.Sheets.{unopened}
 use Rattle.sheet.specs.Commands.{Command}
-use Rattle.optimality.specs.Condition3.{Store, empty, entry, new_entry, Run, after, AfterEveryList}
+use Rattle.optimality.specs.Condition3.{Entry, Store, empty, entry, beside, new_entry, Run, after, AfterEveryList}
 use Rattle.lines.specs.Lines.{lines_of}
 use Rattle.frames.specs.Frames.{formula_in}
 use Rattle.images.specs.Entries.{folded, line_bytes}
@@ -18,11 +18,14 @@ use Rattle.exactness.specs.Systems.{sheets, start, giving, given_after}
 -- ---- what the lines of a text say: nothing here comes from the panel that was read
 
 -- a text "whose book starts not empty but with the stays in the order of the text's 0B line and the links of its 0C lines, their standings left out":
--- 0B and the fields; 0C id level standing and the field bytes
+-- 0B and the fields; 0C id level standing and the field bytes. "a link that a text gives as parked starts aside" (request 8): one of standing FE
+abbrev pub link_store : Store → ℕ → ℕ → Entry → Store
+link_store b id standing e = cond (eqb standing 0xFE) (beside b id (some e)) (entry b id (some e))
+
 abbrev pub line_store : Store → List ℕ → Store
 line_store b line =
-    cond (eqb (at line 0) 0x0B) (record { stays = drop 1 line; links = b.links })
-    (cond (eqb (at line 0) 0x0C) (entry b (at line 1) (some (new_entry (at line 2) (drop 4 line))))
+    cond (eqb (at line 0) 0x0B) (record { stays = drop 1 line; links = b.links; aside = b.aside })
+    (cond (eqb (at line 0) 0x0C) (link_store b (at line 1) (at line 3) (new_entry (at line 2) (drop 4 line)))
     b)
 
 unfoldable pub store_of : List ℕ → Store

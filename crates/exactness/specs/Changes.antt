@@ -1,10 +1,12 @@
--- Kind 06, which "removes the link and adds it anew as one" (document 02, request 5), by kinds 03 and 02: statements. Quotations are of that request.
+-- Kind 06, which "removes the link and adds it anew as one" (document 02, request 5), by kinds 03 and 02: statements. Quotations are of that request, or
+-- of request 8 where that is said.
 use Rattle.std.specs.Prelude.{ℕ, ◌<◌, ◌≡◌, true, false, cond, List, [], ◌∷◌, ◌≢◌, ◌⊎◌}
 use Rattle.fieldset.specs.Fields.{member}
-use Rattle.panel.specs.Items.{link_at}
+use Rattle.panel.specs.Items.{link_at, is_parked}
 use Rattle.panel.specs.Answers.{is_refusal}
+use Rattle.panel.specs.Panels.{parked_link, with_link}
 use Rattle.panel.specs.Moved.{moved}
-use Rattle.panel.specs.Commands.{adding, removing, changing, change_checks, check_reply, covered_in}
+use Rattle.panel.specs.Commands.{adding, removing, changing, change_checks, check_reply, covered_in, outputs_in}
 use Rattle.formulas.specs.declared.Formula.TheVariants.{None}
 use Rattle.sheet.specs.declared.Sheet.{Sheet}
 use Rattle.sheet.specs.Sheets.{formula_at}
@@ -26,7 +28,8 @@ module _ (s : Sheet) (id level : ℕ) (bytes : List ℕ) where
   abbrev pub checks : List ℕ
   checks = check_reply (change_checks s.panel id level bytes)
 
-  pub record ChangeExactly : Type 0 where
+  -- of a link that is not parked
+  pub record RenewedExactly : Type 0 where
     -- the checks "come first, .. then the removal's Loop, then the adding's Conflict or Loop": the first of these refusals; where there is none, 00
     -- and the moved count, which "compares the state before with the state after both"
     pub reply :
@@ -39,10 +42,20 @@ module _ (s : Sheet) (id level : ℕ) (bytes : List ℕ) where
     pub removal_loop : is_refusal checks ≡ false → is_refusal removal.reply ≡ true → removal.reply ≡ 0xFF ∷ 0x0B ∷ []
     pub adding_conflict_or_loop : is_refusal checks ≡ false → is_refusal removal.reply ≡ false → is_refusal addition.reply ≡ true
         → (addition.reply ≡ 0xFF ∷ 0x0A ∷ []) ⊎ (addition.reply ≡ 0xFF ∷ 0x0B ∷ [])
-    -- "a refusal changes nothing"
-    pub unchanged : is_refusal change.reply ≡ true → change.sheet ≡ s
     -- where both parts are accepted, the panel is theirs
     pub panel : is_refusal change.reply ≡ false → change.sheet.panel ≡ addition.sheet.panel
+
+  -- "Frame 06 on a parked link alters it and leaves it parked" (request 8)
+  pub record AlteredExactly : Type 0 where
+    -- the first refusal of the checks, else 0000
+    pub reply : change.reply ≡ checks
+    pub panel : is_refusal checks ≡ false → change.sheet.panel ≡ with_link s.panel id (parked_link level (covered_in bytes) (outputs_in bytes))
+
+  pub record ChangeExactly : Type 0 where
+    pub renewed : is_parked (link_at s.panel.links id).standing ≡ false → RenewedExactly
+    pub altered : is_parked (link_at s.panel.links id).standing ≡ true → AlteredExactly
+    -- "a refusal changes nothing"
+    pub unchanged : is_refusal change.reply ≡ true → change.sheet ≡ s
     pub values : change.sheet.values ≡ s.values
     -- "its formula kept if the covered fields are the same, else dropped"
     pub kept : is_refusal change.reply ≡ false

@@ -1,4 +1,4 @@
--- What holds after every list of commands, kinds 06 to 08 among them (document 02, requests 2 and 5), from an unopened panel and from a saved text that
+-- What holds after every list of commands, kinds 06 to 09 among them (document 02, requests 2, 5 and 8), from an unopened panel and from a saved text that
 -- was taken in (request 7): statements.
 use Rattle.std.specs.Prelude.{ℕ, ◌≡◌, false, List, ◌∷◌, ◌≢◌, ℤ, pos}
 use Rattle.std.proofs.Math.Option.{some}
@@ -7,7 +7,7 @@ use Rattle.fieldset.specs.Lists.{In}
 use Rattle.panel.specs.Items.{link, stay, link_at}
 use Rattle.panel.specs.Answers.{refusal_bytes, is_refusal}
 use Rattle.panel.specs.Commands as panel
-use Rattle.panel.specs.Commands.{opening}
+use Rattle.panel.specs.Commands.{opening, parking, unparking}
 use Rattle.values.specs.Limits.{value_at, outside}
 use Rattle.formulas.specs.declared.Formula.{Formula}
 use Rattle.formulas.specs.declared.Formula.TheVariants.{None}
@@ -17,13 +17,13 @@ use Rattle.sheet.specs.Sheets.{formula_at}
 use Rattle.sheet.specs.Commands.{solving, entering, relating, performed}
 use Rattle.sheet.specs.Legal.{Fits}
 use Rattle.optimality.specs.Condition3.{Entry, Store, held, Optimal}
-use Rattle.optimality.specs.States.{Settled, NothingBlocked, LooksAlike, NothingBetter}
-use Rattle.optimality.specs.Refusals.{ConflictExactly, ChangeConflictExactly, LoopExactly}
+use Rattle.optimality.specs.States.{Settled, NothingBlocked, LooksAlike, Parking, NothingBetter}
+use Rattle.optimality.specs.Refusals.{ConflictExactly, ChangeConflictExactly, UnparkConflictExactly, LoopExactly}
 use Rattle.exactness.specs.Values.{EnteredExactly, OutOfRangeExactly, ValuesOnly}
 use Rattle.exactness.specs.Systems.{sheets}
 use Rattle.exactness.specs.Beginnings.{AfterEveryRun, AfterEveryGiven}
 
--- condition 3 of the tender, over lists with kinds 06 to 08; "the rule that nobody can hold more now also speaks of runs from such a text" (request 7)
+-- condition 3 of the tender, over lists with kinds 06 to 09; "the rule that nobody can hold more now also speaks of runs from such a text" (request 7)
 abbrev pub Condition3 : Type 0
 Condition3 = AfterEveryRun (λ r. Optimal r.store (sheets.plan r.state))
 
@@ -35,15 +35,21 @@ EveryState =
     AfterEveryRun (λ r.
     Settled r.store (sheets.plan r.state) × NothingBlocked r.state.panel × NothingBetter r.store (sheets.plan r.state))
 
--- a removal answers the same whether one looks at what is blocked after every drop or only after that of a link that sets a field
+-- a removal, and a parking, answers the same whether one looks at what is blocked after every drop or only after that of a link that sets a field
 abbrev pub EitherReading : Type 0
 EitherReading = AfterEveryRun (λ r. LooksAlike r.state.panel)
 
--- Conflict and Loop are given exactly when document 01 says so, of a change Conflict where its removal is accepted
+-- Conflict and Loop are given exactly when document 01 says so, of a change Conflict where its removal is accepted, and of a link that is brought back
+-- as of one that is added
 abbrev pub ConflictAndLoop : Type 0
 ConflictAndLoop =
-    AfterEveryRun
-    (λ r. ConflictExactly r.store r.state.panel × ChangeConflictExactly r.store r.state.panel × LoopExactly r.state.panel)
+    AfterEveryRun (λ r.
+    ConflictExactly r.store r.state.panel × ChangeConflictExactly r.store r.state.panel
+    × UnparkConflictExactly r.store r.state.panel × LoopExactly r.state.panel)
+
+-- parked links are as request 8 says
+abbrev pub ParkedStates : Type 0
+ParkedStates = AfterEveryRun (λ r. Parking r.store r.state.panel)
 
 -- a value that is entered never meets Conflict, since "Touch and Remove never give Conflict"
 abbrev pub EnteringNeverConflict : Type 0
@@ -54,6 +60,12 @@ EnteringNeverConflict = (s : Sheet) (f : ℕ) (v : ℤ) → (performed s (enteri
 -- the formulas of the sheet are those given
 abbrev pub FormulasGiven : Type 0
 FormulasGiven = AfterEveryGiven (λ r given. (k : ℕ) → formula_at r.state.formulas k ≡ given k)
+
+-- of a parked link "its formula kept" (request 8), and so it is where the link is brought back
+abbrev pub ParkingKeepsFormulas : Type 0
+ParkingKeepsFormulas =
+    (s : Sheet) (id : ℕ) → ((performed s (solving (parking id))).sheet.formulas ≡ s.formulas)
+    × ((performed s (solving (unparking id))).sheet.formulas ≡ s.formulas)
 
 -- "zero at opening"
 abbrev pub ZeroAtOpening : Type 0

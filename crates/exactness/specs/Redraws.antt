@@ -6,7 +6,7 @@ use Rattle.ordering.specs.Walks.{Walk}
 use Rattle.panel.specs.declared.Panel.{Panel}
 use Rattle.panel.specs.Answers.{is_refusal}
 use Rattle.panel.specs.Solution.{setter_reads}
-use Rattle.panel.specs.Commands.{opening, adding, removing, touching, planning, changing}
+use Rattle.panel.specs.Commands.{opening, adding, removing, touching, planning, changing, parking, unparking}
 use Rattle.values.specs.Limits.{value_at}
 use Rattle.sheet.specs.declared.Sheet.{Sheet}
 use Rattle.sheet.specs.Commands.{Command, solving, entering, relating, performed}
@@ -43,6 +43,8 @@ RedrawExactly before after (solving (adding id level fields)) bytes = CountsOf (
 RedrawExactly before after (solving (removing id)) bytes = CountsOf (Redrawn before.panel after.panel) bytes
 RedrawExactly before after (solving (touching f)) bytes = CountsOf (Redrawn before.panel after.panel) bytes
 RedrawExactly before after (solving (changing id level fields)) bytes = CountsOf (Redrawn before.panel after.panel) bytes
+RedrawExactly before after (solving (parking id)) bytes = CountsOf (Redrawn before.panel after.panel) bytes
+RedrawExactly before after (solving (unparking id)) bytes = CountsOf (Redrawn before.panel after.panel) bytes
 -- "for kind 07 also every field whose value changed"
 RedrawExactly before after (entering f v) bytes = CountsOf (λ g. Redrawn before.panel after.panel g ⊎ Revalued before after g) bytes
 -- "Opening replies 0" (document 01), and "0 for kind 08" (request 2)

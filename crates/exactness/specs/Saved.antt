@@ -1,6 +1,7 @@
--- Saved texts (document 02, request 7): statements. Quotations are of that request.
-use Rattle.std.specs.Prelude.{ℕ, ◌≤◌, ◌<◌, ◌≡◌, true, false, List, [], ◌∷◌, ◌++◌, ◌≢◌, ◌↔◌, length}
+-- Saved texts (document 02, requests 7 and 8): statements. Quotations are of request 7, or of request 8 where that is said.
+use Rattle.std.specs.Prelude.{ℕ, ◌≤◌, ◌<◌, ◌≡◌, true, false, List, [], ◌∷◌, ◌++◌, ◌≢◌, ◌⊎◌, ◌↔◌, length}
 use Rattle.ordering.specs.Walks.{ClosedWalk}
+use Rattle.panel.specs.declared.Standing.TheVariants.{Parked}
 use Rattle.panel.specs.declared.Panel.{Panel}
 use Rattle.panel.specs.declared.Refusal.TheVariants.{TextTooLong, AlreadyOpen, UnknownVersion, BadImage, Unfit}
 use Rattle.panel.specs.Items.{Item, link, link_at, waits}
@@ -16,7 +17,7 @@ use Rattle.hexadecimal.specs.Hex.{hex_of}
 use Rattle.frames.specs.Texts.{text_limit}
 use Rattle.images.specs.Images.{image_of}
 use Rattle.images.specs.Entries.{candidate}
-use Rattle.images.specs.Reading.{version, longest, is_bad, Good, read}
+use Rattle.images.specs.Reading.{version, longest, Begins, is_bad, Good, read, first_reader}
 use Rattle.layout.specs.Layout.{Image, WellFormed, text_of}
 use Rattle.exactness.specs.Beginnings.{AfterEveryRun}
 
@@ -28,15 +29,59 @@ TakenBack =
     AfterEveryRun (λ r. (u : Sheet) → is_open r.state.panel ≡ true → is_open u.panel ≡ false
     → read u (image_of version r.state) ≡ record { sheet = r.state; reply = 0x00 ∷ 0x00 ∷ [] })
 
--- "a text taken in is written out the same"
-abbrev pub WrittenSame : Type 0
-WrittenSame = (u : Sheet) (text : List ℕ) → is_refusal (read u text).reply ≡ false → image_of version (read u text).sheet ≡ text
-
--- "One panel has one text: equal panels exactly when equal bytes"
+-- "One panel has one text: equal panels exactly when equal bytes"; "One panel has one text of version 02" (request 8), which is the version that is written
 abbrev pub OneText : Type 0
 OneText =
     AfterEveryRun (λ r. AfterEveryRun (λ q. is_open r.state.panel ≡ true → is_open q.state.panel ≡ true
     → (r.state ≡ q.state) ↔ (image_of version r.state ≡ image_of version q.state)))
+
+-- ---- two versions
+
+-- a text of this version: it begins with 0A and the version, in digits
+abbrev pub of_version : ℕ → List ℕ → List ℕ
+of_version v rest = hex_of (0x0A ∷ v ∷ []) ++ rest
+
+-- a panel's text is of version 02: "The saved text becomes version 02" (request 8)
+abbrev pub WrittenVersion : Type 0
+WrittenVersion = (s : Sheet) → Begins 0x02 (image_of version s)
+
+-- a text taken in is of version 01 or 02
+abbrev pub TakenVersion : Type 0
+TakenVersion = (u : Sheet) (text : List ℕ) → is_refusal (read u text).reply ≡ false → Begins 0x01 text ⊎ Begins 0x02 text
+
+-- one of version 02 "is written out the same"
+abbrev pub WrittenSame : Type 0
+WrittenSame =
+    (u : Sheet) (rest : List ℕ) → is_refusal (read u (of_version 0x02 rest)).reply ≡ false
+    → image_of version (read u (of_version 0x02 rest)).sheet ≡ of_version 0x02 rest
+
+-- "a version 01 text taken in is written out with only its version byte changed" (request 8)
+abbrev pub WrittenRaised : Type 0
+WrittenRaised =
+    (u : Sheet) (rest : List ℕ) → is_refusal (read u (of_version 0x01 rest)).reply ≡ false
+    → image_of version (read u (of_version 0x01 rest)).sheet ≡ of_version 0x02 rest
+
+-- "the new reader takes 01 too" (request 8): the text of version 01 of every reachable panel without a parked link, which is all that this version can say
+abbrev pub FirstTakenBack : Type 0
+FirstTakenBack =
+    AfterEveryRun (λ r. (u : Sheet) → is_open u.panel ≡ false → is_open r.state.panel ≡ true
+    → ((i : ℕ) → (link_at r.state.panel.links i).standing ≢ Parked)
+    → read u (image_of 0x01 r.state) ≡ record { sheet = r.state; reply = 0x00 ∷ 0x00 ∷ [] })
+
+-- "01 .., where FE is a BadImage" (request 8): a text of version 01 that is taken in gives no link as parked
+abbrev pub FirstUnparked : Type 0
+FirstUnparked =
+    (u : Sheet) (rest : List ℕ) → is_refusal (read u (of_version 0x01 rest)).reply ≡ false
+    → (i : ℕ) → i < 128 → (link_at (read u (of_version 0x01 rest)).sheet.panel.links i).standing ≢ Parked
+
+-- "the old reader meets 02 only by UnknownVersion" (request 8), where neither TextTooLong nor AlreadyOpen comes first; any other text it answers as the new
+-- one does
+pub record OldReader : Type 0 where
+  pub newer : (u : Sheet) (rest : List ℕ) → length (of_version 0x02 rest) ≤ text_limit → is_open u.panel ≡ false
+      → first_reader u (of_version 0x02 rest) ≡ refused u UnknownVersion
+  pub others : (u : Sheet) (text : List ℕ) → (Begins 0x02 text → ⊥) → first_reader u text ≡ read u text
+
+-- ---- lengths
 
 -- a text that is written is never too long to be read
 pub record LongestText : Type 0 where
@@ -63,13 +108,19 @@ pub data IsUnfit (p : Panel) : Type 0 where
   blocked : (c : Item) → is_blocked p c ≡ true → IsUnfit p
   short : (i : ℕ) → (link_at p.links i).level ≡ 0 → waits p.size p.links p.setter (link i) ≡ true → IsUnfit p
 
--- "the first line begins with byte 0A and a second byte that is no known version": in digits; the known version is 01
+-- "the first line begins with byte 0A and a second byte that is no known version": in digits; the known versions are 01 and 02
 pub record BeginsUnknown (text : List ℕ) : Type 0 where
   pub second : ℕ
   pub byte : second < 256
-  pub other : second ≢ 0x01
-  pub rest : List ℕ
-  pub begins : text ≡ hex_of (0x0A ∷ second ∷ []) ++ rest
+  pub not_01 : second ≢ 0x01
+  pub not_02 : second ≢ 0x02
+  pub begins : Begins second text
+
+-- the text is this formed sheet's, in one of the two versions
+pub record SheetOf (text : List ℕ) (s : Sheet) : Type 0 where
+  pub version : ℕ
+  pub known : (version ≡ 0x01) ⊎ (version ≡ 0x02)
+  pub good : Good version text s
 
 -- "Reading replies 0000, or FF and the number with nothing changed": "TextTooLong as before comes first; after AlreadyOpen come 19 BadImage .., with 20
 -- UnknownVersion checked just before it .., and 21 Unfit last". Each answer is given in its case (`ReadingExactly`) and in no other (`ReadingOnly`). A
@@ -80,9 +131,9 @@ pub data Reading (u : Sheet) (text : List ℕ) : Answer → Type 0 where
   unknown_version : length text ≤ text_limit → u.panel.size ≡ 0 → BeginsUnknown text → Reading u text (refused u UnknownVersion)
   bad_image : length text ≤ text_limit → u.panel.size ≡ 0 → (BeginsUnknown text → ⊥)
       → ((x : Image) → WellFormed x → text_of x ≡ text → ⊥) → Reading u text (refused u BadImage)
-  unfit : length text ≤ text_limit → u.panel.size ≡ 0 → (BeginsUnknown text → ⊥) → (s : Sheet) → Good text s → IsUnfit s.panel
+  unfit : length text ≤ text_limit → u.panel.size ≡ 0 → (BeginsUnknown text → ⊥) → (s : Sheet) → SheetOf text s → IsUnfit s.panel
       → Reading u text (refused u Unfit)
-  taken : length text ≤ text_limit → u.panel.size ≡ 0 → (BeginsUnknown text → ⊥) → (s : Sheet) → Good text s → (IsUnfit s.panel → ⊥)
+  taken : length text ≤ text_limit → u.panel.size ≡ 0 → (BeginsUnknown text → ⊥) → (s : Sheet) → SheetOf text s → (IsUnfit s.panel → ⊥)
       → Reading u text (record { sheet = s; reply = 0x00 ∷ 0x00 ∷ [] })
 
 abbrev pub ReadingExactly : Type 0
@@ -97,7 +148,7 @@ pub record GivesUnfit (u : Sheet) (text : List ℕ) : Type 0 where
   pub short_enough : length text ≤ text_limit
   pub closed : u.panel.size ≡ 0
   pub known : BeginsUnknown text → ⊥
-  pub good : is_bad text ≡ false
+  pub good : is_bad version text ≡ false
   pub unfit : IsUnfit (candidate text).panel
 
 abbrev pub UnfitExactly : Type 0

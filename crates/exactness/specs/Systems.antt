@@ -1,8 +1,8 @@
--- Sheets as a system of lists of commands, kinds 06 to 08 among them (document 02, requests 2 and 5), and the formulas that commands give.
+-- Sheets as a system of lists of commands, kinds 06 to 09 among them (document 02, requests 2, 5 and 8), and the formulas that commands give.
 use Rattle.std.specs.Prelude.{ℕ, cond, List, [], ◌∷◌, eqb}
 use Rattle.std.proofs.Math.Option.{Option, none, some}
 use Rattle.panel.specs.Answers.{is_refusal}
-use Rattle.panel.specs.Commands.{opening, adding, removing, touching, planning, changing, covered_in}
+use Rattle.panel.specs.Commands.{opening, adding, removing, touching, planning, changing, parking, unparking, covered_in}
 use Rattle.formulas.specs.declared.Formula.{Formula}
 use Rattle.formulas.specs.declared.Formula.TheVariants.{None}
 use Rattle.sheet.specs.declared.Sheet.{Sheet}
@@ -38,19 +38,28 @@ abbrev pub covered_of : Option Entry → ℕ
 covered_of none = 0
 covered_of (some e) = e.covered
 
+-- of a number: the link that stands, or else the one that is aside
+abbrev pub or_aside : Option Entry → Option Entry → Option Entry
+or_aside none aside = aside
+or_aside (some e) aside = some e
+
 -- another formula at a number
 abbrev pub giving : (ℕ → Formula) → ℕ → Formula → ℕ → Formula
 giving given id formula = λ k. cond (eqb k id) formula (given k)
 
 -- the formula of each number, as the commands that were not refused gave it: "A new formula replaces the old, and removal drops it"; of a change, "its
--- formula kept if the covered fields are the same, else dropped" (document 02, request 5)
+-- formula kept if the covered fields are the same, else dropped" (document 02, request 5); where a link is parked or brought back, "its formula kept"
+-- (request 8)
 abbrev pub gives : Store → (ℕ → Formula) → Command → ℕ → Formula
 gives b given (solving (opening n)) = given
 gives b given (solving (adding id level bytes)) = given
 gives b given (solving (removing id)) = giving given id None
 gives b given (solving (touching f)) = given
 gives b given (solving planning) = given
-gives b given (solving (changing id level bytes)) = cond (eqb (covered_of (b.links id)) (covered_in bytes)) given (giving given id None)
+gives b given (solving (changing id level bytes)) =
+    cond (eqb (covered_of (or_aside (b.links id) (b.aside id))) (covered_in bytes)) given (giving given id None)
+gives b given (solving (parking id)) = given
+gives b given (solving (unparking id)) = given
 gives b given (entering f v) = given
 gives b given (relating id formula) = giving given id formula
 

@@ -20,7 +20,7 @@ use Rattle.ordering.specs.Order.{order, has_loop}
 use Rattle.ordering.specs.Walks.{Among}
 use Rattle.ordering.proofs.Plan.{has_loop_cong}
 use Rattle.strength.specs.Strength.{strength}
-use Rattle.panel.specs.declared.Standing.TheVariants.{Waiting, Holding}
+use Rattle.panel.specs.declared.Standing.TheVariants.{Waiting}
 use Rattle.panel.specs.declared.Link.{Link}
 use Rattle.panel.specs.declared.Panel.{Panel}
 use Rattle.panel.specs.Items.{Item, link_at, is_in_force, is_waiting, items_of}
@@ -56,8 +56,9 @@ module _ (l : Link) where
   pub unused_lacks : l.used ≡ false → false ≡ lacking l
   unused_lacks u = rw (unused_off l u) (sym (and-false (eqb l.level 0)))
 
-  pub holding_lacks : (f : ℕ) → l.standing ≡ Holding f → false ≡ lacking l
-  holding_lacks f s = sym (ap (λ (b : Bool). eqb l.level 0 && (is_in_force l && b)) (ap is_waiting s) ∙ none (eqb l.level 0) (is_in_force l))
+  -- one that holds a field, or is parked
+  pub other_lacks : is_waiting l.standing ≡ false → false ≡ lacking l
+  other_lacks s = sym (ap (λ (b : Bool). eqb l.level 0 && (is_in_force l && b)) s ∙ none (eqb l.level 0) (is_in_force l))
     where
       none : (a b : Bool) → (a && (b && false)) ≡ false
       none true true = refl

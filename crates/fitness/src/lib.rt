@@ -24,6 +24,7 @@ fn lacks(l: Link) -> bool
     match s {
         Standing::Waiting => { if l.used { l.level == 0 } else { false } }
         Standing::Holding(_) => false,
+        Standing::Parked => false,
     }
 }
 
@@ -59,7 +60,8 @@ fn is_blocked(p: Panel, levels: &[u8; 64], others: &[u64; 64], reads: &[u64; 64]
 }
 
 // Whether the panel of a well-formed sheet is unfit.
-// The contract rules out, for instance, a required link that waits and a loop, both taken (must-fail: waiting_required_taken, loop_taken).
+// The contract rules out, for instance, a required link that waits and a loop, both taken, and a required link that is parked, refused (must-fail:
+// waiting_required_taken, loop_taken, parked_required_refused).
 pub fn is_unfit(s: Sheet) -> bool
     requires { is_formed s ≡ true }
     ensures { result ≡ is_unfit s.panel }

@@ -12,7 +12,7 @@ use Rattle.fieldset.specs.Tables.{at}
 use Rattle.fieldset.specs.Lists.{All}
 use Rattle.panel.proofs.Answers.{refusal_at, refusal_at_lem}
 use Rattle.frames.specs.declared.Command.{Command}
-use Rattle.frames.specs.declared.Command.TheVariants.{Open, Add, Remove, Touch, Plan, Change, Enter, Relate, Refused}
+use Rattle.frames.specs.declared.Command.TheVariants.{Open, Add, Drop, Touch, Plan, Change, Enter, Relate, Unpark, Refused}
 use Rattle.formulas.specs.declared.Formula.{Formula}
 use Rattle.formulas.specs.declared.Formula.TheVariants.{None, Ratio, Sum}
 use Rattle.frames.specs.Frames.{fits_formula, formula_in, formula_bytes, command_bytes}
@@ -22,22 +22,26 @@ abbrev command_at : List ℕ → Command
 command_at b =
     cond (eqb (at b 0) 0x01) (Open (at b 1))
     (cond (eqb (at b 0) 0x02) (Add (at b 1) (at b 2))
-    (cond (eqb (at b 0) 0x03) (Remove (at b 1))
+    (cond (eqb (at b 0) 0x03) (Drop (at b 1) false)
     (cond (eqb (at b 0) 0x04) (Touch (at b 1))
     (cond (eqb (at b 0) 0x05) Plan
     (cond (eqb (at b 0) 0x06) (Change (at b 1) (at b 2))
     (cond (eqb (at b 0) 0x07) (Enter (at b 1) (at b 2))
-    (cond (eqb (at b 0) 0x08) (Relate (at b 1) (at b 2)) (Refused (refusal_at (drop 1 b))))))))))
+    (cond (eqb (at b 0) 0x08) (Relate (at b 1) (at b 2))
+    (cond (eqb (at b 0) 0x09) (cond (eqb (at b 2) 0x01) (Drop (at b 1) true) (Unpark (at b 1)))
+    (Refused (refusal_at (drop 1 b)))))))))))
 
 command_at_lem : (c : Command) (fields : List ℕ) → command_at (command_bytes c fields) ≡ c
 command_at_lem (Open n) fields = refl
 command_at_lem (Add id level) fields = refl
-command_at_lem (Remove id) fields = refl
+command_at_lem (Drop id false) fields = refl
+command_at_lem (Drop id true) fields = refl
 command_at_lem (Touch f) fields = refl
 command_at_lem Plan fields = refl
 command_at_lem (Change id level) fields = refl
 command_at_lem (Enter f b) fields = refl
 command_at_lem (Relate id form) fields = refl
+command_at_lem (Unpark id) fields = refl
 command_at_lem (Refused r) fields = ap Refused (refusal_at_lem r)
 
 pub commands_apart : (c d : Command) (fields others : List ℕ) → command_bytes c fields ≡ command_bytes d others → c ≡ d

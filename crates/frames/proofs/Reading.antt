@@ -13,7 +13,7 @@ use lib.ListN.{length, get_or, take, drop, replicate, length-take, length-drop, 
 use lib.Seq.{drop-cons, get_or-take, get_or-drop, length-take-le, take_all, take_at, sets, sets-eq, length-sets}
 use borrow.Author.Tests.{ltb-true, ltb-false, leb-true, leb-false, lt-leb, eqb-true, eq-eqb, ne_eqb}
 use Rattle.fieldset.specs.Tables.{at}
-use Rattle.fieldset.proofs.Tests.{and_left}
+use Rattle.fieldset.proofs.Tests.{and_left, and_right}
 use Rattle.panel.specs.declared.Refusal.TheVariants.{BadHex, BadFrame}
 use Rattle.panel.specs.Answers.{refusal_bytes}
 use Rattle.panel.specs.Commands.{has_bit6, any_of}
@@ -54,13 +54,14 @@ module _ (f : List ℕ) (n : ℕ) (size : length f ≡ frame_room) (short : n �
 -- the kinds, as a match on the kind tells them apart
 abbrev pub OtherKind : ℕ → Type 0
 OtherKind k =
-    (((((((Unit {0} × (k ≡ 0x01 → ⊥)) × (k ≡ 0x02 → ⊥)) × (k ≡ 0x03 → ⊥)) × (k ≡ 0x04 → ⊥)) × (k ≡ 0x05 → ⊥)) × (k ≡ 0x06 → ⊥)) × (k ≡ 0x07 → ⊥)) × (k ≡ 0x08 → ⊥)
+    ((((((((Unit {0} × (k ≡ 0x01 → ⊥)) × (k ≡ 0x02 → ⊥)) × (k ≡ 0x03 → ⊥)) × (k ≡ 0x04 → ⊥)) × (k ≡ 0x05 → ⊥)) × (k ≡ 0x06 → ⊥)) × (k ≡ 0x07 → ⊥)) × (k ≡ 0x08 → ⊥))
+    × (k ≡ 0x09 → ⊥)
 
 pub fits_other : (k form n : ℕ) → OtherKind k → false ≡ fits_kind k form n
 unfolding fits_kind
 fits_other k form n o =
-    let ((((((((_, a), b), c), d), e), f), g), h) = o in
-    simp (ne_eqb k 1 a, ne_eqb k 2 b, ne_eqb k 3 c, ne_eqb k 4 d, ne_eqb k 5 e, ne_eqb k 6 f, ne_eqb k 7 g, ne_eqb k 8 h)
+    let (((((((((_, a), b), c), d), e), f), g), h), i) = o in
+    simp (ne_eqb k 1 a, ne_eqb k 2 b, ne_eqb k 3 c, ne_eqb k 4 d, ne_eqb k 5 e, ne_eqb k 6 f, ne_eqb k 7 g, ne_eqb k 8 h, ne_eqb k 9 i)
 
 pub fits_at : (k' k form n : ℕ) → k ≡ k' → fits_kind k' form n ≡ fits_kind k form n
 fits_at k' k form n e = ap (λ (x : ℕ). fits_kind x form n) (sym e)
@@ -85,12 +86,12 @@ fits_many : (k form n : ℕ) → frame_room ≤ n → fits_kind k form n ≡ fal
 unfolding fits_kind fits_formula
 fits_many k form n h =
     let other : (m : ℕ) → m < frame_room → eqb n m ≡ false = λ m l. ne_eqb n m (λ e. omega arith) in
-    simp (other 1 (omega arith), other 2 (omega arith), other 4 (omega arith), other 6 (omega arith), other 7 (omega arith), lt-leb n 11 (omega arith), and-false, either_false)
+    simp (other 1 (omega arith), other 2 (omega arith), other 3 (omega arith), other 4 (omega arith), other 6 (omega arith), other 7 (omega arith), lt-leb n 11 (omega arith), and-false, either_false)
 
 -- the third byte counts only where it is there
 fits_two : (k form form' n : ℕ) → n < 3 → fits_kind k form n ≡ fits_kind k form' n
 unfolding fits_kind fits_formula
-fits_two k form form' n h = simp (ne_eqb n 4 (λ e. omega arith), ne_eqb n 7 (λ e. omega arith), either_false)
+fits_two k form form' n h = simp (ne_eqb n 3 (λ e. omega arith), ne_eqb n 4 (λ e. omega arith), ne_eqb n 7 (λ e. omega arith), either_false)
 
 pub fits_short : (k form n : ℕ) → fits_kind k form n ≡ true → n < frame_room
 fits_short k form n e = go (ltb n frame_room) refl where
@@ -114,6 +115,11 @@ long_formula form n e = go (eqb form 0x01) (eqb form 0x02) e where
   go true c e = omega (arith, eqb-true n 7 e)
   go false true e = omega (arith, eqb-true n 4 e)
   go false false e = absurd (true≢false (sym e))
+
+-- kind 09 has three bytes, and the third is 00 or 01
+pub switch_three : (form n : ℕ) → fits_kind 0x09 form n ≡ true → (n ≡ 3) × (form ≤ 1)
+unfolding fits_kind
+switch_three form n e = (eqb-true n 3 (and_left (eqb n 3) (leb form 1) e), leb-true form 1 (and_right (eqb n 3) (leb form 1) e))
 
 -- a full buffer's first bytes fit their kind as their number does the buffer's first byte
 fits_taken : (f : List ℕ) (n : ℕ) → length f ≡ frame_room
@@ -180,10 +186,10 @@ module _ (f : List ℕ) (n : ℕ) (size : length f ≡ frame_room) where
     bit6_read high = sym (simp (kind_taken, high, and-false))
 
     -- a kind with one length m: its first m bytes
-    pub exact_read : (m : ℕ) → fits_kind k (at f 2) n ≡ eqb n m → has_fields k && any_of has_bit6 (drop 3 (take n f)) ≡ false
+    pub exact_read : (m : ℕ) → (fits_kind k (at f 2) n ≡ true → n ≡ m) → has_fields k && any_of has_bit6 (drop 3 (take n f)) ≡ false
         → take m (k ∷ at f 1 ∷ at f 2 ∷ drop 3 f) ≡ checked_frame (take n f)
     exact_read m one low =
-        let e : n ≡ m = eqb-true n m (sym one ∙ fits_at k (at f 0) (at f 2) n kind ∙ fits) in
+        let e : n ≡ m = one (fits_at k (at f 0) (at f 2) n kind ∙ fits) in
         ap₂ (λ (i : ℕ) (x : ℕ). take i (x ∷ at f 1 ∷ at f 2 ∷ drop 3 f)) (sym e) (sym kind) ∙ ap (take n) (parts f (omega arith)) ∙ kind_read low
 
     -- a kind with two values and further bytes

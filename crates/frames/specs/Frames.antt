@@ -1,11 +1,11 @@
 -- A line's frame, its command, and what it is answered. Quotations are of document 01, or of document 02 where that is said.
-use Rattle.std.specs.Prelude.{ℕ, ◌+◌, ◌*◌, ◌/◌, ◌%◌, min, Bool, false, not, ◌&&◌, ◌||◌, cond, List, [], ◌∷◌, eqb, leb, length, drop}
+use Rattle.std.specs.Prelude.{ℕ, ◌+◌, ◌*◌, ◌/◌, ◌%◌, min, Bool, true, false, not, ◌&&◌, ◌||◌, cond, List, [], ◌∷◌, eqb, leb, length, drop}
 use Rattle.std.proofs.Math.Option.{Option, none, some}
 use Rattle.panel.specs.declared.Refusal.{Refusal}
 use Rattle.panel.specs.declared.Refusal.TheVariants.{BadHex, BadFrame}
 use Rattle.fieldset.specs.Tables.{at}
 use Rattle.panel.specs.Answers.{refusal_bytes}
-use Rattle.panel.specs.Commands.{has_bit6, any_of, opening, adding, removing, touching, planning, changing}
+use Rattle.panel.specs.Commands.{has_bit6, any_of, opening, adding, removing, touching, planning, changing, parking, unparking, dropping}
 use Rattle.values.specs.Words.{value_of}
 use Rattle.formulas.specs.declared.Formula.{Formula}
 use Rattle.formulas.specs.declared.Formula.TheVariants.{None, Ratio, Sum}
@@ -15,7 +15,7 @@ use Rattle.sheet.specs.Commands as sheet
 use Rattle.sheet.specs.Commands.{Answer, solving, entering, relating, performed}
 use Rattle.hexadecimal.specs.Hex.{is_hex, offset_of, bytes_of}
 use Rattle.frames.specs.declared.Command.{Command}
-use Rattle.frames.specs.declared.Command.TheVariants.{Open, Add, Remove, Touch, Plan, Change, Enter, Relate, Refused}
+use Rattle.frames.specs.declared.Command.TheVariants.{Open, Add, Drop, Touch, Plan, Change, Enter, Relate, Unpark, Refused}
 use Rattle.frames.specs.Texts.{Answered, LineAnswer, state_after, output_of}
 
 -- ---- frames
@@ -28,9 +28,13 @@ fits_formula form n = cond (eqb form 0x01) (eqb n 7) (cond (eqb form 0x02) (eqb 
 abbrev pub fits_link : ℕ → Bool
 fits_link n = leb (3 + 1) n && leb n (3 + 8)
 
+-- whether n bytes, whose third is `form`, fit kind 09: "09 id 01 parks .., 09 id 00 brings back", "BadFrame for another last byte" (document 02, request 8)
+abbrev pub fits_switch : ℕ → ℕ → Bool
+fits_switch form n = eqb n 3 && leb form 1
+
 -- whether n bytes, whose third is `form`, fit the kind: "01 n: open", "02 id level, then 1 to 8 field bytes: add", "03 id: remove", "04 f: touch", "05:
 -- plan"; "06, with the body of frame 02" (document 02, request 5); "07 f and four bytes", and 08 with a formula: "Another length or formula kind is a
--- BadFrame" (request 2)
+-- BadFrame" (request 2); 09, which parks or brings back (request 8)
 unfoldable pub fits_kind : ℕ → ℕ → ℕ → Bool
 fits_kind kind form n =
     cond (eqb kind 0x01) (eqb n 2)
@@ -41,7 +45,8 @@ fits_kind kind form n =
     (cond (eqb kind 0x06) (fits_link n)
     (cond (eqb kind 0x07) (eqb n 6)
     (cond (eqb kind 0x08) (fits_formula form n)
-    false)))))))
+    (cond (eqb kind 0x09) (fits_switch form n)
+    false))))))))
 
 -- the kinds that have field bytes
 abbrev pub has_fields : ℕ → Bool
@@ -98,30 +103,34 @@ command_of bytes =
     (cond (eqb (at bytes 0) 0x06) (some (solving (changing (at bytes 1) (at bytes 2) (drop 3 bytes))))
     (cond (eqb (at bytes 0) 0x07) (some (entering (at bytes 1) (value_of (word_of (drop 2 bytes)))))
     (cond (eqb (at bytes 0) 0x08) (some (relating (at bytes 1) (formula_in (drop 2 bytes))))
-    none)))))))
+    (cond (eqb (at bytes 0) 0x09) (some (solving (cond (eqb (at bytes 2) 0x01) (parking (at bytes 1)) (unparking (at bytes 1)))))
+    none))))))))
 
 -- a line's command as the code has it, by its number and values, with what the frame has behind its third byte
 abbrev pub command_bytes : Command → List ℕ → List ℕ
 command_bytes (Open n) rest = 0x01 ∷ n ∷ []
 command_bytes (Add id level) rest = 0x02 ∷ id ∷ level ∷ rest
-command_bytes (Remove id) rest = 0x03 ∷ id ∷ []
+command_bytes (Drop id false) rest = 0x03 ∷ id ∷ []
+command_bytes (Drop id true) rest = 0x09 ∷ id ∷ 0x01 ∷ []
 command_bytes (Touch f) rest = 0x04 ∷ f ∷ []
 command_bytes Plan rest = 0x05 ∷ []
 command_bytes (Change id level) rest = 0x06 ∷ id ∷ level ∷ rest
 command_bytes (Enter f b) rest = 0x07 ∷ f ∷ b ∷ rest
 command_bytes (Relate id form) rest = 0x08 ∷ id ∷ form ∷ rest
+command_bytes (Unpark id) rest = 0x09 ∷ id ∷ 0x00 ∷ []
 command_bytes (Refused r) rest = 0xFF ∷ refusal_bytes r
 
 -- the number of the link that a command names; 0 where it names none
 abbrev pub number_of : Command → ℕ
 number_of (Open n) = 0
 number_of (Add id level) = id % 128
-number_of (Remove id) = id % 128
+number_of (Drop id park) = id % 128
 number_of (Touch f) = 0
 number_of Plan = 0
 number_of (Change id level) = id % 128
 number_of (Enter f b) = 0
 number_of (Relate id form) = id % 128
+number_of (Unpark id) = id % 128
 number_of (Refused r) = 0
 
 -- ---- answers
@@ -134,12 +143,13 @@ answer_to a = record { state = a.sheet; reply = a.reply }
 abbrev pub command_answer : Sheet → Command → List ℕ → Answered Sheet
 command_answer s (Open n) rest = answer_to (performed s (solving (opening n)))
 command_answer s (Add id level) rest = answer_to (performed s (solving (adding id level rest)))
-command_answer s (Remove id) rest = answer_to (performed s (solving (removing id)))
+command_answer s (Drop id park) rest = answer_to (performed s (solving (dropping park id)))
 command_answer s (Touch f) rest = answer_to (performed s (solving (touching f)))
 command_answer s Plan rest = answer_to (performed s (solving planning))
 command_answer s (Change id level) rest = answer_to (performed s (solving (changing id level rest)))
 command_answer s (Enter f b) rest = answer_to (performed s (entering f (value_of (word_of (b ∷ rest)))))
 command_answer s (Relate id form) rest = answer_to (performed s (relating id (formula_in (form ∷ rest))))
+command_answer s (Unpark id) rest = answer_to (performed s (solving (unparking id)))
 command_answer s (Refused r) rest = record { state = s; reply = 0xFF ∷ refusal_bytes r }
 
 -- what a command is answered; no command "leaves the panel as it stood", and its reply is the refusal

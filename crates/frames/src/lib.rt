@@ -1,12 +1,12 @@
 // Lines of hexadecimal, one frame a line; the length of a text of them.
 #![tactic(auto)]
 
-ghost use Rattle.std.specs.Prelude.{◌≡◌, ◌≤◌, ◌<◌, min, length, take, drop, [], ◌∷◌};
+ghost use Rattle.std.specs.Prelude.{◌≡◌, ℕ, ◌≤◌, ◌<◌, min, length, take, drop, List, [], ◌∷◌};
 ghost use Rattle.panel.specs.Commands.{has_bit6, any_of};
 ghost use Rattle.hexadecimal.specs.Hex.{frame_room};
 ghost use Rattle.fieldset.specs.Tables.{at};
 ghost use Rattle.values.specs.Words.{value_of};
-ghost use Rattle.frames.specs.Frames.{fits_formula, fits_link, fits_kind, has_fields, checked_frame, pair_of, word_of, formula_in, formula_bytes, command_bytes, number_of};
+ghost use Rattle.frames.specs.Frames.{fits_formula, fits_link, fits_switch, fits_kind, has_fields, checked_frame, pair_of, word_of, formula_in, formula_bytes, command_bytes, number_of};
 ghost use Rattle.frames.specs.Texts.{is_too_long};
 ghost use Rattle.frames.specs.Reading.{tail_of, LineRead};
 
@@ -30,7 +30,8 @@ pub fn is_too_long(text: &[u8]) -> bool
 pub enum Command {
     Open(u8),
     Add(u8, u8),
-    Remove(u8),
+    // a link's number; whether the link is parked, or else removed
+    Drop(u8, bool),
     Touch(u8),
     Plan,
     Change(u8, u8),
@@ -38,6 +39,8 @@ pub enum Command {
     Enter(u8, u8),
     // a link's number, and the kind of the formula
     Relate(u8, u8),
+    // the number of a link that is brought back
+    Unpark(u8),
     Refused(Refusal),
 }
 
@@ -67,6 +70,13 @@ fn fits_link(n: usize) -> bool
     4 <= n && n <= 11
 }
 
+// Whether n bytes fit kind 09, whose third byte says whether the link is parked.
+fn fits_switch(form: u8, n: usize) -> bool
+    ensures { result ≡ fits_switch form n }
+{
+    n == 3 && form <= 1
+}
+
 // Whether n bytes fit the kind of a frame, whose third byte is `form`.
 fn fits_kind(kind: u8, form: u8, n: usize) -> bool
     ensures { result ≡ fits_kind kind form n }
@@ -80,6 +90,7 @@ fn fits_kind(kind: u8, form: u8, n: usize) -> bool
         0x06 => fits_link(n),
         0x07 => n == 6,
         0x08 => fits_formula(form, n),
+        0x09 => fits_switch(form, n),
         _ => false,
     }
 }
@@ -106,6 +117,18 @@ fn has_bit6(frame: &[u8; hexadecimal::FRAME_ROOM], n: usize) -> bool
     false
 }
 
+// The command of kind 09: the link is parked, or brought back.
+fn switch(id: u8, form: u8) -> Command
+    requires { form ≤ 1 }
+    ensures { (rest : List ℕ) → command_bytes result rest ≡ 0x09 ∷ id ∷ form ∷ [] }
+{
+    if form == 1 {
+        Command::Drop(id, true)
+    } else {
+        Command::Unpark(id)
+    }
+}
+
 // The command of the first n bytes of a buffer. A frame is shorter than the buffer: where n is its whole length, they are no frame.
 pub fn read_frame(frame: &[u8; hexadecimal::FRAME_ROOM], n: usize) -> Command
     requires { length frame.now ≡ frame_room }
@@ -123,12 +146,13 @@ pub fn read_frame(frame: &[u8; hexadecimal::FRAME_ROOM], n: usize) -> Command
     match kind {
         0x01 => Command::Open(frame[1]),
         0x02 => Command::Add(frame[1], frame[2]),
-        0x03 => Command::Remove(frame[1]),
+        0x03 => Command::Drop(frame[1], false),
         0x04 => Command::Touch(frame[1]),
         0x05 => Command::Plan,
         0x06 => Command::Change(frame[1], frame[2]),
         0x07 => Command::Enter(frame[1], frame[2]),
         0x08 => Command::Relate(frame[1], frame[2]),
+        0x09 => switch(frame[1], frame[2]),
         _ => Command::Refused(Refusal::BadFrame),
     }
 }
@@ -243,12 +267,13 @@ pub fn number_of(command: Command) -> u8
     match command {
         Command::Open(_) => 0,
         Command::Add(id, _) => id % 128,
-        Command::Remove(id) => id % 128,
+        Command::Drop(id, _) => id % 128,
         Command::Touch(_) => 0,
         Command::Plan => 0,
         Command::Change(id, _) => id % 128,
         Command::Enter(_, _) => 0,
         Command::Relate(id, _) => id % 128,
+        Command::Unpark(id) => id % 128,
         Command::Refused(_) => 0,
     }
 }

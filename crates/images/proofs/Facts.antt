@@ -19,7 +19,7 @@ use Rattle.fieldset.proofs.Tests.{and_left, and_right, and_both, or_left}
 use Rattle.fieldset.proofs.Numbers.{clash, below_suc}
 use Rattle.fieldset.proofs.Fields.{within_true, within_member, member_below}
 use Rattle.panel.specs.declared.Standing.{Standing}
-use Rattle.panel.specs.declared.Standing.TheVariants.{Waiting, Holding}
+use Rattle.panel.specs.declared.Standing.TheVariants.{Waiting, Holding, Parked}
 use Rattle.panel.specs.declared.Link.{Link}
 use Rattle.panel.specs.Items.{no_link, link_at, is_waiting}
 use Rattle.panel.specs.Legal.{Formed}
@@ -32,6 +32,7 @@ use Rattle.sheet.specs.declared.Sheet.{Sheet}
 use Rattle.sheet.specs.Sheets.{formula_at}
 use Rattle.sheet.specs.Legal.{Fits}
 use Rattle.images.specs.Images.{field_at}
+use Rattle.images.specs.Entries.{standing_of, holds_nothing}
 use Rattle.images.specs.Forms.{every, is_whole, is_size, is_place, holds, is_standing, used_test, fits_test, is_link, is_setter, is_none, is_rule, is_value, is_formed}
 
 pub record HoldFacts (setter : List ℕ) (i outputs f : ℕ) : Type 0 where
@@ -95,6 +96,7 @@ zero_value (negsuc a) h e = absurd (omega (arith, h.sfits))
 waits : (s : Standing) → is_waiting s ≡ true → s ≡ Waiting
 waits Waiting e = refl
 waits (Holding f) e = absurd (false≢true e)
+waits Parked e = absurd (false≢true e)
 
 link_same : (c o v : ℕ) (u : Bool) (s : Standing) → c ≡ 0 → o ≡ 0 → v ≡ 0 → u ≡ false → s ≡ Waiting
     → ◌≡◌ {A = Link} (record { covered = c; outputs = o; level = v; used = u; standing = s }) no_link
@@ -178,13 +180,23 @@ facts_standing setter i o Waiting h = refl
 facts_standing setter i o (Holding f) h =
     let H = h f refl in
     and_both _ _ (lt-ltb f 64 H.field) (and_both _ _ H.output (eq-eqb _ i H.sets))
+facts_standing setter i o Parked h = refl
 
 holds_it : (s : Standing) (f : ℕ) → holds s f ≡ true → s ≡ Holding f
 holds_it Waiting f e = absurd (false≢true e)
 holds_it (Holding g) f e = ap Holding (eqb-true g f e)
+holds_it Parked f e = absurd (false≢true e)
 
 it_holds : (s : Standing) (f : ℕ) → s ≡ Holding f → holds s f ≡ true
 it_holds s f e = rw e (eq-eqb f f refl)
+
+-- the byte of a held field is no other standing
+module _ (f : ℕ) (l : f < 64) where
+  pub field_held : holds_nothing f ≡ false
+  field_held = rw (ne_eqb f 0xFF (λ e. omega arith), ne_eqb f 0xFE (λ e. omega arith))
+
+  pub field_standing : standing_of f ≡ Holding f
+  field_standing = rw (ne_eqb f 0xFF (λ e. omega arith), ne_eqb f 0xFE (λ e. omega arith))
 
 -- ---- formulas
 

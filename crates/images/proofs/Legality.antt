@@ -15,12 +15,12 @@ use Rattle.fieldset.specs.Tables.{at}
 use Rattle.fieldset.proofs.Tests.{or_left, or_right}
 use Rattle.fieldset.proofs.Numbers.{clash, lowest_is, Lowest, any_false, any_none}
 use Rattle.panel.specs.declared.Standing.{Standing}
-use Rattle.panel.specs.declared.Standing.TheVariants.{Waiting, Holding}
+use Rattle.panel.specs.declared.Standing.TheVariants.{Waiting, Holding, Parked}
 use Rattle.panel.specs.declared.Panel.{Panel}
 use Rattle.panel.specs.Items.{link, link_at, is_in_force, is_waiting, waits}
 use Rattle.panel.specs.Solution.{is_looped, least_blocked}
 use Rattle.panel.specs.Legal.{Legal}
-use Rattle.panel.proofs.InForce.{force_used, used_force}
+use Rattle.panel.proofs.InForce.{force_used, holding_force}
 use Rattle.values.specs.Limits.{value_at, outside}
 use Rattle.formulas.specs.declared.Formula.TheVariants.{None}
 use Rattle.formulas.specs.declared.Rule.{Rule}
@@ -100,7 +100,7 @@ module _ (s : Sheet) (e : is_formed s ≡ true) where
     place_past = F.place_past;
     setter_past = past;
     setter_small = F.setter_small;
-    setter_in_force = λ f l h. used_force (link_at s.panel.links (at s.panel.setter f)) (F.setter_sets f l h).used;
+    setter_in_force = λ f l h. let S = F.setter_sets f l h in holding_force (link_at s.panel.links (at s.panel.setter f)) f S.used S.holding;
     setter_holds = λ f l h. (F.setter_sets f l h).holding;
     holding_field = inside;
     holding_output = λ i f l h. (F.holding i f l h).output;
@@ -176,3 +176,4 @@ module _ (p : Panel) where
           go true v false u st w = refl
           go true v true u Waiting w = absurd (L.required i l u (eqb-true (link_at p.links i).level 0 v) w)
           go true v true u (Holding f) w = refl
+          go true v true u Parked w = refl

@@ -9,13 +9,13 @@ use lib.Dec.{eqb}
 use lib.IntN.{ℤ, pos}
 use lib.ListN.{take, set, replicate}
 use lib.Seq.{take_all}
-use borrow.Author.Tests.{ne_eqb, eqb-true}
+use borrow.Author.Tests.{eqb-true}
 use Rattle.fieldset.specs.Tables.{at, tabulate}
 use Rattle.fieldset.specs.Fields.{size}
 use Rattle.fieldset.proofs.Tables.{length_tabulate}
 use Rattle.fieldset.proofs.Numbers.{clash, Lowest, lowest_is}
 use Rattle.panel.specs.declared.Standing.{Standing}
-use Rattle.panel.specs.declared.Standing.TheVariants.{Waiting, Holding}
+use Rattle.panel.specs.declared.Standing.TheVariants.{Waiting, Holding, Parked}
 use Rattle.panel.specs.declared.Link.{Link}
 use Rattle.panel.specs.Items.{no_link, link_at}
 use Rattle.panel.specs.Panels.{opened}
@@ -31,7 +31,7 @@ use Rattle.sheet.specs.Legal.{Fits}
 use Rattle.fieldset.proofs.Lists.{all_append}
 use Rattle.sheet.specs.declared.Sheet.{Sheet}
 use Rattle.images.specs.Images.{gather, field_bytes, standing_byte, link_frame, link_piece, formula_frames, formula_piece, four_bytes, value_piece, field_at, stay_order, frames_of, image_of}
-use Rattle.images.specs.Entries.{standing_of, placed, entered, folded, entered_all, candidate}
+use Rattle.images.specs.Entries.{standing_of, holds_nothing, placed, entered, folded, entered_all, candidate}
 use Rattle.sheet.specs.Sheets.{unopened, formula_at}
 use Rattle.frames.specs.Frames.{word_of}
 use Rattle.images.specs.Forms.{is_formed}
@@ -39,7 +39,7 @@ use Rattle.images.proofs.Lines.{Bytes, Frames, all_gather, frames_written, formu
 use Rattle.images.proofs.Folds.{folded_append, folded_gather}
 use Rattle.images.proofs.FieldBytes.{covered_back, outputs_back, field_bytes_lem, field_count}
 use Rattle.images.proofs.Cuts.{cut, cut_none, cut_all, cut_keep, cut_more, cut_setter, setter_none, setter_all, setter_keep, setter_more, places_back}
-use Rattle.images.proofs.Facts.{Facts, zero_value, formed_facts}
+use Rattle.images.proofs.Facts.{Facts, field_held, field_standing, zero_value, formed_facts}
 
 -- ---- entering many lines
 
@@ -92,16 +92,18 @@ module _ (s : Sheet) (F : Facts s) where
 
   -- the setters after link i
   setters_on : (i : ℕ) → i < 128 → (st : Standing) → (link_at links i).standing ≡ st
-      → cond (eqb (standing_byte st) 0xFF) (cut_setter setter i) (set (cut_setter setter i) (standing_byte st) i) ≡ cut_setter setter (suc i)
+      → cond (holds_nothing (standing_byte st)) (cut_setter setter i) (set (cut_setter setter i) (standing_byte st) i) ≡ cut_setter setter (suc i)
   setters_on i l Waiting e = setter_keep setter i (λ f h. not_set i f l h (λ u q. let z : ◌≡◌ {A = ℕ} 0 1 = cc in omega arith))
   setters_on i l (Holding f) e =
       let H = F.holding i f l e in
-      rw (ne_eqb f 255 (λ q. omega (arith, H.field)))
+      rw (field_held f H.field)
       (setter_more setter i f H.field H.sets (λ g h d. not_set i g l h (λ u q. let z : g ≡ f = cc in d z)))
+  setters_on i l Parked e = setter_keep setter i (λ f h. not_set i f l h (λ u q. let z : ◌≡◌ {A = ℕ} 0 1 = cc in omega arith))
 
   standing_back : (i : ℕ) → i < 128 → (st : Standing) → (link_at links i).standing ≡ st → standing_of (standing_byte st) ≡ st
   standing_back i l Waiting e = refl
-  standing_back i l (Holding f) e = rw (ne_eqb f 255 (λ q. omega (arith, (F.holding i f l e).field)))
+  standing_back i l (Holding f) e = field_standing f (F.holding i f l e).field
+  standing_back i l Parked e = refl
 
   link_on : (place : List ℕ) (r : List Rule) (v : List ℤ) (i : ℕ) → i < 128
       → entered_all (stage n (cut no_link links 128 i) place (cut_setter setter i) r v) (link_piece links i)
@@ -234,6 +236,7 @@ module _ (s : Sheet) (F : Facts s) where
       standing_small : (st : Standing) → (link_at links i).standing ≡ st → standing_byte st < 256
       standing_small Waiting e = omega arith
       standing_small (Holding f) e = omega (arith, (F.holding i f l e).field)
+      standing_small Parked e = omega arith
 
       go : (b : Bool) → (link_at links i).used ≡ b → Frames (cond b (link_frame i (link_at links i) ∷ []) [])
       go true u =

@@ -1,9 +1,9 @@
 -- The sheet that the lines of a text enter, whatever the text is: each line enters what it says. Of an order at most 64 fields count, of a link at most
 -- 8; a number past a table's end enters nothing. Which texts are taken, `Reading` says: those that this sheet has.
-use Rattle.std.specs.Prelude.{ℕ, suc, true, cond, List, [], ◌∷◌, map, eqb, take, drop, set}
+use Rattle.std.specs.Prelude.{ℕ, suc, Bool, true, ◌||◌, cond, List, [], ◌∷◌, map, eqb, take, drop, set}
 use Rattle.fieldset.specs.Tables.{at}
 use Rattle.panel.specs.declared.Standing.{Standing}
-use Rattle.panel.specs.declared.Standing.TheVariants.{Waiting, Holding}
+use Rattle.panel.specs.declared.Standing.TheVariants.{Waiting, Holding, Parked}
 use Rattle.panel.specs.declared.Panel.{Panel}
 use Rattle.panel.specs.Commands.{covered_in, outputs_in}
 use Rattle.values.specs.Words.{value_of}
@@ -27,7 +27,11 @@ with_order p fields = record { size = p.size; links = p.links; place = placed p.
 
 -- a line 0C enters a link, and it as the setter of the field that it holds
 abbrev pub standing_of : ℕ → Standing
-standing_of b = cond (eqb b 0xFF) Waiting (Holding b)
+standing_of b = cond (eqb b 0xFF) Waiting (cond (eqb b 0xFE) Parked (Holding b))
+
+-- a standing that is no held field
+abbrev pub holds_nothing : ℕ → Bool
+holds_nothing b = eqb b 0xFF || eqb b 0xFE
 
 abbrev pub with_link_line : Panel → ℕ → ℕ → ℕ → List ℕ → Panel
 with_link_line p i level standing fields =
@@ -37,7 +41,7 @@ with_link_line p i level standing fields =
           set p.links i
           (record { covered = covered_in fields; outputs = outputs_in fields; level = level; used = true; standing = standing_of standing });
       place = p.place;
-      setter = cond (eqb standing 0xFF) p.setter (set p.setter standing i);
+      setter = cond (holds_nothing standing) p.setter (set p.setter standing i);
     }
 
 -- a line's bytes enter what they say, by their kind; any other enters nothing

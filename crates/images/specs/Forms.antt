@@ -3,7 +3,7 @@ use Rattle.std.specs.Prelude.{ℕ, zero, suc, ◌^◌, Bool, true, false, not, �
 use Rattle.fieldset.specs.Tables.{at}
 use Rattle.fieldset.specs.Fields.{member, size, within, below}
 use Rattle.panel.specs.declared.Standing.{Standing}
-use Rattle.panel.specs.declared.Standing.TheVariants.{Waiting, Holding}
+use Rattle.panel.specs.declared.Standing.TheVariants.{Waiting, Holding, Parked}
 use Rattle.panel.specs.declared.Link.{Link}
 use Rattle.panel.specs.Items.{link_at, is_waiting}
 use Rattle.values.specs.Limits.{value_at, outside}
@@ -38,6 +38,7 @@ is_place place n f = cond (ltb f n) (ltb (at place f) n && eqb (field_at place n
 abbrev pub is_standing : List ℕ → ℕ → ℕ → Standing → Bool
 is_standing setter i outputs Waiting = true
 is_standing setter i outputs (Holding f) = ltb f 64 && (member outputs f && eqb (at setter f) i)
+is_standing setter i outputs Parked = true
 
 -- "numbers that .. Add .. would refuse"; and a set of fields has 64 bits
 abbrev pub fits_test : Link → Bool
@@ -57,6 +58,7 @@ is_link n setter i l = is_standing setter i l.outputs l.standing && cond l.used 
 abbrev pub holds : Standing → ℕ → Bool
 holds Waiting f = false
 holds (Holding g) f = eqb g f
+holds Parked f = false
 
 -- a field's setter is its stay, or a link in use that holds it
 unfoldable pub is_setter : List Link → List ℕ → ℕ → Bool

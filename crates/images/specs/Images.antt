@@ -1,10 +1,10 @@
--- The saved text of a panel (document 02, request 7). Quotations are of that request, or of document 01 where that is said.
+-- The saved text of a panel (document 02, request 7). Quotations are of that request, or of document 01 or another request where that is said.
 use Rattle.std.specs.Prelude.{ℕ, zero, suc, ◌+◌, ◌/◌, ◌%◌, cond, List, [], ◌∷◌, ◌++◌, eqb, ℤ}
 use Rattle.fieldset.specs.Numbers.{lowest}
 use Rattle.fieldset.specs.Tables.{at, tabulate}
 use Rattle.fieldset.specs.Fields.{member}
 use Rattle.panel.specs.declared.Standing.{Standing}
-use Rattle.panel.specs.declared.Standing.TheVariants.{Waiting, Holding}
+use Rattle.panel.specs.declared.Standing.TheVariants.{Waiting, Holding, Parked}
 use Rattle.panel.specs.declared.Link.{Link}
 use Rattle.panel.specs.Items.{link_at}
 use Rattle.values.specs.Limits.{value_at}
@@ -45,10 +45,11 @@ field_piece covered outputs u = cond (member covered u) (field_byte outputs u �
 unfoldable pub field_bytes : ℕ → ℕ → List ℕ
 field_bytes covered outputs = gather (field_piece covered outputs) 64
 
--- "standing being the held field or FF"
+-- "standing being the held field or FF"; of a parked link "standing FE" (request 8)
 abbrev pub standing_byte : Standing → ℕ
 standing_byte Waiting = 0xFF
 standing_byte (Holding f) = f
+standing_byte Parked = 0xFE
 
 -- "0C id level standing and its field bytes"
 abbrev pub link_frame : ℕ → Link → List ℕ

@@ -10,11 +10,11 @@ use Rattle.strength.specs.Strength.{greatest, strength, lowest_at, strongest, pa
 use Rattle.ordering.specs.Order.{next, following, order, has_loop}
 use Rattle.downstream.specs.Downstream.{readers, spreading, spread}
 use Rattle.panel.specs.Items.{setter_of, is_in_force, items_of}
-use Rattle.panel.specs.Panels.{opened, dropped, to_front}
+use Rattle.panel.specs.Panels.{opened, replaced, to_front}
 use Rattle.panel.specs.Solution.{strength_of, is_blocked, path_for, reversed, least, least_blocked, plan_of, is_looped, rows_of}
 use Rattle.panel.specs.Moved.{turned, redrawn, moved}
 use Rattle.panel.specs.Answers.{is_refusal}
-use Rattle.panel.specs.Steps.{reverse_step, enter_step, remove_step, touch_step, plan_step, change_step}
+use Rattle.panel.specs.Steps.{reverse_step, enter_step, remove_step, touch_step, plan_step, renew_step, change_step, park_step, unpark_step}
 use Rattle.panel.specs.Commands.{any_of, fields_in, is_rising, are_field_bytes, checked, check_reply, touching, performed}
 use Rattle.values.specs.Ratios.{rounded, scaled}
 use Rattle.values.specs.Sums.{sumℤ, total}
@@ -41,18 +41,18 @@ items_all = refl
 pub items_hold : Hold items
 unfolding characters items output_of output written tally_after replies refusal_of lines_of line_answer command_of frame_of checked_frame is_frame fits_kind fits_formula
     tally_bytes three_bytes tallied more line_of hex_of bytes_of is_hex offset_of are_digits char_of digit_of is_digit checked are_field_bytes is_rising fields_in any_of
-    plan_step touch_step change_step remove_step enter_step reverse_step rows_of is_looped plan_of least_blocked least reversed path_for is_blocked strength_of moved
+    plan_step touch_step unpark_step park_step change_step renew_step remove_step enter_step reverse_step rows_of is_looped plan_of least_blocked least reversed path_for is_blocked strength_of moved
     redrawn turned spread spreading readers union meets
-    to_front dropped opened items_of is_in_force setter_of tabulate has_loop order following next path strongest lowest_at strength greatest within only
+    to_front replaced opened items_of is_in_force setter_of tabulate has_loop order following next path strongest lowest_at strength greatest within only
     without with set_of member lowest any count size
 items_hold = refl
 
 pub further_hold : Hold further
 unfolding characters further output_of output written tally_after replies refusal_of lines_of line_answer command_of frame_of checked_frame is_frame fits_kind fits_formula
     tally_bytes three_bytes tallied more line_of hex_of bytes_of is_hex offset_of are_digits char_of digit_of is_digit checked are_field_bytes is_rising fields_in any_of
-    plan_step touch_step change_step remove_step enter_step reverse_step rows_of is_looped plan_of least_blocked least reversed path_for is_blocked strength_of moved
+    plan_step touch_step unpark_step park_step change_step renew_step remove_step enter_step reverse_step rows_of is_looped plan_of least_blocked least reversed path_for is_blocked strength_of moved
     redrawn turned spread spreading readers union meets
-    to_front dropped opened items_of is_in_force setter_of tabulate has_loop order following next path strongest lowest_at strength greatest within only
+    to_front replaced opened items_of is_in_force setter_of tabulate has_loop order following next path strongest lowest_at strength greatest within only
     without with set_of member lowest any count
     entered sheetRedrawn revalued check_reply accepted value_of run computed scaled rounded total sumℤ lowest_of size
 further_hold = refl
@@ -60,9 +60,9 @@ further_hold = refl
 pub values_hold : HoldValues worked
 unfolding characters worked state_after lines_of line_answer command_of frame_of checked_frame is_frame fits_kind fits_formula
     bytes_of is_hex offset_of are_digits digit_of is_digit checked are_field_bytes is_rising fields_in any_of
-    plan_step touch_step change_step remove_step enter_step reverse_step rows_of is_looped plan_of least_blocked least reversed path_for is_blocked strength_of moved
+    plan_step touch_step unpark_step park_step change_step renew_step remove_step enter_step reverse_step rows_of is_looped plan_of least_blocked least reversed path_for is_blocked strength_of moved
     redrawn turned spread spreading readers union meets
-    to_front dropped opened items_of is_in_force setter_of tabulate has_loop order following next path strongest lowest_at strength greatest within only
+    to_front replaced opened items_of is_in_force setter_of tabulate has_loop order following next path strongest lowest_at strength greatest within only
     without with set_of member lowest any count
     entered sheetRedrawn revalued check_reply accepted value_of run computed scaled rounded total sumℤ lowest_of size
 values_hold = refl

@@ -124,4 +124,39 @@ further =
     ∷ item "0102\n0200000081\n070000000005\n070000000005\n" "0000\n0001\n0001\n0000\nEE00000400000400000000\n"
     -- both: fields 0 and 1 get another setter, 2 reads 1, and 1 another value
     ∷ item "0103\n0200008081\n0201000182\n070100000007\n" "0000\n0001\n0001\n0003\nEE00000400000400000000\n"
+    -- kind 09 (document 02, request 8): "09 id 01 parks as Remove would, 09 id 00 brings back as Add would; parking a parked link or bringing back another
+    -- one replies 0"
+    ∷ item "0101\n02000580\n090000\n090001\n05\n090001\n090000\n05\n090000\n"
+    "0000\n0001\n0000\n0001\n0001008010\n0000\n0001\n0001000005\n0000\nEE00000900000900000000\n"
+    -- "as Remove would": link 1 of level 4 takes the field, not link 2; link 0, brought back, takes it again
+    ∷ item "0101\n02000380\n02010480\n02020580\n090001\n05\n090000\n05\n"
+    "0000\n0001\n0000\n0000\n0001\n0001000104\n0001\n0001000003\nEE00000800000800000000\n"
+    -- a link that waits is parked: moved 0; "as Add would": one that is not blocked waits
+    ∷ item "0101\n02000580\n02010580\n090101\n090001\n05\n090100\n090000\n05\n"
+    "0000\n0001\n0000\n0000\n0001\n0001008010\n0001\n0000\n0001000105\nEE00000900000900000000\n"
+    -- "never blocked": the removal of link 1 leaves the field to its stay, though link 0 is stronger
+    ∷ item "0101\n02000580\n090001\n02010780\n0301\n05\n" "0000\n0001\n0001\n0001\n0001\n0001008010\nEE00000600000600000000\n"
+    -- the count: field 1 reads field 0
+    ∷ item "0102\n0200000081\n02010380\n090101\n090100\n" "0000\n0001\n0002\n0002\n0002\nEE00000500000500000000\n"
+    -- "does not count as in force": beside a parked required link there is no Conflict; brought back it meets it, and stays parked
+    ∷ item "0102\n02000081\n090001\n02010081\n090000\n090001\n05\n"
+    "0000\n0001\n0001\n0001\nFF0A\n0000\n0002008010010100\nEE0000070000060000010A\n"
+    -- Loop of a parking, which leaves link 2 its field; Loop of a bringing back
+    ∷ item "0103\n020000808102\n0201000082\n02020580\n0401\n090201\n05\n"
+    "0000\n0001\n0002\n0003\n0000\nFF0B\n0003000205020100010005\nEE0000070000060000010B\n"
+    ∷ item "0102\n0201008001\n090101\n0200000081\n090100\n05\n" "0000\n0001\n0001\n0001\nFF0B\n0002008010010000\nEE0000060000050000010B\n"
+    -- "its number stays taken"; "Remove on a parked link drops it and replies 0"
+    ∷ item "0102\n02000081\n090001\n02000080\n0300\n0300\n090000\n090001\n02000080\n"
+    "0000\n0001\n0001\nFF08\n0000\nFF09\nFF09\nFF09\n0001\nEE00000900000500000409\n"
+    -- "Frame 06 on a parked link alters it and leaves it parked": the level; and where link 1 holds the field no Conflict, until it is brought back
+    ∷ item "0101\n02000580\n090001\n06000380\n05\n02010480\n090000\n05\n"
+    "0000\n0001\n0001\n0000\n0001008010\n0001\n0001\n0001000003\nEE00000800000800000000\n"
+    ∷ item "0102\n02000081\n090001\n02010081\n06001081\n06000082\n06000081\n090000\n06000080\n090000\n05\n"
+    "0000\n0001\n0001\n0001\nFF06\nFF07\n0000\nFF0A\n0000\n0001\n0002000000010100\nEE00000B0000080000030A\n"
+    -- "with its level, covered fields and outputs": link 0 reads field 1, which it does not set where it is brought back, nor where it was altered
+    ∷ item "0102\n0200008001\n090001\n090000\n05\n090001\n0600058001\n090000\n05\n"
+    "0000\n0001\n0001\n0001\n0002018011000000\n0001\n0000\n0001\n0002018011000005\nEE00000900000900000000\n"
+    -- "BadFrame for another last byte", and for another length, before NotOpen; NotOpen before BadLink, BadLink before NoSuchLink
+    ∷ item "0900\n09\n090002\n0900FF\n09000100\n098001\n090000\n0102\n098001\n098000\n090001\n090000\n"
+    "FF02\nFF02\nFF02\nFF02\nFF02\nFF04\nFF04\n0000\nFF06\nFF06\nFF09\nFF09\nEE00000C00000100000B09\n"
     ∷ []

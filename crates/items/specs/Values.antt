@@ -60,4 +60,11 @@ worked =
     -- "a refusal changes nothing": link 0 still sets field 1, by its formula, after a Conflict (link 1 holds field 2) and after a Loop (link 1 reads 1)
     ∷ valued "0103\n0200000081\n02010082\n08000100020001\n0600000082\n070000000004\n" (pos 4 ∷ pos 8 ∷ pos 0 ∷ [])
     ∷ valued "0103\n0200000081\n0201000182\n08000100020001\n0600008102\n070000000004\n" (pos 4 ∷ pos 8 ∷ pos 0 ∷ [])
+    -- kind 09 (request 8): a parked link "holds nothing", so its formula is not used; "its formula kept" for when it is brought back
+    ∷ valued "0102\n0200000081\n08000100020001\n090001\n070000000005\n070100000007\n" (pos 5 ∷ pos 7 ∷ [])
+    ∷ valued "0102\n0200000081\n08000100020001\n090001\n090000\n070000000005\n" (pos 5 ∷ pos 10 ∷ [])
+    -- a parked link can be given a formula; frame 06 keeps it where the covered fields are the same, and drops it else; removal drops it
+    ∷ valued "0102\n0200000081\n090001\n08000100020001\n0600050081\n090000\n070000000004\n" (pos 4 ∷ pos 8 ∷ [])
+    ∷ valued "0103\n0200000081\n08000100020001\n090001\n0600008102\n0600000081\n090000\n070000000004\n" (pos 4 ∷ pos 0 ∷ pos 0 ∷ [])
+    ∷ valued "0102\n0200000081\n08000100020001\n090001\n0300\n0200000081\n070000000005\n" (pos 5 ∷ pos 0 ∷ [])
     ∷ []

@@ -1,5 +1,5 @@
--- The image of a sheet: its text is the sheet's text (`image_text`), and of a formed sheet it is well-formed (`image_formed`). What it lists number by
--- number has rising numbers, and each line's facts are those of the sheet at that number. Assumes nothing.
+-- The image of a sheet in a version: its text is the sheet's text (`image_text`), and of a formed sheet it is well-formed (`image_formed`). What it lists
+-- number by number has rising numbers, and each line's facts are those of the sheet at that number. Assumes nothing.
 use Prim.Native.Nat.{ℕ, ◌+◌, ◌/◌, ◌%◌, ◌≤◌, ◌<◌}
 use mathlib.Core.Path.{◌≡◌, refl, sym, ap, ◌∙◌}
 use mathlib.Core.Bool.{Bool, true, false, not, ◌&&◌, cond}
@@ -19,7 +19,7 @@ use Rattle.fieldset.proofs.Tables.{length_tabulate}
 use Rattle.fieldset.proofs.Lists.{all_in, passing_in, passing_map, passing_distinct, distinct_map, whole_in}
 use Rattle.fieldset.proofs.Fields.{some_member}
 use Rattle.panel.specs.declared.Standing.{Standing}
-use Rattle.panel.specs.declared.Standing.TheVariants.{Waiting, Holding}
+use Rattle.panel.specs.declared.Standing.TheVariants.{Waiting, Holding, Parked}
 use Rattle.panel.specs.declared.Link.{Link}
 use Rattle.panel.specs.Items.{no_link, link_at}
 use Rattle.panel.specs.Panels.{opened}
@@ -39,10 +39,12 @@ use Rattle.sheet.specs.Commands.{sum_past}
 use Rattle.sheet.specs.Legal.{Fits}
 use Rattle.frames.specs.Frames.{formula_bytes}
 use Rattle.images.specs.Images.{field_at, stay_order, field_byte, field_bytes, standing_byte, formula_frames, formula_piece, value_piece, frames_of, image_of}
+use Rattle.images.specs.Entries.{holds_nothing}
 use Rattle.images.specs.Forms.{is_none}
-use Rattle.images.specs.Reading.{version}
+use Rattle.images.specs.Reading.{version, is_version, has_version}
 use Rattle.images.proofs.FieldBytes.{field_byte_lem, covered_back, outputs_back, field_bytes_lem, field_count}
 use Rattle.images.proofs.Facts.{Facts, small_value}
+use Rattle.images.proofs.Versions.{version_parked}
 use Rattle.layout.specs.Layout.{LinkLine, link_bytes, FormulaLine, rule_bytes, ValueLine, value_bytes, Image, text_of, Rising, held_fields, Relates, WellFormed}
 use Rattle.layout.proofs.Rising.{rising_distinct, gather_cong, listed, listed_map, listed_all, listed_in, listed_rising, tabulate_all, tabulate_distinct}
 
@@ -70,8 +72,9 @@ abbrev pub is_valued : List ℤ → ℕ → Bool
 is_valued values f = not (eqb (bits_of (value_at values f)) 0)
 
 -- the image of a sheet
-abbrev pub image_from : Sheet → Image
-image_from s = record {
+abbrev pub image_from : ℕ → Sheet → Image
+image_from v s = record {
+  version = v;
   size = s.panel.size;
   order = stay_order s.panel.place s.panel.size;
   links = listed (is_line s.panel.links) (link_line s.panel.links) 128;
@@ -80,9 +83,9 @@ image_from s = record {
 }
 
 -- it has the sheet's text
-pub image_text : (s : Sheet) → text_of (image_from s) ≡ image_of version s
+pub image_text : (v : ℕ) (s : Sheet) → text_of (image_from v s) ≡ image_of v s
 unfolding image_of frames_of
-image_text s =
+image_text v s =
     rw (
       listed_map link_bytes (is_line s.panel.links) (link_line s.panel.links) 128,
       listed_map rule_bytes (is_ruled s.formulas) (rule_line s.formulas) 128,
@@ -176,7 +179,7 @@ pub zero_bits : bits_of (pos 0) ≡ 0
 unfolding bits_of
 zero_bits = refl
 
-module _ (s : Sheet) (F : Facts s) where
+module _ (v : ℕ) (s : Sheet) (F : Facts s) where
   abbrev n : ℕ
   n = s.panel.size
 
@@ -190,7 +193,7 @@ module _ (s : Sheet) (F : Facts s) where
   links = s.panel.links
 
   abbrev lines : List LinkLine
-  lines = (image_from s).links
+  lines = (image_from v s).links
 
   -- each place below n is a field's: n places below n, each once, are all of them
   has_place : (p : ℕ) → p < n → (f : ℕ) × (f < n) × (p ≡ at place f)
@@ -212,13 +215,14 @@ module _ (s : Sheet) (F : Facts s) where
       (lowest_lt (λ f. eqb (at place f) p) n 64 f k here, eqb-true _ p (lowest_true (λ f. eqb (at place f) p) n 64 f k here))
 
   -- a line that holds a field has the number of the field's setter
-  held_sets : All (λ l. not (eqb l.standing 0xFF) ≡ true → at setter l.standing ≡ l.id) lines
+  held_sets : All (λ l. not (holds_nothing l.standing) ≡ true → at setter l.standing ≡ l.id) lines
   held_sets = listed_all (is_line links) (link_line links) _ 128 (λ i l u. go i l (link_at links i).standing refl)
     where
       go : (i : ℕ) → i < 128 → (st : Standing) → (link_at links i).standing ≡ st
-          → not (eqb (standing_byte st) 0xFF) ≡ true → at setter (standing_byte st) ≡ i
+          → not (holds_nothing (standing_byte st)) ≡ true → at setter (standing_byte st) ≡ i
       go i l Waiting e q = absurd (clash q refl)
       go i l (Holding f) e q = (F.holding i f l e).sets
+      go i l Parked e q = absurd (clash q refl)
 
   links_rise : Rising (map (λ l. l.id) lines)
   links_rise = listed_rising (is_line links) (link_line links) (λ l. l.id) 128 (λ i l. refl)
@@ -232,7 +236,7 @@ module _ (s : Sheet) (F : Facts s) where
       standing l = l.standing
 
       holds : ℕ → Bool
-      holds b = not (eqb b 0xFF)
+      holds b = not (holds_nothing b)
 
       held : List LinkLine
       held = passing (λ l. holds (standing l)) lines
@@ -245,9 +249,10 @@ module _ (s : Sheet) (F : Facts s) where
           let (k, e) = all_in (λ x. In x lines × (holds (standing x) ≡ true)) held x (passing_in (λ l. holds (standing l)) lines) m in
           all_in _ lines x held_sets k e
 
-  pub image_formed : WellFormed (image_from s)
+  pub image_formed : is_version version v ≡ true → has_version v s ≡ true → WellFormed (image_from v s)
   unfolding stay_order
-  image_formed = record {
+  image_formed known has = record {
+    known = known;
     opens = (refl, (rw (ne_eqb n 0 (λ e. omega (arith, F.some)), le-ltb 64 n F.few), tt));
     stays_within = tabulate_all (λ f. f < n) (field_at place n) n (λ p l. (field_stands p l).0);
     stays_once = tabulate_distinct (field_at place n) n (λ p q k l e. sym (field_stands p k).1 ∙ ap (at place) e ∙ (field_stands q l).1);
@@ -265,12 +270,14 @@ module _ (s : Sheet) (F : Facts s) where
   }
     where
       output : (i : ℕ) → i < 128 → (link_at links i).used ≡ true → (st : Standing) → (link_at links i).standing ≡ st
-          → (standing_byte st ≡ 0xFF) ⊎ ((standing_byte st < 64) × (member (outputs_in (link_line links i).fields) (standing_byte st) ≡ true))
+          → (standing_byte st ≡ 0xFF) ⊎ ((standing_byte st ≡ 0xFE) × (v ≢ 0x01))
+          ⊎ ((standing_byte st < 64) × (member (outputs_in (link_line links i).fields) (standing_byte st) ≡ true))
       output i l u Waiting e = inl refl
       output i l u (Holding f) e =
           let H = F.holding i f l e in
           let L = F.formed i l u in
-          inr (H.field, ap (λ (o : ℕ). member o f) (outputs_back (link_at links i).covered _ L.outputs_small L.subset) ∙ H.output)
+          inr (inr (H.field, ap (λ (o : ℕ). member o f) (outputs_back (link_at links i).covered _ L.outputs_small L.subset) ∙ H.output))
+      output i l u Parked e = inr (inl (refl, version_parked v s has i l e))
 
       past : (i : ℕ) → Formed n (link_at links i) → (r : Formula) → accepted r (link_at links i).covered ≡ true → sum_past n r ≡ false
       past i L None a = refl

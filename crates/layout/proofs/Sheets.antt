@@ -4,7 +4,7 @@ use Prim.Native.Nat.{ℕ, ◌+◌, ◌/◌, ◌%◌, ◌≤◌, ◌<◌}
 use mathlib.Core.Path.{◌≡◌, refl, sym, ap, ap₂, subst, ◌∙◌}
 use mathlib.Core.Bool.{Bool, true, false, not, ◌&&◌, ◌||◌, cond, or-true}
 use mathlib.Core.List.{List, [], ◌∷◌, map}
-use mathlib.Core.Logic.{◌≢◌, ◌⊎◌, inl, inr}
+use mathlib.Core.Logic.{◌≢◌, inl, inr}
 use native.Mathlib.Omega.{arith}
 use borrow.Author.Tests.{lt-ltb, le-ltb, ltb-true, ltb-false, eq-eqb, ne_eqb, eqb-true, eqb-false, not-true, not-false}
 use lib.Dec.{eqb, leb, ltb}
@@ -20,7 +20,7 @@ use Rattle.fieldset.proofs.Tests.{and_left, and_right, and_both, or_left, or_rig
 use Rattle.fieldset.proofs.Numbers.{clash, lowest_unique}
 use Rattle.fieldset.proofs.Tables.{length_tabulate, get_d_tabulate}
 use Rattle.fieldset.proofs.Lists.{all_in, in_all, all_map, all_at, in_passing, passing_in, passing_map, whole_in, place_in}
-use Rattle.panel.specs.declared.Standing.TheVariants.{Waiting, Holding}
+use Rattle.panel.specs.declared.Standing.TheVariants.{Waiting, Holding, Parked}
 use Rattle.panel.specs.declared.Link.{Link}
 use Rattle.panel.specs.Items.{no_link, link_at}
 use Rattle.panel.specs.Panels.{opened}
@@ -37,11 +37,13 @@ use Rattle.sheet.specs.declared.Sheet.{Sheet}
 use Rattle.sheet.specs.Sheets.{formula_at}
 use Rattle.sheet.specs.Legal.{Fits}
 use Rattle.images.specs.Images.{field_at, stay_order, field_byte, field_bytes, standing_byte}
-use Rattle.images.specs.Entries.{standing_of}
+use Rattle.images.specs.Entries.{standing_of, holds_nothing}
 use Rattle.images.specs.Forms.{is_none}
 use Rattle.images.proofs.FieldBytes.{field_byte_lem}
-use Rattle.images.proofs.Facts.{Facts, HoldFacts, SetFacts, value_small, zero_value}
-use Rattle.layout.specs.Layout.{LinkLine, FormulaLine, ValueLine, Image, Rising, Relates, WellFormed}
+use Rattle.images.specs.Reading.{has_version}
+use Rattle.images.proofs.Facts.{Facts, HoldFacts, SetFacts, field_held, field_standing, value_small, zero_value}
+use Rattle.images.proofs.Versions.{parked_version}
+use Rattle.layout.specs.Layout.{LinkLine, FormulaLine, ValueLine, Image, Rising, Stands, Relates, WellFormed}
 use Rattle.layout.proofs.Rising.{rising_distinct, once, listed, listed_is, table, Looked, table_is, table_in, table_back, place_of, at_place}
 use Rattle.layout.proofs.Images.{line_of, link_line, is_line, rule_line, is_ruled, value_line, is_valued, image_from, zero_bits}
 
@@ -139,7 +141,7 @@ abbrev no_rule : Rule
 no_rule = record { formula = None }
 
 abbrev holds_one : LinkLine → Bool
-holds_one l = not (eqb l.standing 0xFF)
+holds_one l = not (holds_nothing l.standing)
 
 -- past the fields places are as at opening
 abbrev stands : List ℕ → ℕ → ℕ → ℕ
@@ -159,19 +161,30 @@ sheet_from x = record {
 
 -- ---- standings
 
-holding_standing : (b f : ℕ) → standing_of b ≡ Holding f → (b ≡ f) × (b ≢ 0xFF)
-holding_standing b f = go (eqb b 0xFF) refl
+holding_standing : (b f : ℕ) → standing_of b ≡ Holding f → (b ≡ f) × (b ≢ 0xFF) × (b ≢ 0xFE)
+holding_standing b f = go (eqb b 0xFF) refl (eqb b 0xFE) refl
   where
-    go : (t : Bool) → eqb b 0xFF ≡ t → cond t Waiting (Holding b) ≡ Holding f → (b ≡ f) × (b ≢ 0xFF)
-    go true e h = absurd (let z : ◌≡◌ {A = ℕ} 0 1 = cc in omega arith)
-    go false e h = (cc, eqb-false b 0xFF e)
+    go : (t : Bool) → eqb b 0xFF ≡ t → (u : Bool) → eqb b 0xFE ≡ u → cond t Waiting (cond u Parked (Holding b)) ≡ Holding f
+        → (b ≡ f) × (b ≢ 0xFF) × (b ≢ 0xFE)
+    go true e u k h = absurd (let z : ◌≡◌ {A = ℕ} 0 1 = cc in omega arith)
+    go false e true k h = absurd (let z : ◌≡◌ {A = ℕ} 0 1 = cc in omega arith)
+    go false e false k h = (cc, eqb-false b 0xFF e, eqb-false b 0xFE k)
+
+parked_standing : (b : ℕ) → standing_of b ≡ Parked → b ≡ 0xFE
+parked_standing b = go (eqb b 0xFF) refl (eqb b 0xFE) refl
+  where
+    go : (t : Bool) → eqb b 0xFF ≡ t → (u : Bool) → eqb b 0xFE ≡ u → cond t Waiting (cond u Parked (Holding b)) ≡ Parked → b ≡ 0xFE
+    go true e u k h = absurd (let z : ◌≡◌ {A = ℕ} 0 1 = cc in omega arith)
+    go false e true k h = eqb-true b 0xFE k
+    go false e false k h = absurd (let z : ◌≡◌ {A = ℕ} 0 1 = cc in omega arith)
 
 standing_back : (b : ℕ) → standing_byte (standing_of b) ≡ b
-standing_back b = go (eqb b 0xFF) refl
+standing_back b = go (eqb b 0xFF) refl (eqb b 0xFE) refl
   where
-    go : (t : Bool) → eqb b 0xFF ≡ t → standing_byte (cond t Waiting (Holding b)) ≡ b
-    go true e = sym (eqb-true b 0xFF e)
-    go false e = refl
+    go : (t : Bool) → eqb b 0xFF ≡ t → (u : Bool) → eqb b 0xFE ≡ u → standing_byte (cond t Waiting (cond u Parked (Holding b))) ≡ b
+    go true e u k = sym (eqb-true b 0xFF e)
+    go false e true k = sym (eqb-true b 0xFE k)
+    go false e false k = refl
 
 line_is : (l : LinkLine) (st : ℕ) (fields : List ℕ) → st ≡ l.standing → fields ≡ l.fields
     → ◌≡◌ {A = LinkLine} (record { id = l.id; level = l.level; standing = st; fields = fields }) l
@@ -179,7 +192,7 @@ line_is l st fields e k = rw (e, k)
 
 image_is : (x : Image) (order : List ℕ) (links : List LinkLine) (formulas : List FormulaLine) (values : List ValueLine)
     → order ≡ x.order → links ≡ x.links → formulas ≡ x.formulas → values ≡ x.values
-    → ◌≡◌ {A = Image} (record { size = x.size; order = order; links = links; formulas = formulas; values = values }) x
+    → ◌≡◌ {A = Image} (record { version = x.version; size = x.size; order = order; links = links; formulas = formulas; values = values }) x
 image_is x order links formulas values e k h v = rw (e, k, h, v)
 
 -- ---- the sheet of a well-formed image
@@ -306,7 +319,7 @@ module _ (x : Image) (W : WellFormed x) where
   held = passing holds_one lines
 
   held_distinct : Distinct (map (λ l. l.standing) held)
-  held_distinct = subst (λ (fs : List ℕ). Distinct fs) (passing_map (λ l. l.standing) (λ b. not (eqb b 0xFF)) lines) W.held_once
+  held_distinct = subst (λ (fs : List ℕ). Distinct fs) (passing_map (λ l. l.standing) (λ b. not (holds_nothing b)) lines) W.held_once
 
   held_line : (l : LinkLine) → In l held → In l lines
   held_line l m = (all_in (λ l. In l lines × (holds_one l ≡ true)) held l (passing_in holds_one lines) m).0
@@ -315,18 +328,18 @@ module _ (x : Image) (W : WellFormed x) where
   holds : (l : LinkLine) (f : ℕ) → In l lines → standing_of l.standing ≡ Holding f → HoldFacts s.panel.setter l.id (outputs_in l.fields) f
   holds l f m e = go (holding_standing l.standing f e) (all_in _ lines l W.held_output m)
     where
-      go : (l.standing ≡ f) × (l.standing ≢ 0xFF)
-          → (l.standing ≡ 0xFF) ⊎ ((l.standing < 64) × (member (outputs_in l.fields) l.standing ≡ true))
+      go : (l.standing ≡ f) × (l.standing ≢ 0xFF) × (l.standing ≢ 0xFE) → Stands x.version l
           → HoldFacts s.panel.setter l.id (outputs_in l.fields) f
-      go (same, ne) (inl w) = absurd (ne w)
-      go (same, ne) (inr (low, out)) =
+      go (same, ne, np) (inl w) = absurd (ne w)
+      go (same, ne, np) (inr (inl (p, o))) = absurd (np p)
+      go (same, ne, np) (inr (inr (low, out))) =
           subst (HoldFacts s.panel.setter l.id (outputs_in l.fields)) same
           (record {
             field = low;
             output = out;
             sets =
                 table_in (λ l. l.standing) (λ l. l.id) 128 held 64 l 0 held_distinct
-                (in_passing holds_one lines l m (rw (ne_eqb l.standing 0xFF ne))) low;
+                (in_passing holds_one lines l m (ap not (field_held l.standing low))) low;
           })
 
   holding : (i f : ℕ) → i < 128 → (link_at s.panel.links i).standing ≡ Holding f
@@ -356,11 +369,10 @@ module _ (x : Image) (W : WellFormed x) where
       go : (i : ℕ) → i < 128 → Looked (λ l. l.standing) (λ l. l.id) 128 held f i → SetFacts s.panel.links i f
       go i h (inl (y, m, e, b)) =
           let is = link_at_lem y (held_line y m) in
-          let ne : y.standing ≢ 0xFF = λ q. omega arith in
           subst (λ (j : ℕ). SetFacts s.panel.links j f) (sym b)
           (record {
             used = ap (λ (k : Link). k.used) is;
-            holding = ap (λ (k : Link). k.standing) is ∙ rw (ne_eqb y.standing 0xFF ne) (ap Holding e);
+            holding = ap (λ (k : Link). k.standing) is ∙ field_standing y.standing (omega arith) ∙ ap Holding e;
           })
       go i h (inr (a, b)) = absurd (omega arith)
 
@@ -462,5 +474,19 @@ module _ (x : Image) (W : WellFormed x) where
       not_used k u i (inl (y, m, e, b)) = absurd (clash (ap (λ (k : Link). k.used) b) u)
       not_used k u i (inr (a, b)) = b
 
-  pub image_back : image_from s ≡ x
+  -- a parked link has standing FE, which version 01 does not have
+  pub sheet_version : has_version x.version s ≡ true
+  sheet_version = parked_version x.version s (λ i l p. go (link_at s.panel.links i) i (link_is i l) p)
+    where
+      go : (k : Link) (i : ℕ) → Looked (λ l. l.id) entry_of no_link lines i k → k.standing ≡ Parked → x.version ≢ 1
+      go k i (inl (y, m, d, b)) e =
+          stands (parked_standing y.standing (sym (ap (λ (k : Link). k.standing) b) ∙ e)) (all_in _ lines y W.held_output m)
+        where
+          stands : y.standing ≡ 0xFE → Stands x.version y → x.version ≢ 1
+          stands p (inl w) = absurd (omega arith)
+          stands p (inr (inl (q, o))) = o
+          stands p (inr (inr (low, out))) = absurd (omega arith)
+      go k i (inr (a, b)) e = absurd (let w : k.standing ≡ Waiting = ap (λ (k : Link). k.standing) b in let z : ◌≡◌ {A = ℕ} 0 1 = cc in omega arith)
+
+  pub image_back : image_from x.version s ≡ x
   image_back = image_is x _ _ _ _ order_back links_back rules_back values_back

@@ -1,5 +1,6 @@
--- What a saved text says, line by line, and when it is a BadImage (document 02, request 7): statements. Quotations are of that request.
-use Rattle.std.specs.Prelude.{ℕ, ◌<◌, ◌≡◌, true, false, not, List, [], ◌∷◌, ◌++◌, map, ◌≢◌, ◌⊎◌, ◌↔◌, eqb, ℤ, pos, length}
+-- What a saved text says, line by line, and when it is a BadImage (document 02, request 7): statements. Quotations are of that request, or of request 8
+-- where that is said.
+use Rattle.std.specs.Prelude.{ℕ, ◌<◌, ◌≡◌, true, false, not, List, [], ◌∷◌, ◌++◌, map, ◌≢◌, ◌⊎◌, ◌↔◌, ℤ, pos, length}
 use Rattle.fieldset.specs.Lists.{In, All, Distinct, passing}
 use Rattle.fieldset.specs.Fields.{member}
 use Rattle.panel.specs.Panels.{opened}
@@ -11,7 +12,8 @@ use Rattle.sheet.specs.Commands.{check_formula}
 use Rattle.frames.specs.Texts.{written}
 use Rattle.frames.specs.Frames.{formula_bytes}
 use Rattle.images.specs.Images.{four_bytes}
-use Rattle.images.specs.Reading.{is_bad}
+use Rattle.images.specs.Entries.{holds_nothing}
+use Rattle.images.specs.Reading.{version, is_version, is_bad}
 
 -- ---- the lines
 
@@ -42,17 +44,18 @@ abbrev pub value_bytes : ValueLine → List ℕ
 value_bytes v = 0x0D ∷ v.field ∷ four_bytes (bits_of v.value)
 
 pub record Image : Type 0 where
+  pub version : ℕ
   pub size : ℕ
   pub order : List ℕ
   pub links : List LinkLine
   pub formulas : List FormulaLine
   pub values : List ValueLine
 
--- "0A 01 n; 0B and the n fields ..; for each link .. 0C ..; formulas ..; 0D .. Every line ends in LF"
+-- "0A 01 n", with the version; "0B and the n fields ..; for each link .. 0C ..; formulas ..; 0D .. Every line ends in LF"
 abbrev pub text_of : Image → List ℕ
 text_of x =
     written
-    ((0x0A ∷ 0x01 ∷ x.size ∷ []) ∷ (0x0B ∷ x.order)
+    ((0x0A ∷ x.version ∷ x.size ∷ []) ∷ (0x0B ∷ x.order)
     ∷ (map link_bytes x.links ++ (map rule_bytes x.formulas ++ map value_bytes x.values)))
 
 -- ---- what is asked of them
@@ -62,9 +65,15 @@ unfoldable pub Rising : List ℕ → Type 0
 Rising [] = Unit {0}
 Rising (a ∷ bs) = All (λ b. a < b) bs × Rising bs
 
--- "the held field or FF": the fields that are held
+-- "the held field or FF", or "FE" (request 8): the fields that are held
 abbrev pub held_fields : List LinkLine → List ℕ
-held_fields links = passing (λ b. not (eqb b 0xFF)) (map (λ l. l.standing) links)
+held_fields links = passing (λ b. not (holds_nothing b)) (map (λ l. l.standing) links)
+
+-- a standing of this version: FF, FE but in version 01, or an output of the link
+abbrev pub Stands : ℕ → LinkLine → Type 0
+Stands version l =
+    (l.standing ≡ 0xFF) ⊎ ((l.standing ≡ 0xFE) × (version ≢ 0x01))
+    ⊎ ((l.standing < 64) × (member (outputs_in l.fields) l.standing ≡ true))
 
 -- a formula's link is there, and kind 08 would not refuse the formula
 abbrev pub Relates : ℕ → List LinkLine → FormulaLine → Type 0
@@ -74,6 +83,8 @@ Relates n links r =
 -- the cases of BadImage are the others: "not lines of this form and order, stays not each once, a field held twice, a standing not among the outputs,
 -- numbers that the opening, Add or kind 08 would refuse"
 pub record WellFormed (x : Image) : Type 0 where
+  -- "version 02 ..; the new reader takes 01 too" (request 8)
+  pub known : is_version version x.version ≡ true
   -- the opening would not refuse the number of fields
   pub opens : Passes (check_open 0 x.size)
   -- "the n fields": each stay once
@@ -85,9 +96,9 @@ pub record WellFormed (x : Image) : Type 0 where
   -- Add would not refuse the numbers of a link, at an open panel without links; and what is written are bytes
   pub links_add : All (λ l. Passes (add_checks (opened x.size) l.id l.level l.fields)) x.links
   pub links_bytes : All (λ l. All (λ b. b < 256) l.fields) x.links
-  -- no field is held twice, and a standing is among the outputs
+  -- no field is held twice, and a standing is among the outputs; "01 .., where FE is a BadImage" (request 8)
   pub held_once : Distinct (held_fields x.links)
-  pub held_output : All (λ l. (l.standing ≡ 0xFF) ⊎ ((l.standing < 64) × (member (outputs_in l.fields) l.standing ≡ true))) x.links
+  pub held_output : All (Stands x.version) x.links
   -- "by rising link number"
   pub formulas_rise : Rising (map (λ r. r.id) x.formulas)
   pub formulas_fit : All (Relates x.size x.links) x.formulas
@@ -97,4 +108,4 @@ pub record WellFormed (x : Image) : Type 0 where
 
 -- a text is no BadImage exactly when it is the text of a well-formed image
 abbrev pub ImagesExactly : Type 0
-ImagesExactly = (text : List ℕ) → (is_bad text ≡ false) ↔ ((x : Image) × WellFormed x × (text_of x ≡ text))
+ImagesExactly = (text : List ℕ) → (is_bad version text ≡ false) ↔ ((x : Image) × WellFormed x × (text_of x ≡ text))

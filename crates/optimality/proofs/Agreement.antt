@@ -1,9 +1,9 @@
 -- A store and a panel that agree still do after each change of a command. A change of standings and setters leaves what the store has
--- (`agrees_alike`); another link of a number changes its one entry (`agrees_link`). Where a stay comes to the front, it is struck from the store's
--- list and put at the head: the places before its own move down one (`place_strike`), as the panel's do (`agrees_front`).
+-- (`agrees_alike`); another link of a number changes its entry, where it stands or aside (`agrees_link`). Where a stay comes to the front, it is
+-- struck from the store's list and put at the head: the places before its own move down one (`place_strike`), as the panel's do (`agrees_front`).
 use Prim.Native.Nat.{ℕ, suc, ◌+◌, ◌≤◌, ◌<◌, zero-le}
 use mathlib.Core.Path.{◌≡◌, refl, sym, ap, ◌∙◌}
-use mathlib.Core.Bool.{Bool, true, false, cond}
+use mathlib.Core.Bool.{Bool, true, false, not, ◌&&◌, and-false, cond}
 use mathlib.Core.List.{List, [], ◌∷◌}
 use mathlib.Core.Option.{Option, none, some}
 use mathlib.Core.Logic.{◌≢◌, inl, inr}
@@ -15,16 +15,19 @@ use lib.ListN.{length, set, replicate, length-replicate, get_or-replicate, get_o
 use Rattle.fieldset.specs.Lists.{In, All, place}
 use Rattle.fieldset.proofs.Lists.{in_tabulate, tabulate_below, place_at}
 use Rattle.fieldset.specs.Tables.{at, tabulate}
+use Rattle.fieldset.proofs.Numbers.{clash}
 use Rattle.fieldset.proofs.Tables.{get_d_tabulate, length_tabulate}
+use Rattle.panel.specs.declared.Standing.{Standing}
+use Rattle.panel.specs.declared.Standing.TheVariants.{Waiting, Holding, Parked}
 use Rattle.panel.specs.declared.Link.{Link}
 use Rattle.panel.specs.declared.Panel.{Panel}
-use Rattle.panel.specs.Items.{Item, link, no_link, link_at, is_in_force, in_force}
+use Rattle.panel.specs.Items.{Item, link, no_link, link_at, is_parked, is_in_force, in_force}
 use Rattle.panel.specs.Panels.{opened, with_link, to_front, place_after}
 use Rattle.panel.specs.Commands.{opening, touching}
-use Rattle.panel.proofs.InForce.{unused_off}
-use Rattle.panel.proofs.Reversed.{AllAlike, link_here, link_there}
-use Rattle.optimality.specs.Condition3.{Entry, strike, Store, entry, entered}
-use Rattle.optimality.specs.Agreement.{entry_for, entry_of, Agrees}
+use Rattle.panel.proofs.InForce.{unused_off, parked_off}
+use Rattle.panel.proofs.Reversed.{AllAlike, alike_used, link_here, link_there}
+use Rattle.optimality.specs.Condition3.{Entry, strike, Store, put, entered}
+use Rattle.optimality.specs.Agreement.{entry_for, entry_of, aside_of, Agrees}
 
 -- ---- links in the store
 
@@ -36,6 +39,32 @@ entry_force P never l = go (is_in_force l) refl
     go true e h = (e, h)
     go false e h = absurd (never h)
 
+-- a link in force is not parked
+pub force_unparked : (l : Link) → is_in_force l ≡ true → is_parked l.standing ≡ false
+force_unparked l u = go l.standing refl
+  where
+    go : (s : Standing) → l.standing ≡ s → is_parked s ≡ false
+    go Waiting e = refl
+    go (Holding f) e = refl
+    go Parked e = absurd (clash u (parked_off l e))
+
+abbrev is_aside : Link → Bool
+is_aside l = l.used && is_parked l.standing
+
+-- of two links, both used or both not, and both in force or both not, both are parked or both not
+both_parked : (l m : Link) → l.used ≡ m.used → is_in_force l ≡ is_in_force m → is_aside l ≡ is_aside m
+unfolding is_in_force
+both_parked l m u e = go l.used m.used (is_parked l.standing) (is_parked m.standing) u e
+  where
+    go : (u v s t : Bool) → u ≡ v → (u && not s) ≡ (v && not t) → (u && s) ≡ (v && t)
+    go true true true true d e = refl
+    go true true true false d e = absurd (clash e refl)
+    go true true false true d e = absurd (clash (sym e) refl)
+    go true true false false d e = refl
+    go true false s t d e = absurd (clash (sym d) refl)
+    go false true s t d e = absurd (clash d refl)
+    go false false s t d e = refl
+
 -- ---- only standings and setters change
 
 pub agrees_alike : (b : Store) (p q : Panel) → q.size ≡ p.size → q.place ≡ p.place → AllAlike q.links p.links
@@ -43,6 +72,7 @@ pub agrees_alike : (b : Store) (p q : Panel) → q.size ≡ p.size → q.place �
 agrees_alike b p q size places alike force a =
     record {
       links = λ i. a.links i ∙ sym (entry_alike i);
+      aside = λ i. a.aside i ∙ sym (aside_alike i);
       stays = λ f l. a.stays f (rw size at l);
       below = rw size a.below;
       places = λ f l. rw places (a.places f (rw size at l));
@@ -53,16 +83,64 @@ agrees_alike b p q size places alike force a =
         ap (λ (u : Bool). cond u (some (entry_for (link_at q.links i))) none) (force (link i))
         ∙ ap (λ (x : ℕ × ℕ × ℕ × Bool). cond (is_in_force (link_at p.links i)) (some (record { level = x.0; covered = x.1; outputs = x.2 })) none) (alike i)
 
+    aside_alike : (i : ℕ) → aside_of (link_at q.links i) ≡ aside_of (link_at p.links i)
+    aside_alike i =
+        ap (λ (u : Bool). cond u (some (entry_for (link_at q.links i))) none)
+        (both_parked (link_at q.links i) (link_at p.links i) (alike_used q.links p.links alike i) (force (link i)))
+        ∙ ap (λ (x : ℕ × ℕ × ℕ × Bool). cond (is_aside (link_at p.links i)) (some (record { level = x.0; covered = x.1; outputs = x.2 })) none) (alike i)
+
 -- ---- a link
 
--- another link of a number
-pub agrees_link : (b : Store) (p : Panel) (id : ℕ) (l : Link) (e : Option Entry) → entry_of l ≡ e → id < length p.links → Agrees b p
-    → Agrees (entry b id e) (with_link p id l)
-agrees_link b p id l e is lt a = record { links = λ i. go i (ℕ_discrete i id); stays = a.stays; below = a.below; places = a.places }
+pub put_here : (t : ℕ → Option Entry) (id : ℕ) (e : Option Entry) → put t id e id ≡ e
+put_here t id e = rw (eq-eqb id id refl)
+
+pub put_there : (t : ℕ → Option Entry) (id : ℕ) (e : Option Entry) (i : ℕ) → i ≢ id → put t id e i ≡ t i
+put_there t id e i d = rw (ne_eqb i id d)
+
+-- a number with the entry that it has already
+pub put_same : (t : ℕ → Option Entry) (id : ℕ) (e : Option Entry) → t id ≡ e → (i : ℕ) → put t id e i ≡ t i
+put_same t id e same i = go (ℕ_discrete i id)
   where
-    go : (i : ℕ) → Dec (i ≡ id) → cond (eqb i id) e (b.links i) ≡ entry_of (link_at (set p.links id l) i)
-    go i (yes d) = rw (d, eq-eqb id id refl, link_here p.links id l lt) (sym is)
-    go i (no d) = rw (ne_eqb i id d, link_there p.links id i l d) (a.links i)
+    go : Dec (i ≡ id) → put t id e i ≡ t i
+    go (yes d) = rw (d, put_here t id e) (sym same)
+    go (no d) = put_there t id e i d
+
+-- the entry of a link, and what is aside of it
+pub force_entry : (l : Link) → is_in_force l ≡ true → entry_of l ≡ some (entry_for l)
+force_entry l u = rw u
+
+pub off_entry : (l : Link) → is_in_force l ≡ false → entry_of l ≡ none
+off_entry l u = rw u
+
+pub parked_beside : (l : Link) → l.used ≡ true → l.standing ≡ Parked → aside_of l ≡ some (entry_for l)
+parked_beside l u s = rw (u, s)
+
+pub unused_beside : (l : Link) → l.used ≡ false → aside_of l ≡ none
+unused_beside l u = rw u
+
+pub other_beside : (l : Link) → is_parked l.standing ≡ false → aside_of l ≡ none
+other_beside l s = rw (s, and-false l.used)
+
+-- another link of a number: its entry changes, where it stands and aside
+pub record Entered (b b' : Store) (id : ℕ) (l : Link) : Type 0 where
+  pub stays : b'.stays ≡ b.stays
+  pub links : (i : ℕ) → b'.links i ≡ put b.links id (entry_of l) i
+  pub aside : (i : ℕ) → b'.aside i ≡ put b.aside id (aside_of l) i
+
+pub agrees_link : {b b' : Store} (p : Panel) (id : ℕ) (l : Link) → id < length p.links → Entered b b' id l → Agrees b p → Agrees b' (with_link p id l)
+agrees_link {b} {b'} p id l lt e a =
+    record {
+      links = λ i. e.links i ∙ go entry_of b.links a.links i (ℕ_discrete i id);
+      aside = λ i. e.aside i ∙ go aside_of b.aside a.aside i (ℕ_discrete i id);
+      stays = rw e.stays a.stays;
+      below = rw e.stays a.below;
+      places = rw e.stays a.places;
+    }
+  where
+    go : (of : Link → Option Entry) (t : ℕ → Option Entry) → ((i : ℕ) → t i ≡ of (link_at p.links i)) → (i : ℕ) → Dec (i ≡ id)
+        → put t id (of l) i ≡ of (link_at (set p.links id l) i)
+    go of t is i (yes d) = rw (d, put_here t id (of l), link_here p.links id l lt)
+    go of t is i (no d) = rw (put_there t id (of l) i d, link_there p.links id i l d) (is i)
 
 -- ---- the stays
 
@@ -114,6 +192,7 @@ unfolding to_front place
 agrees_front b p f few lf a =
     record {
       links = a.links;
+      aside = a.aside;
       stays = λ g l. stays g l (ℕ_discrete g f);
       below = (lf, all_strike (λ g. g < p.size) f b.stays a.below);
       places = λ g l. places g l (ℕ_discrete g f) ∙ sym (get_d_tabulate (place_after p.place f) 64 g 0 (omega arith));
@@ -147,12 +226,16 @@ default_link i = go (dec_lt i 128)
 pub default_entry : (i : ℕ) → entry_of (link_at (replicate 128 no_link) i) ≡ none
 default_entry i = rw (default_link i, unused_off no_link refl)
 
+pub default_aside : (i : ℕ) → aside_of (link_at (replicate 128 no_link) i) ≡ none
+default_aside i = rw (default_link i)
+
 -- a store without links, and the panel at opening
-pub agrees_opened : (b : Store) (n : ℕ) → n ≤ 64 → ((i : ℕ) → b.links i ≡ none) → Agrees (entered b (opening n)) (opened n)
+pub agrees_opened : (b : Store) (n : ℕ) → n ≤ 64 → ((i : ℕ) → b.links i ≡ none) → ((i : ℕ) → b.aside i ≡ none) → Agrees (entered b (opening n)) (opened n)
 unfolding opened
-agrees_opened b n few empty =
+agrees_opened b n few no_links no_aside =
     record {
-      links = λ i. empty i ∙ sym (default_entry i);
+      links = λ i. no_links i ∙ sym (default_entry i);
+      aside = λ i. no_aside i ∙ sym (default_aside i);
       stays = λ f l. in_tabulate n f l;
       below = tabulate_below n;
       places = λ f l. place_tabulate n f l ∙ sym (get_d_tabulate (λ (k : ℕ). k) 64 f 0 (omega arith));

@@ -13,23 +13,26 @@ use lib.Dec.{eqb}
 use lib.ListN.{get_or, drop}
 use Rattle.fieldset.specs.Lists.{All}
 use Rattle.fieldset.proofs.Numbers.{clash}
+use Rattle.fieldset.proofs.Fields.{size_empty}
+use Rattle.downstream.proofs.Spreading.{spread_nothing}
 use Rattle.panel.specs.declared.Standing.{Standing}
-use Rattle.panel.specs.declared.Standing.TheVariants.{Waiting, Holding}
+use Rattle.panel.specs.declared.Standing.TheVariants.{Waiting, Holding, Parked}
 use Rattle.panel.specs.declared.Link.{Link}
 use Rattle.panel.specs.declared.Panel.{Panel}
 use Rattle.panel.specs.declared.Refusal.{Refusal}
 use Rattle.panel.specs.declared.Refusal.TheVariants.{AlreadyOpen, NotOpen, BadSize, BadLink, NoSuchField, LinkTaken, NoSuchLink, Conflict, Loop}
-use Rattle.panel.specs.Items.{Item, link, stay, link_at}
+use Rattle.panel.specs.Items.{Item, link, stay, no_link, link_at}
 use Rattle.panel.specs.Answers.{Answer, is_refusal, refused, refusal_bytes}
-use Rattle.panel.specs.Panels.{opened, dropped}
-use Rattle.panel.specs.Solution.{is_blocked, is_looped, path_for, reversed, least_blocked, plan_of, rows_of}
-use Rattle.panel.specs.Moved.{moved}
-use Rattle.panel.specs.Steps.{accepted, reverse_step, open_step, enter_step, add_step, settled, drop_step, remove_step, touch_step, plan_step, change_step}
-use Rattle.panel.specs.Commands.{Command, opening, adding, removing, touching, planning, changing, performed, Check, checked, Passes, is_open, open_checks, add_checks, remove_checks, touch_checks, plan_checks, change_checks, covered_in, outputs_in}
+use Rattle.panel.specs.Panels.{opened, with_link, freed, replaced, parked}
+use Rattle.panel.specs.Solution.{setter_reads, is_blocked, is_looped, path_for, reversed, least_blocked, plan_of, rows_of}
+use Rattle.panel.specs.Moved.{redrawn, moved}
+use Rattle.panel.specs.Steps.{accepted, reverse_step, quiet, open_step, enter_step, add_step, settled, drop_step, remove_step, touch_step, plan_step, renew_step, change_step, park_step, unpark_step}
+use Rattle.panel.specs.Commands.{Command, opening, adding, removing, touching, planning, changing, parking, unparking, performed, Check, checked, Passes, is_open, open_checks, add_checks, remove_checks, touch_checks, plan_checks, change_checks, covered_in, outputs_in}
 use Rattle.panel.proofs.Answers.{refusals_apart}
-use Rattle.panel.proofs.Checks.{checked_step, new_link}
-use Rattle.panel.proofs.Performed.{pick, change_either}
-use Rattle.optimality.specs.Refusals.{WeakerNeverConflict, WeakerChangeNeverConflict, TouchNeverConflict, RemoveNeverConflict, RefusedUnchanged}
+use Rattle.panel.proofs.Checks.{checked_step, new_link, parked_new, returning}
+use Rattle.panel.proofs.Moved.{turned_none}
+use Rattle.panel.proofs.Performed.{pick, renew_either, either_parked, parked_record}
+use Rattle.optimality.specs.Refusals.{WeakerNeverConflict, WeakerChangeNeverConflict, WeakerUnparkNeverConflict, TouchNeverConflict, RemoveNeverConflict, ParkNeverConflict, RefusedUnchanged}
 
 -- ---- checks
 
@@ -60,8 +63,17 @@ allowed : (R : Refusal → Type 0) (p : Panel) (a : Answer) → Outcome R Any p 
 allowed R p a (no r h) e = (r, h, refl)
 allowed R p a (yes q bytes t) e = absurd (clash e refl)
 
+-- where no setter changes, the moved count is 0
+pub moved_still : (p q : Panel) → q.setter ≡ p.setter → moved p q ≡ 0
+unfolding moved redrawn
+moved_still p q e = rw (turned_none p q e, spread_nothing (setter_reads q) q.size) size_empty
+
 -- T allows every panel with its moved count
 module _ (R : Refusal → Type 0) (T : Panel → List ℕ → Type 0) (p : Panel) (t : (q : Panel) → T q (moved p q ∷ [])) where
+  -- so it does with 0 where no setter changes
+  quiet_outcome : (q : Panel) → q.setter ≡ p.setter → Outcome R T p (quiet q)
+  quiet_outcome q e = yes q (0 ∷ []) (subst (λ (m : ℕ). T q (m ∷ [])) (moved_still p q e) (t q))
+
   pub reverse_outcome : (q : Panel) (c : Item) → R Loop → Outcome R T p (reverse_step p q c)
   unfolding reverse_step
   reverse_outcome q c l = go (is_looped (reversed q c (path_for q c)))
@@ -83,9 +95,18 @@ module _ (R : Refusal → Type 0) (T : Panel → List ℕ → Type 0) (p : Panel
   settled_outcome q none l = yes _ _ (t q)
   settled_outcome q (some c) l = reverse_outcome q c l
 
-  pub drop_outcome : (q : Panel) (s : Standing) → R Loop → Outcome R T p (drop_step p q s)
-  drop_outcome q Waiting l = yes _ _ (t q)
-  drop_outcome q (Holding v) l = settled_outcome q (least_blocked q) l
+  -- the link x stands in place of that of a number
+  pub drop_outcome : (id : ℕ) (x : Link) → R Loop → Outcome R T p (drop_step p (replaced p id x) (link_at p.links id).standing)
+  unfolding replaced
+  drop_outcome id x l = go (link_at p.links id).standing
+    where
+      q : Standing → Panel
+      q s = freed (with_link p id x) s
+
+      go : (s : Standing) → Outcome R T p (drop_step p (q s) s)
+      go Waiting = yes _ _ (t (q Waiting))
+      go (Holding v) = settled_outcome (q (Holding v)) (least_blocked (q (Holding v))) l
+      go Parked = quiet_outcome (q Parked) refl
 
   touch_outcome : (f : ℕ) → R Loop → Outcome R T p (touch_step p f)
   unfolding touch_step
@@ -121,22 +142,42 @@ module _ (R : Refusal → Type 0) (T : Panel → List ℕ → Type 0) (p : Panel
         (given NotOpen (omega arith, omega arith), (given BadLink (omega arith, omega arith), (given NoSuchField (omega arith, omega arith), (given LinkTaken (omega arith, omega arith), tt))))
         (λ n. enter_outcome R T p t p id (new_link level bytes) l k)
 
+    -- of the checks of a removal
+    of_link : (id : ℕ) (step : Answer) → (Passes (remove_checks p id) → Outcome R T p step) → Outcome R T p (checked p (remove_checks p id) step)
+    of_link id step =
+        checked_answer (Outcome R T p) p (remove_checks p id) step
+        (given NotOpen (omega arith, omega arith), (given BadLink (omega arith, omega arith), (given NoSuchLink (omega arith, omega arith), tt)))
+
     pub removing_outcome : (id : ℕ) → Outcome R T p (performed p (removing id))
     unfolding remove_step
     removing_outcome id =
-        checked_answer (Outcome R T p) p (remove_checks p id) (remove_step p id)
-        (given NotOpen (omega arith, omega arith), (given BadLink (omega arith, omega arith), (given NoSuchLink (omega arith, omega arith), tt)))
-        (λ n. drop_outcome R T p t (dropped p id) (link_at p.links id).standing l)
+        of_link id (remove_step p id) (λ n. drop_outcome R T p t id no_link l)
 
     pub changing_outcome : (id level : ℕ) (bytes : List ℕ) → (level ≡ 0 → R Conflict) → Outcome R T p (performed p (changing id level bytes))
-    unfolding remove_step
+    unfolding remove_step change_step
     changing_outcome id level bytes k =
-        let removed = drop_outcome R Any p (λ q. tt) (dropped p id) (link_at p.links id).standing l in
+        let removed = drop_outcome R Any p (λ q. tt) id no_link l in
         checked_answer (Outcome R T p) p (change_checks p id level bytes) (change_step p id level (covered_in bytes) (outputs_in bytes))
         (given NotOpen (omega arith, omega arith), (given BadLink (omega arith, omega arith), (given NoSuchField (omega arith, omega arith), (given NoSuchLink (omega arith, omega arith), tt))))
-        (λ n. change_either (Outcome R T p) p id level bytes
+        (λ n. either_parked (Outcome R T p) p id (quiet (with_link p id (parked_new level bytes))) (renew_step p id level (covered_in bytes) (outputs_in bytes)) (λ e. quiet_outcome R T p t (with_link p id (parked_new level bytes)) refl)
+        (λ other. renew_either (Outcome R T p) p id level bytes
         (λ refuses e. let (r, h, is) = allowed R p (remove_step p id) removed refuses in subst (Outcome R T p) (sym is) (no r h))
-        (λ goes w. enter_outcome R T p t (remove_step p id).panel id (new_link level bytes) l k))
+        (λ goes w. enter_outcome R T p t (remove_step p id).panel id (new_link level bytes) l k)))
+
+    pub parking_outcome : (id : ℕ) → Outcome R T p (performed p (parking id))
+    unfolding park_step
+    parking_outcome id =
+        of_link id (park_step p id)
+        (λ n. either_parked (Outcome R T p) p id (quiet p) (drop_step p (parked p id) (link_at p.links id).standing) (λ e. quiet_outcome R T p t p refl)
+        (λ e. drop_outcome R T p t id (parked_record p id) l))
+
+    pub unparking_outcome : (id : ℕ) → ((link_at p.links id).level ≡ 0 → R Conflict) → Outcome R T p (performed p (unparking id))
+    unfolding unpark_step
+    unparking_outcome id k =
+        let x = link_at p.links id in
+        of_link id (unpark_step p id)
+        (λ n. either_parked (Outcome R T p) p id (add_step p id x.level x.covered x.outputs) (quiet p)
+        (λ e. enter_outcome R T p t p id (returning p id) l k) (λ e. quiet_outcome R T p t p refl))
 
     pub touching_outcome : (f : ℕ) → Outcome R T p (performed p (touching f))
     touching_outcome f =
@@ -160,7 +201,7 @@ unfolding remove_step
 removal_loop p id n e =
     let step = checked_step p (remove_checks p id) (remove_step p id) n in
     let (r, is, a) =
-    allowed (λ r. r ≡ Loop) p (remove_step p id) (drop_outcome (λ r. r ≡ Loop) Any p (λ q. tt) (dropped p id) (link_at p.links id).standing refl)
+    allowed (λ r. r ≡ Loop) p (remove_step p id) (drop_outcome (λ r. r ≡ Loop) Any p (λ q. tt) id no_link refl)
     (sym (ap (λ (a : Answer). is_refusal a.reply) step) ∙ e) in
     step ∙ a ∙ ap (refused p) is
 
@@ -183,6 +224,8 @@ outcome_of_lem R p early k l (removing id) = removing_outcome R Any p early (λ 
 outcome_of_lem R p early k l (touching f) = touching_outcome R Any p early (λ q. tt) l f
 outcome_of_lem R p early k l planning = planning_outcome R Any p early (λ e. tt)
 outcome_of_lem R p early k l (changing id level bytes) = changing_outcome R Any p early (λ q. tt) l id level bytes (λ e. k)
+outcome_of_lem R p early k l (parking id) = parking_outcome R Any p early (λ q. tt) l id
+outcome_of_lem R p early k l (unparking id) = unparking_outcome R Any p early (λ q. tt) l id (λ e. k)
 
 pub refused_unchanged : RefusedUnchanged
 refused_unchanged p c = unchanged (λ r. Unit {0}) p (performed p c) (outcome_of_lem (λ r. Unit {0}) p (λ r h. tt) tt tt c)
@@ -204,6 +247,11 @@ weaker_change_never_conflict p id level bytes l =
     no_conflict p (performed p (changing id level bytes))
     (changing_outcome (Not 10) Any p (λ r h. omega arith) (λ q. tt) (omega arith) id level bytes (λ e. absurd (omega arith)))
 
+pub weaker_unpark_never_conflict : WeakerUnparkNeverConflict
+weaker_unpark_never_conflict p id l =
+    no_conflict p (performed p (unparking id))
+    (unparking_outcome (Not 10) Any p (λ r h. omega arith) (λ q. tt) (omega arith) id (λ e. absurd (omega arith)))
+
 pub touch_never_conflict : TouchNeverConflict
 touch_never_conflict p f =
     no_conflict p (performed p (touching f)) (touching_outcome (Not 10) Any p (λ r h. omega arith) (λ q. tt) (omega arith) f)
@@ -211,6 +259,10 @@ touch_never_conflict p f =
 pub remove_never_conflict : RemoveNeverConflict
 remove_never_conflict p id =
     no_conflict p (performed p (removing id)) (removing_outcome (Not 10) Any p (λ r h. omega arith) (λ q. tt) (omega arith) id)
+
+pub park_never_conflict : ParkNeverConflict
+park_never_conflict p id =
+    no_conflict p (performed p (parking id)) (parking_outcome (Not 10) Any p (λ r h. omega arith) (λ q. tt) (omega arith) id)
 
 -- a reversal never gives Conflict
 pub reverse_no_conflict : (p q : Panel) (c : Item) → (reverse_step p q c).reply ≢ (refused p Conflict).reply

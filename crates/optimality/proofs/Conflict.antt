@@ -1,11 +1,11 @@
 -- Conflict is given exactly when no matching over the store can hold all required links together with the new one. If the new link is not blocked,
 -- nothing is, and there is none (`impossible`, by counting); if it is, the reversed path gives one (`possible`). So it goes by whether it is
--- blocked, which is what Add asks (`enter_conflict`), and a change of the panel that the removal leaves.
+-- blocked, which is what Add asks (`enter_conflict`), and a change of the panel that the removal leaves; a link that is brought back is entered as it
+-- is recorded.
 use Prim.Native.Nat.{ℕ}
 use mathlib.Core.Path.{◌≡◌, refl, ap, ◌∙◌}
 use mathlib.Core.Bool.{Bool, true, false}
 use mathlib.Core.List.{List}
-use mathlib.Core.Option.{some}
 use mathlib.Core.Logic.{◌↔◌}
 use native.Mathlib.Omega.{arith}
 use borrow.Author.Tests.{eq-eqb}
@@ -19,17 +19,18 @@ use Rattle.panel.specs.Items.{link, stay, link_at, is_in_force}
 use Rattle.panel.specs.Answers.{refused}
 use Rattle.panel.specs.Panels.{with_link}
 use Rattle.panel.specs.Solution.{strength_of, is_blocked, path_for, plan_of}
-use Rattle.panel.specs.Steps.{accepted, reverse_step, enter_step, add_step, remove_step, change_step}
-use Rattle.panel.specs.Commands.{changing, remove_checks, add_checks, change_checks, covered_in, outputs_in}
+use Rattle.panel.specs.Steps.{accepted, reverse_step, enter_step, add_step, remove_step, unpark_step}
+use Rattle.panel.specs.Commands.{changing, remove_checks, add_checks, covered_in, outputs_in}
 use Rattle.panel.proofs.Reversed.{reversed_setters}
 use Rattle.panel.proofs.Legal.{LegalBut}
 use Rattle.panel.proofs.Changes.{Enters, add_enters}
 use Rattle.panel.proofs.Checks.{addable, removable, changeable, change_removes, checked_step}
-use Rattle.panel.proofs.Performed.{pick, without_enters, change_either}
-use Rattle.optimality.specs.Condition3.{Store, entry, entered, Pair, AfterEveryList, panels, start}
+use Rattle.panel.proofs.Performed.{pick, without_enters, renew_either, parked_enters}
+use Rattle.panel.proofs.Changing.{change_renews}
+use Rattle.optimality.specs.Condition3.{Entry, Store, entered, Pair, AfterEveryList, panels, start}
 use Rattle.optimality.specs.Agreement.{entry_for, Agrees, Sound}
 use Rattle.optimality.specs.States.{HoldsRequired}
-use Rattle.optimality.specs.Refusals.{Possible, ConflictExactly, ChangeConflictExactly}
+use Rattle.optimality.specs.Refusals.{Possible, ConflictExactly, ChangeConflictExactly, UnparkConflictExactly}
 use Rattle.optimality.proofs.Matchings.{pairs}
 use Rattle.optimality.proofs.Setters.{Waits}
 use Rattle.optimality.proofs.Required.{HoldsAll, required_impossible, pairs_match, reversal_holds}
@@ -40,7 +41,9 @@ use Rattle.optimality.proofs.Paths.{path_reversible, after_assigned}
 use Rattle.optimality.proofs.Answers.{reverse_no_conflict}
 use Rattle.optimality.proofs.Steps.{enter_here, enter_idle, enter_legal, enter_force, enter_agrees, enter_none}
 use Rattle.optimality.proofs.Removing.{remove_sound}
-use Rattle.optimality.proofs.Runs.{after_sound}
+use Rattle.optimality.proofs.Agreement.{Entered, unused_beside}
+use Rattle.optimality.proofs.Runs.{after_sound, new_entered, anew_entered, back_entered}
+use Rattle.optimality.proofs.Parking.{parked_here, not_parked}
 use Rattle.optimality.proofs.States.{required_force}
 
 -- ---- required links of the store and of the panel
@@ -55,18 +58,15 @@ module _ {b : Store} {p : Panel} (a : Agrees b p) (xs : List Pair) where
 
 -- ---- a link of level 0 is entered
 
-module _ {b : Store} {q : Panel} (x : Sound b q) {id : ℕ} {l : Link} (a : Enters q id l) (needed : l.level ≡ 0) where
+module _ {b b' : Store} {q : Panel} (x : Sound b q) {id : ℕ} {l : Link} (a : Enters q id l) (new : Entered b b' id l) (needed : l.level ≡ 0) where
   abbrev r : Panel
   r = with_link q id l
-
-  abbrev b' : Store
-  b' = entry b id (some (entry_for l))
 
   k : LegalBut (link id) r
   k = enter_legal x a
 
   agrees : Agrees b' r
-  agrees = enter_agrees x a
+  agrees = enter_agrees x a new
 
   new_waits : Waits (graph_of r) (setters_of r) (link id)
   new_waits = record { force = ap is_in_force (enter_here x a) ∙ enter_force x a; idle = enter_idle x a }
@@ -103,8 +103,9 @@ module _ {b : Store} {q : Panel} (x : Sound b q) {id : ℕ} {l : Link} (a : Ente
 
 pub sound_conflict_exactly : {b : Store} {p : Panel} → Sound b p → ConflictExactly b p
 sound_conflict_exactly {b} {p} x id bytes n =
+    let a = addable p id 0 bytes n in
     rw (checked_step p (add_checks p id 0 bytes) (add_step p id 0 (covered_in bytes) (outputs_in bytes)) n)
-    (enter_conflict x (add_enters (addable p id 0 bytes n)) refl p)
+    (enter_conflict x (add_enters a) (new_entered b id 0 bytes (x.agrees.aside id ∙ unused_beside (link_at p.links id) a.free)) refl p)
 
 pub conflict_exactly : AfterEveryList panels start (λ r. ConflictExactly r.store r.state)
 conflict_exactly commands = sound_conflict_exactly (after_sound commands)
@@ -112,15 +113,30 @@ conflict_exactly commands = sound_conflict_exactly (after_sound commands)
 -- ---- a change to level 0: it is entered in the panel that the removal leaves
 
 pub sound_change_conflict_exactly : {b : Store} {p : Panel} → Sound b p → ChangeConflictExactly b p
-sound_change_conflict_exactly {b} {p} x id bytes n accepts =
+sound_change_conflict_exactly {b} {p} x id bytes n free accepts =
     let new = changeable p id 0 bytes n in
     let removes = change_removes p id 0 bytes n in
     let goes = rw (checked_step p (remove_checks p id) (remove_step p id) removes) at accepts in
-    let s = remove_sound b p x id new.number (removable p id removes).used in
-    rw (checked_step p (change_checks p id 0 bytes) (change_step p id 0 (covered_in bytes) (outputs_in bytes)) n)
-    (change_either (λ a. (a.reply ≡ (refused p Conflict).reply) ↔ (Possible (entered b (changing id 0 bytes)) → ⊥)) p id 0 bytes
+    let used = (removable p id removes).used in
+    let other = not_parked x id used free in
+    let s = remove_sound b p x id new.number used in
+    rw (change_renews p id 0 bytes n other)
+    (renew_either (λ a. (a.reply ≡ (refused p Conflict).reply) ↔ (Possible (entered b (changing id 0 bytes)) → ⊥)) p id 0 bytes
     (λ r e. absurd (clash r goes))
-    (λ r w. enter_conflict (rw r at s) (without_enters w x.legal new.number 0 bytes new.formed) refl p))
+    (λ r w. enter_conflict (rw r at s) (without_enters w x.legal new.number 0 bytes new.formed) (anew_entered b p x id 0 bytes other) refl p))
 
 pub change_conflict_exactly : AfterEveryList panels start (λ r. ChangeConflictExactly r.store r.state)
 change_conflict_exactly commands = sound_change_conflict_exactly (after_sound commands)
+
+-- ---- a link of level 0 is brought back: it is entered as it is recorded
+
+pub sound_unpark_conflict_exactly : {b : Store} {p : Panel} → Sound b p → UnparkConflictExactly b p
+unfolding unpark_step
+sound_unpark_conflict_exactly {b} {p} x id e lies needed =
+    let h = parked_here x id e lies in
+    rw (checked_step p (remove_checks p id) (unpark_step p id) h.passes, h.parked)
+    (enter_conflict x (parked_enters p x.legal id h.number h.used h.parked) (back_entered b p x id (removable p id h.passes) h.parked)
+    (ap (λ (e : Entry). e.level) h.is ∙ needed) p)
+
+pub unpark_conflict_exactly : AfterEveryList panels start (λ r. UnparkConflictExactly r.store r.state)
+unpark_conflict_exactly commands = sound_unpark_conflict_exactly (after_sound commands)

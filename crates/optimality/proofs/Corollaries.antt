@@ -5,18 +5,19 @@ use mathlib.Core.Path.{◌≡◌, refl}
 use mathlib.Core.Bool.{true}
 use mathlib.Core.List.{List, [], ◌∷◌}
 use native.Mathlib.Nat.{le_refl}
+use native.Mathlib.Decide.{dec_lt}
 use native.Mathlib.Omega.{arith}
 use Rattle.fieldset.specs.Lists.{In}
 use Rattle.fieldset.specs.Fields.{member}
 use Rattle.panel.specs.declared.Panel.{Panel}
-use Rattle.panel.specs.Items.{Item, link, stay, outputs_of, waits}
+use Rattle.panel.specs.Items.{Item, link, stay, link_at, outputs_of, waits}
 use Rattle.panel.specs.Solution.{level, strength_of}
-use Rattle.panel.specs.Commands.{Command, opening, adding, removing, touching, planning, changing, performed}
+use Rattle.panel.specs.Commands.{Command, opening, adding, removing, touching, planning, changing, parking, unparking, performed}
 use Rattle.optimality.specs.Condition3.{empty, level_in, Pair, MaySet, Matching, count_up_to, rows, held, Walk, one, more, Loop, Optimal, System, Run, stepped, after, AfterEveryList, panels, start}
 use Rattle.optimality.specs.States.{Better}
 use Rattle.optimality.specs.Refusals.{Possible, GivesConflict}
 use Rattle.optimality.proofs.Graphs.{legal_whole, waits_true, none_unblocked}
-use Rattle.optimality.proofs.Answers.{opening_outcome, planning_outcome, Any, Not, no_conflict, weaker_never_conflict, weaker_change_never_conflict, touch_never_conflict, remove_never_conflict}
+use Rattle.optimality.proofs.Answers.{opening_outcome, planning_outcome, Any, Not, no_conflict, weaker_never_conflict, weaker_change_never_conflict, weaker_unpark_never_conflict, touch_never_conflict, remove_never_conflict, park_never_conflict}
 use Rattle.optimality.proofs.Runs.{after_sound, every_system, every_start, condition_3}
 use Rattle.optimality.proofs.States.{settled, nothing_blocked, nothing_better}
 
@@ -66,13 +67,14 @@ module _ (commands : List Command) where
 
 -- ---- Conflict
 
--- an add of a required link, or a change to one
-pub data EntersRequired : Command → Type 0 where
-  required_add : (id : ℕ) (bytes : List ℕ) → EntersRequired (adding id 0 bytes)
-  required_change : (id : ℕ) (bytes : List ℕ) → EntersRequired (changing id 0 bytes)
+-- an add of a required link, a change to one, or one that is brought back
+pub data EntersRequired (p : Panel) : Command → Type 0 where
+  required_add : (id : ℕ) (bytes : List ℕ) → EntersRequired p (adding id 0 bytes)
+  required_change : (id : ℕ) (bytes : List ℕ) → EntersRequired p (changing id 0 bytes)
+  required_return : (id : ℕ) → (link_at p.links id).level ≡ 0 → EntersRequired p (unparking id)
 
 -- only such a command is refused with Conflict
-pub conflict_required : (p : Panel) (c : Command) → GivesConflict p c → EntersRequired c
+pub conflict_required : (p : Panel) (c : Command) → GivesConflict p c → EntersRequired p c
 conflict_required p (opening n) e = absurd (no_conflict p _ (opening_outcome (Not 10) Any p (λ r h. omega arith) (λ m. tt) n) e)
 conflict_required p (adding id zero bytes) e = required_add id bytes
 conflict_required p (adding id (suc l) bytes) e = absurd (weaker_never_conflict p id (suc l) bytes (omega arith) e)
@@ -81,6 +83,12 @@ conflict_required p (touching f) e = absurd (touch_never_conflict p f e)
 conflict_required p planning e = absurd (no_conflict p _ (planning_outcome (Not 10) Any p (λ r h. omega arith) (λ o. tt)) e)
 conflict_required p (changing id zero bytes) e = required_change id bytes
 conflict_required p (changing id (suc l) bytes) e = absurd (weaker_change_never_conflict p id (suc l) bytes (omega arith) e)
+conflict_required p (parking id) e = absurd (park_never_conflict p id e)
+conflict_required p (unparking id) e = go (dec_lt 0 (link_at p.links id).level)
+  where
+    go : Dec (0 < (link_at p.links id).level) → EntersRequired p (unparking id)
+    go (yes l) = absurd (weaker_unpark_never_conflict p id l e)
+    go (no l) = required_return id (omega arith)
 
 -- ---- another system
 

@@ -2,7 +2,8 @@
 -- be written down; what a definition says of them is computed, and refuted by numbers that differ.
 use Prim.Native.Nat.{ℕ, ◌≤◌, ◌<◌}
 use mathlib.Core.Path.{◌≡◌, refl, ap}
-use mathlib.Core.List.{List, [], ◌∷◌, map}
+use mathlib.Core.List.{List, [], ◌∷◌, ◌++◌, map}
+use mathlib.Core.Option.{Option, none, some}
 use mathlib.Core.Logic.{◌≢◌, ◌⊎◌, inl, inr}
 use native.Mathlib.Omega.{arith}
 use lib.ListN.{get_or}
@@ -13,14 +14,14 @@ use Rattle.fieldset.specs.Fields.{member, set_of, with, without, only, within}
 use Rattle.strength.specs.Strength.{greatest, strength, lowest_at, strongest, path}
 use Rattle.ordering.specs.Order.{next, following, order, has_loop}
 use Rattle.panel.specs.Items.{Item, link, stay, setter_of, is_in_force, items_of}
-use Rattle.panel.specs.Panels.{opened, dropped, to_front}
+use Rattle.panel.specs.Panels.{opened, replaced, to_front}
 use Rattle.panel.specs.Solution.{strength_of, is_blocked, path_for, reversed, least, least_blocked, plan_of, is_looped, rows_of}
-use Rattle.panel.specs.Steps.{reverse_step, enter_step, remove_step, touch_step, change_step, plan_step}
-use Rattle.panel.specs.Commands.{Command, opening, adding, removing, touching, planning, changing, any_of, fields_in, is_rising, are_field_bytes, checked}
-use Rattle.optimality.specs.Condition3.{Store, empty, entered, strike, level_in, Pair, items, Matching, count_up_to, rows, held, one, more, Loop, Optimal, Run, stepped, after, panels, start}
+use Rattle.panel.specs.Steps.{reverse_step, enter_step, remove_step, touch_step, renew_step, change_step, plan_step, park_step, unpark_step}
+use Rattle.panel.specs.Commands.{Command, opening, adding, removing, touching, planning, changing, parking, unparking, any_of, fields_in, is_rising, are_field_bytes, checked}
+use Rattle.optimality.specs.Condition3.{Entry, Store, empty, entered, strike, level_in, Pair, items, Matching, count_up_to, rows, held, one, more, Loop, Optimal, Run, stepped, after, panels, start}
 use Rattle.optimality.specs.States.{Better}
 use Rattle.optimality.specs.Refusals.{Possible, Loops, reversal}
-use Rattle.optimality.proofs.Conflict.{conflict_exactly}
+use Rattle.optimality.proofs.Conflict.{conflict_exactly, unpark_conflict_exactly}
 use Rattle.optimality.proofs.Loops.{loop_exactly}
 
 abbrev pair : Item → ℕ → Pair
@@ -193,10 +194,47 @@ some_choice : (Possible (entered (after panels start one_link).store (adding 1 0
 unfolding count any lowest tabulate member set_of with without only within greatest strength lowest_at strongest path next following order
     has_loop setter_of is_in_force opened strength_of is_blocked path_for reversed is_looped reverse_step enter_step any_of fields_in is_rising are_field_bytes
     checked stepped after
-some_choice none =
-    let e = (conflict_exactly one_link 1 (0x80 ∷ []) (refl, (refl, (refl, (refl, tt))))).1 none in
+some_choice never =
+    let e = (conflict_exactly one_link 1 (0x80 ∷ []) (refl, (refl, (refl, (refl, tt))))).1 never in
     let z : ◌≡◌ {A = ℕ} 0x00 0xFF = ap (λ (b : List ℕ). get_or b 0 0) e in
     omega arith
+
+-- ---- parked links
+
+-- 0102, 02000081, 090001, 02010081: link 0 is laid aside, and link 1 stands
+abbrev one_parked : List Command
+one_parked = opening 2 ∷ adding 0 0 (0x81 ∷ []) ∷ parking 0 ∷ adding 1 0 (0x81 ∷ []) ∷ []
+
+abbrev over_1 : Entry
+over_1 = record { level = 0; covered = 2; outputs = 2 }
+
+-- the outputs of what stands and of what is aside, 0 where nothing is
+abbrev outputs : Option Entry → ℕ
+outputs none = 0
+outputs (some e) = e.outputs
+
+abbrev stand_and_aside : List Command → List ℕ
+stand_and_aside further =
+    let b = (after panels start (one_parked ++ further)).store in
+    map outputs (b.links 0 ∷ b.links 1 ∷ b.aside 0 ∷ b.aside 1 ∷ [])
+
+-- "laid aside .., where it does not stand"; 06000080: "frame 06 alters them aside"; 0300: "Remove strikes them out"; 0301, 090000: "bringing back enters
+-- these again"
+laid_aside_lem : (stand_and_aside [] ≡ 0 ∷ 2 ∷ 2 ∷ 0 ∷ [])
+    × (stand_and_aside (changing 0 0 (0x80 ∷ []) ∷ []) ≡ 0 ∷ 2 ∷ 1 ∷ 0 ∷ [])
+    × (stand_and_aside (removing 0 ∷ []) ≡ 0 ∷ 2 ∷ 0 ∷ 0 ∷ [])
+    × (stand_and_aside (removing 1 ∷ unparking 0 ∷ []) ≡ 2 ∷ 0 ∷ 0 ∷ 0 ∷ [])
+unfolding count any lowest tabulate member set_of with without only within greatest strength lowest_at strongest path next following order
+    has_loop setter_of is_in_force opened replaced strength_of is_blocked path_for reversed least least_blocked items_of is_looped reverse_step enter_step
+    remove_step change_step park_step unpark_step any_of fields_in is_rising are_field_bytes checked stepped after
+laid_aside_lem = (refl, refl, refl, refl)
+
+-- "Conflict .. as for Add": 090000 is refused with Conflict, so no choice holds both links
+no_choice_back : Possible (entered (after panels start one_parked).store (unparking 0)) → ⊥
+unfolding count any lowest tabulate member set_of with without only within greatest strength lowest_at strongest path next following order
+    has_loop setter_of is_in_force opened replaced strength_of is_blocked path_for reversed least least_blocked items_of is_looped reverse_step enter_step
+    park_step unpark_step any_of fields_in is_rising are_field_bytes checked stepped after
+no_choice_back = (unpark_conflict_exactly one_parked 0 over_1 refl refl).0 refl
 
 -- ---- Loop
 
@@ -217,20 +255,26 @@ before_add = opening 2 ∷ adding 0 0 (0x00 ∷ 0x81 ∷ []) ∷ []
 abbrev before_change : List Command
 before_change = opening 2 ∷ adding 0 0 (0x80 ∷ []) ∷ adding 1 0 (0x00 ∷ 0x81 ∷ []) ∷ adding 2 1 (0x80 ∷ 0x01 ∷ []) ∷ []
 
+-- 0102, 0201008001, 090101, 0200000081; 090100 does
+abbrev before_return : List Command
+before_return = opening 2 ∷ adding 1 0 (0x80 ∷ 0x01 ∷ []) ∷ parking 1 ∷ adding 0 0 (0x00 ∷ 0x81 ∷ []) ∷ []
+
 abbrev Looping : List Command → Command → Type 0
 Looping cs c = Loops (reversal (after panels start cs).state c)
 
 -- "If the result has a loop, refuse with Loop": where Loop is given, the state with the path reversed has a loop
 loops_found : Looping before_add (adding 1 0 (0x80 ∷ 0x01 ∷ [])) × Looping before_removal (removing 2) × Looping before_touch (touching 1)
-    × Looping before_change (changing 0 0 (0x81 ∷ []))
+    × Looping before_change (changing 0 0 (0x81 ∷ [])) × Looping before_removal (parking 2) × Looping before_return (unparking 1)
 unfolding count any lowest tabulate member set_of with without only within greatest strength lowest_at strongest path next following order
-    has_loop setter_of is_in_force opened dropped to_front strength_of is_blocked path_for reversed least least_blocked items_of is_looped reverse_step
-    enter_step remove_step change_step touch_step any_of fields_in is_rising are_field_bytes checked stepped after
+    has_loop setter_of is_in_force opened replaced to_front strength_of is_blocked path_for reversed least least_blocked items_of is_looped reverse_step
+    enter_step remove_step renew_step change_step touch_step park_step unpark_step any_of fields_in is_rising are_field_bytes checked stepped after
 loops_found = (
   (loop_exactly before_add (adding 1 0 (0x80 ∷ 0x01 ∷ [])) (refl, (refl, (refl, (refl, tt))))).0 refl,
   (loop_exactly before_removal (removing 2) (refl, (refl, (refl, tt)))).0 refl,
   (loop_exactly before_touch (touching 1) (refl, (refl, tt))).0 refl,
   (loop_exactly before_change (changing 0 0 (0x81 ∷ [])) (refl, (refl, (refl, (refl, tt))))).0 refl,
+  (loop_exactly before_removal (parking 2) (refl, (refl, (refl, tt)))).0 refl,
+  (loop_exactly before_return (unparking 1) (refl, (refl, (refl, tt)))).0 refl,
 )
 
 -- where it is not given, there is none

@@ -15,6 +15,7 @@ pub mod Answers
 pub mod Steps
 pub mod Removing
 pub mod Runs
+pub mod Parking
 pub mod States
 pub mod Conflict
 pub mod Loops

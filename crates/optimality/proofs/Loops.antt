@@ -13,26 +13,26 @@ use Rattle.fieldset.proofs.Numbers.{clash}
 use Rattle.ordering.specs.Walks.{ClosedWalk}
 use Rattle.ordering.proofs.Loops.{loop_walk, walk_loop}
 use Rattle.panel.specs.declared.Standing.{Standing}
-use Rattle.panel.specs.declared.Standing.TheVariants.{Waiting, Holding}
+use Rattle.panel.specs.declared.Standing.TheVariants.{Waiting, Holding, Parked}
 use Rattle.panel.specs.declared.Link.{Link}
 use Rattle.panel.specs.declared.Panel.{Panel}
 use Rattle.panel.specs.declared.Refusal.TheVariants.{Conflict, Loop}
-use Rattle.panel.specs.Items.{Item, link, stay, link_at}
+use Rattle.panel.specs.Items.{Item, link, stay, no_link, link_at, is_parked}
 use Rattle.panel.specs.Answers.{Answer, is_refusal, refused}
-use Rattle.panel.specs.Panels.{with_link, dropped, to_front}
+use Rattle.panel.specs.Panels.{with_link, dropped, parked, to_front}
 use Rattle.panel.specs.Solution.{level, setter_reads, is_blocked, is_looped, path_for, reversed, least_blocked}
-use Rattle.panel.specs.Steps.{accepted, reverse_step, open_step, enter_step, add_step, settled, drop_step, remove_step, touch_step, plan_step}
-use Rattle.panel.specs.Commands.{Command, opening, adding, removing, touching, planning, changing, performed, Passes, add_checks, remove_checks, change_checks, covered_in, outputs_in}
+use Rattle.panel.specs.Steps.{accepted, reverse_step, quiet, open_step, enter_step, add_step, settled, drop_step, remove_step, touch_step, plan_step, park_step, unpark_step}
+use Rattle.panel.specs.Commands.{Command, opening, adding, removing, touching, planning, changing, parking, unparking, performed, Passes, add_checks, remove_checks, change_checks, covered_in, outputs_in}
 use Rattle.panel.specs.Legal.{Legal}
 use Rattle.panel.proofs.Reversed.{left}
 use Rattle.panel.proofs.Legal.{Carrying, LegalBut}
 use Rattle.panel.proofs.Setters.{setter_reads_inside}
 use Rattle.panel.proofs.Reversal.{blocking, route_for, route_carrying, legal_waits}
-use Rattle.panel.proofs.Changes.{add_enters, legal_add, legal_dropped, legal_front}
-use Rattle.panel.proofs.Checks.{new_link, addable, removable, touchable, changeable, change_removes, change_adds, checked_step}
+use Rattle.panel.proofs.Changes.{add_enters, legal_add, none_aside, legal_replaced, legal_front}
+use Rattle.panel.proofs.Checks.{new_link, parked_new, returning, addable, removable, touchable, changeable, change_removes, change_adds, checked_step}
 use Rattle.panel.proofs.Least.{LeastBlocked, least_blocked_lem}
-use Rattle.panel.proofs.Performed.{pick, legal_performed, without_unused}
-use Rattle.panel.proofs.Changing.{Alike, Cases, change_cases}
+use Rattle.panel.proofs.Performed.{pick, legal_performed, without_unused, parked_record, parked_aside, parked_enters}
+use Rattle.panel.proofs.Changing.{Alike, Cases, change_parked, change_cases}
 use Rattle.optimality.specs.Condition3.{AfterEveryList, panels, start}
 use Rattle.optimality.specs.Refusals.{checks_of, Reversal, reversing, entering, settling, dropping, reversal, reversed_panel, Loops, LoopExactly}
 use Rattle.optimality.proofs.Graphs.{setters_of}
@@ -113,6 +113,7 @@ module _ (p : Panel) (h : Legal p) where
   drop_exactly : (q : Panel) → Legal q → (s : Standing) → Exactly p (drop_step p q s) (dropping q s)
   drop_exactly q k Waiting = still p (accepted p q) (yes _ _ tt)
   drop_exactly q k (Holding v) = settled_exactly q k (least_blocked q) (least_blocked_lem q k)
+  drop_exactly q k Parked = still p (quiet q) (yes _ _ tt)
 
   add_exactly : (id lev : ℕ) (bytes : List ℕ) → Passes (add_checks p id lev bytes)
       → Exactly p (performed p (adding id lev bytes)) (entering p id (new_link lev bytes))
@@ -124,7 +125,33 @@ module _ (p : Panel) (h : Legal p) where
   unfolding remove_step
   remove_exactly id n =
       rw (checked_step p (remove_checks p id) (remove_step p id) n)
-      (drop_exactly (dropped p id) (legal_dropped p id h (removable p id n).number) (link_at p.links id).standing)
+      (drop_exactly (dropped p id) (legal_replaced p id no_link (none_aside p.size) h (removable p id n).number) (link_at p.links id).standing)
+
+  park_exactly : (id : ℕ) → Passes (remove_checks p id) → Exactly p (performed p (parking id)) (dropping (parked p id) (link_at p.links id).standing)
+  unfolding park_step
+  park_exactly id n =
+      let k = removable p id n in
+      let aside = parked_aside p h id k.number k.used in
+      rw (checked_step p (remove_checks p id) (park_step p id) n)
+      (go (link_at p.links id).standing (legal_replaced p id (parked_record p id) aside h k.number))
+    where
+      go : (s : Standing) → Legal (parked p id) → Exactly p (cond (is_parked s) (quiet p) (drop_step p (parked p id) s)) (dropping (parked p id) s)
+      go Waiting k = drop_exactly (parked p id) k Waiting
+      go (Holding v) k = drop_exactly (parked p id) k (Holding v)
+      go Parked k = still p (quiet p) (yes _ _ tt)
+
+  unpark_exactly : (id : ℕ) → Passes (remove_checks p id) → Exactly p (performed p (unparking id)) (reversal p (unparking id))
+  unfolding unpark_step reversal
+  unpark_exactly id n =
+      let k = removable p id n in
+      rw (checked_step p (remove_checks p id) (unpark_step p id) n)
+      (go (link_at p.links id).standing (λ e. legal_add p id (returning p id) h (parked_enters p h id k.number k.used e)))
+    where
+      go : (s : Standing) → (s ≡ Parked → LegalBut (link id) (with_link p id (returning p id)))
+          → Exactly p (cond (is_parked s) (enter_step p p id (returning p id)) (quiet p)) (cond (is_parked s) (entering p id (returning p id)) none)
+      go Waiting k = still p (quiet p) (yes _ _ tt)
+      go (Holding v) k = still p (quiet p) (yes _ _ tt)
+      go Parked k = enter_exactly p id (returning p id) (k refl)
 
 -- the same refusal, or none: Loop for one where for the other
 alike_exactly : (p q : Panel) (a b : Answer) (r : Option Reversal) → Alike p q a b → Exactly q b r → Exactly p a r
@@ -140,18 +167,25 @@ module _ (p : Panel) (h : Legal p) where
   change_exactly : (id lev : ℕ) (bytes : List ℕ) → Passes (change_checks p id lev bytes)
       → Exactly p (performed p (changing id lev bytes)) (reversal p (changing id lev bytes))
   unfolding reversal
-  change_exactly id lev bytes n = go (change_cases p id lev bytes h n)
+  change_exactly id lev bytes n = by (link_at p.links id).standing refl
     where
       q : Panel
       q = (performed p (removing id)).panel
 
-      go : Cases p id lev bytes
-          → Exactly p (performed p (changing id lev bytes))
-          (cond (is_refusal (performed p (removing id)).reply) (dropping (dropped p id) (link_at p.links id).standing) (entering q id (new_link lev bytes)))
+      anew : Option Reversal
+      anew =
+          cond (is_refusal (performed p (removing id)).reply) (dropping (dropped p id) (link_at p.links id).standing) (entering q id (new_link lev bytes))
+
+      go : Cases p id lev bytes → Exactly p (performed p (changing id lev bytes)) anew
       go (inl (r, e, is)) = rw (r, is) (remove_exactly p h id (change_removes p id lev bytes n))
       go (inr (r, w, a)) =
           rw r (alike_exactly p q _ _ _ a (add_exactly q (legal_performed p (removing id) h) id lev bytes
           (change_adds p id lev bytes n q w.size (without_unused w h (changeable p id lev bytes n).number))))
+
+      by : (s : Standing) → (link_at p.links id).standing ≡ s → Exactly p (performed p (changing id lev bytes)) (cond (is_parked s) none anew)
+      by Waiting e = go (change_cases p id lev bytes h n (ap is_parked e))
+      by (Holding v) e = go (change_cases p id lev bytes h n (ap is_parked e))
+      by Parked e = rw (change_parked p id lev bytes n e) (still p (quiet (with_link p id (parked_new lev bytes))) (yes _ _ tt))
 
   pub command_exactly : (c : Command) → Passes (checks_of p c) → Exactly p (performed p c) (reversal p c)
   unfolding plan_step reversal
@@ -161,6 +195,8 @@ module _ (p : Panel) (h : Legal p) where
   command_exactly (touching f) n = rw (checked_step p (checks_of p (touching f)) (touch_step p f) n) (touch_exactly p h f (touchable p f n))
   command_exactly planning n = rw (checked_step p (checks_of p planning) (plan_step p) n) (still p (plan_step p) (yes _ _ tt))
   command_exactly (changing id lev bytes) n = change_exactly id lev bytes n
+  command_exactly (parking id) n = park_exactly p h id n
+  command_exactly (unparking id) n = unpark_exactly p h id n
 
 pub loop_exactly : AfterEveryList panels start (λ r. LoopExactly r.state)
 loop_exactly commands = command_exactly _ (after_sound commands).legal

@@ -4,7 +4,6 @@
 use Prim.Native.Nat.{ℕ, ◌+◌, ◌≤◌, ◌<◌}
 use mathlib.Core.Path.{◌≡◌, refl, sym, ap, ◌∙◌}
 use mathlib.Core.Bool.{Bool, true, false, cond}
-use mathlib.Core.Option.{some}
 use mathlib.Core.Logic.{◌≢◌}
 use native.Mathlib.Nat.{le_of_eq}
 use native.Mathlib.Omega.{arith}
@@ -31,14 +30,14 @@ use Rattle.panel.proofs.Setters.{setter_force}
 use Rattle.panel.proofs.Reversal.{blocking, legal_waits, legal_reversed}
 use Rattle.panel.proofs.Changes.{Enters, legal_add, legal_but, legal_front}
 use Rattle.panel.proofs.Performed.{pick}
-use Rattle.optimality.specs.Condition3.{Store, entry, entered}
-use Rattle.optimality.specs.Agreement.{entry_for, Agrees, Sound}
+use Rattle.optimality.specs.Condition3.{Store, entered}
+use Rattle.optimality.specs.Agreement.{Agrees, Sound}
 use Rattle.optimality.proofs.Setters.{Waits, Free, Unblocked}
 use Rattle.optimality.proofs.Changes.{free_le, Change, changed_potential, changed_free, pushed, pushed_mono, pushed_ge, pushed_link, pushed_stay}
 use Rattle.optimality.proofs.Reversal.{reversal_unblocked}
 use Rattle.optimality.proofs.Graphs.{graph_of, setters_of, legal_whole, strength_least, none_unblocked, free_unblocked}
 use Rattle.optimality.proofs.Paths.{path_reversible, after_force, after_none}
-use Rattle.optimality.proofs.Agreement.{agrees_alike, agrees_link, agrees_front}
+use Rattle.optimality.proofs.Agreement.{agrees_alike, Entered, agrees_link, agrees_front}
 
 -- the panel of an answer is sound, with the store b' or, where the answer is a refusal, with b
 abbrev pub SoundAfter : Store → Store → Answer → Type 0
@@ -139,27 +138,27 @@ module _ {b : Store} {q : Panel} (x : Sound b q) {id : ℕ} {l : Link} (a : Ente
   pub enter_force : is_in_force l ≡ true
   enter_force = waiting_force l a.used a.rests
 
-  pub enter_agrees : Agrees (entry b id (some (entry_for l))) r
-  enter_agrees = agrees_link b q id l (some (entry_for l)) (rw enter_force) inside x.agrees
+  pub enter_agrees : {b' : Store} → Entered b b' id l → Agrees b' r
+  enter_agrees e = agrees_link q id l inside e x.agrees
 
   -- nothing is blocked where the new link is not
   pub enter_none : is_blocked r (link id) ≡ false → (w : Item) → is_blocked r w ≡ false
   enter_none = link_none q x.legal x.unblocked id l enter_idle enter_legal
 
-  pub enter_sound : {b₀ : Store} {p : Panel} → Sound b₀ p → SoundAfter b₀ (entry b id (some (entry_for l))) (enter_step p q id l)
+  pub enter_sound : {b₀ b' : Store} {p : Panel} → Sound b₀ p → Entered b b' id l → SoundAfter b₀ b' (enter_step p q id l)
   unfolding enter_step
-  enter_sound {b₀} {p} y = go (is_blocked r (link id)) refl (eqb l.level 0) refl
+  enter_sound {b₀} {b'} {p} y new = go (is_blocked r (link id)) refl (eqb l.level 0) refl
     where
       go : (t : Bool) → is_blocked r (link id) ≡ t → (z : Bool) → eqb l.level 0 ≡ z
-          → SoundAfter b₀ (entry b id (some (entry_for l))) (pick t (reverse_step p r (link id)) (pick z (refused p Conflict) (accepted p r)))
+          → SoundAfter b₀ b' (pick t (reverse_step p r (link id)) (pick z (refused p Conflict) (accepted p r)))
       go true e z d =
-          reverse_sound b₀ _ p r (link id) y enter_legal e enter_agrees (strength_of r)
+          reverse_sound b₀ b' p r (link id) y enter_legal e (enter_agrees new) (strength_of r)
           (reversal_unblocked (path_reversible enter_legal e) (link_free q x.legal x.unblocked id l enter_idle enter_legal))
       go false e true d = y
       go false e false d =
           record {
             legal = legal_but r (link id) enter_legal (λ u z. eqb-false l.level 0 d (rw enter_here at z));
-            agrees = enter_agrees;
+            agrees = enter_agrees new;
             unblocked = enter_none e;
           }
 

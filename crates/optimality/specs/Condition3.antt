@@ -10,7 +10,7 @@ use Rattle.panel.specs.declared.Panel.{Panel}
 use Rattle.panel.specs.Items.{Item, link, stay}
 use Rattle.panel.specs.Answers.{is_refusal}
 use Rattle.panel.specs.Panels.{opened}
-use Rattle.panel.specs.Commands.{Command, opening, adding, removing, touching, planning, changing, performed, covered_in, outputs_in}
+use Rattle.panel.specs.Commands.{Command, opening, adding, removing, touching, planning, changing, parking, unparking, performed, covered_in, outputs_in}
 
 -- ---- the constraint store (document 01's book)
 
@@ -20,18 +20,28 @@ pub record Entry : Type 0 where
   pub covered : ℕ
   pub outputs : ℕ
 
--- the fields of the stays, in their order, and for each number the link that stands there
+-- the fields of the stays, in their order, and for each number the link that stands there; and beside these for each number the link that is "laid
+-- aside with its level, covered fields and outputs, where it does not stand" (document 02, request 8)
 pub record Store : Type 0 where
   pub stays : List ℕ
   pub links : ℕ → Option Entry
+  pub aside : ℕ → Option Entry
 
 -- "It starts empty"
 abbrev pub empty : Store
-empty = record { stays = []; links = λ i. none }
+empty = record { stays = []; links = λ i. none; aside = λ i. none }
 
--- the store with another entry at a number
+-- another entry at a number
+abbrev pub put : (ℕ → Option Entry) → ℕ → Option Entry → ℕ → Option Entry
+put entries id e i = cond (eqb i id) e (entries i)
+
+-- the store with another entry at a number, where it stands
 abbrev pub entry : Store → ℕ → Option Entry → Store
-entry b id e = record { stays = b.stays; links = λ i. cond (eqb i id) e (b.links i) }
+entry b id e = record { stays = b.stays; links = put b.links id e; aside = b.aside }
+
+-- and aside
+abbrev pub beside : Store → ℕ → Option Entry → Store
+beside b id e = record { stays = b.stays; links = b.links; aside = put b.aside id e }
 
 -- the list with the first f in it struck out
 unfoldable pub strike : ℕ → List ℕ → List ℕ
@@ -42,20 +52,37 @@ strike f (g ∷ gs) = cond (eqb g f) gs (g ∷ strike f gs)
 abbrev pub new_entry : ℕ → List ℕ → Entry
 new_entry level bytes = record { level = level; covered = covered_in bytes; outputs = outputs_in bytes }
 
+-- parking: the link that stands is laid aside, "where it does not stand"; "parking a parked link" changes nothing
+abbrev pub laid_aside : Store → ℕ → Option Entry → Store
+laid_aside b id none = b
+laid_aside b id (some e) = beside (entry b id none) id (some e)
+
+-- "bringing back enters these again"; "bringing back another one" changes nothing
+abbrev pub brought_back : Store → ℕ → Option Entry → Store
+brought_back b id none = b
+brought_back b id (some e) = entry (beside b id none) id (some e)
+
+-- a change "removes the link and adds it anew as one" (document 02, request 5): it is struck out and entered anew; of a link that is aside "frame 06
+-- alters them aside" (request 8)
+abbrev pub altered : Store → ℕ → Entry → Option Entry → Store
+altered b id new none = entry (entry b id none) id (some new)
+altered b id new (some e) = beside b id (some new)
+
 -- what a command that is not refused changes in the store
 abbrev pub entered : Store → Command → Store
 -- "Opening enters the stays of fields 0 to n - 1, in that order"
-entered b (opening n) = record { stays = tabulate (λ f. f) n; links = b.links }
+entered b (opening n) = record { stays = tabulate (λ f. f) n; links = b.links; aside = b.aside }
 -- "Add enters the link with its number, level, covered fields and outputs"
 entered b (adding id level bytes) = entry b id (some (new_entry level bytes))
--- "Remove strikes out the link of that number"
-entered b (removing id) = entry b id none
+-- "Remove strikes out the link of that number"; of one that is aside "Remove strikes them out"
+entered b (removing id) = beside (entry b id none) id none
 -- "Touch f moves f's stay to the front; the other stays keep their order"
-entered b (touching f) = record { stays = f ∷ strike f b.stays; links = b.links }
+entered b (touching f) = record { stays = f ∷ strike f b.stays; links = b.links; aside = b.aside }
 -- "A refused command and a plan change nothing in it"
 entered b planning = b
--- a change "removes the link and adds it anew as one" (document 02, request 5): it is struck out and entered anew
-entered b (changing id level bytes) = entry (entry b id none) id (some (new_entry level bytes))
+entered b (changing id level bytes) = altered b id (new_entry level bytes) (b.aside id)
+entered b (parking id) = laid_aside b id (b.links id)
+entered b (unparking id) = brought_back b id (b.aside id)
 
 abbrev pub level_of : Option Entry → ℕ
 level_of none = 0
@@ -201,6 +228,6 @@ abbrev pub start : Run panels
 start = record { state = opened 0; store = empty }
 
 -- "For every list of commands (opening, add, remove, touch, plan, refused ones included) from an unopened panel" (tender); "Kinds of command added later
--- join the list": a change is one
+-- join the list": a change is one, and parking and bringing back
 abbrev pub Condition3 : Type 0
 Condition3 = AfterEveryList panels start (λ r. Optimal r.store (panels.plan r.state))

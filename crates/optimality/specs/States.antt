@@ -1,12 +1,16 @@
 -- What holds in every state after a list of commands, and document 01's Better.
 use Rattle.std.specs.Prelude.{ℕ, ◌<◌, ◌≡◌, ◌↔◌, true, false, List}
-use Rattle.std.proofs.Math.Option.{some}
+use Rattle.std.proofs.Math.Option.{none, some}
 use Rattle.fieldset.specs.Lists.{In}
 use Rattle.panel.specs.declared.Panel.{Panel}
-use Rattle.panel.specs.Items.{Item, link, link_at, is_in_force}
-use Rattle.panel.specs.Panels.{dropped}
+use Rattle.panel.specs.declared.Standing.TheVariants.{Parked}
+use Rattle.panel.specs.declared.Refusal.TheVariants.{LinkTaken}
+use Rattle.panel.specs.Items.{Item, link, no_link, link_at, is_in_force}
+use Rattle.panel.specs.Answers.{refused}
+use Rattle.panel.specs.Panels.{parked_link, with_link, dropped, parked}
 use Rattle.panel.specs.Solution.{is_blocked, least_blocked}
-use Rattle.panel.specs.Steps.{settled, remove_step}
+use Rattle.panel.specs.Steps.{quiet, add_step, settled, remove_step, park_step}
+use Rattle.panel.specs.Commands.{adding, removing, planning, changing, parking, unparking, performed, covered_in, outputs_in, Passes, remove_checks, change_checks}
 use Rattle.optimality.specs.Condition3.{Entry, Store, level_in, Pair, items, Matching, held}
 
 -- ---- every state
@@ -29,9 +33,40 @@ NothingBlocked p = (c : Item) → is_blocked p c ≡ false
 -- ---- Remove
 
 -- "If the link waits, drop it. If it sets v, .. Then look at all blocked links and stays": to look after a link that waits is dropped, too, gives the
--- same answer
+-- same answer; so it is where a link is parked, "as Remove would" (document 02, request 8)
 abbrev pub LooksAlike : Panel → Type 0
-LooksAlike p = (id : ℕ) → is_in_force (link_at p.links id) ≡ true → remove_step p id ≡ settled p (dropped p id) (least_blocked (dropped p id))
+LooksAlike p =
+    (id : ℕ) → is_in_force (link_at p.links id) ≡ true
+    → (remove_step p id ≡ settled p (dropped p id) (least_blocked (dropped p id)))
+    × (park_step p id ≡ settled p (parked p id) (least_blocked (parked p id)))
+
+-- ---- parked links (quotations: document 02, request 8)
+
+-- of a link that is aside with this entry
+pub record ParkedExactly (b : Store) (p : Panel) (id : ℕ) (e : Entry) : Type 0 where
+  -- "it holds nothing"
+  pub holds : In (link id) (items (held (performed p planning).reply)) → ⊥
+  -- "is never blocked": in no panel in which it is parked, whatever else stands there, so also where a removal or a parking looks at what is blocked
+  pub never_blocked : (q : Panel) → (link_at q.links id).standing ≡ Parked → is_blocked q (link id) ≡ false
+  -- "and does not count as in force"
+  pub off : is_in_force (link_at p.links id) ≡ false
+  pub stands_nowhere : b.links id ≡ none
+  -- "its number stays taken": of an add that passes the checks before
+  pub taken : (level : ℕ) (bytes : List ℕ) → Passes (change_checks p id level bytes) → performed p (adding id level bytes) ≡ refused p LinkTaken
+  -- "09 id 00 brings back as Add would", with the level, covered fields and outputs that lie aside
+  pub brought_back : performed p (unparking id) ≡ add_step p id e.level e.covered e.outputs
+  -- "parking a parked link .. replies 0", and nothing changes
+  pub parked_again : performed p (parking id) ≡ quiet p
+  -- "Remove on a parked link drops it and replies 0"
+  pub removed : performed p (removing id) ≡ quiet (with_link p id no_link)
+  -- "Frame 06 on a parked link alters it and leaves it parked"
+  pub altered : (level : ℕ) (bytes : List ℕ) → Passes (change_checks p id level bytes)
+      → performed p (changing id level bytes) ≡ quiet (with_link p id (parked_link level (covered_in bytes) (outputs_in bytes)))
+
+pub record Parking (b : Store) (p : Panel) : Type 0 where
+  pub aside : (id : ℕ) (e : Entry) → b.aside id ≡ some e → ParkedExactly b p id e
+  -- "bringing back another one replies 0", and nothing changes
+  pub another : (id : ℕ) → Passes (remove_checks p id) → b.aside id ≡ none → performed p (unparking id) ≡ quiet p
 
 -- ---- Better
 

@@ -4,6 +4,7 @@ use Prim.Native.Nat.{ℕ, ◌+◌, ◌≤◌, ◌<◌}
 use mathlib.Core.Path.{◌≡◌, refl, sym, ap, ◌∙◌, subst}
 use mathlib.Core.Bool.{Bool, true, false}
 use mathlib.Core.List.{List}
+use mathlib.Core.Logic.{◌≢◌, inl, inr}
 use native.Mathlib.Decide.{ℕ_discrete, dec_lt}
 use native.Mathlib.Omega.{arith}
 use borrow.Author.Tests.{lt-ltb, le-ltb, eq-eqb, ne_eqb}
@@ -17,16 +18,17 @@ use Rattle.fieldset.proofs.Tables.{length_tabulate, get_d_tabulate}
 use Rattle.ordering.specs.Order.{has_loop}
 use Rattle.ordering.proofs.Loops.{ranked_no_loop}
 use Rattle.panel.specs.declared.Standing.{Standing}
-use Rattle.panel.specs.declared.Standing.TheVariants.{Waiting, Holding}
+use Rattle.panel.specs.declared.Standing.TheVariants.{Waiting, Holding, Parked}
 use Rattle.panel.specs.declared.Link.{Link}
 use Rattle.panel.specs.declared.Panel.{Panel}
 use Rattle.panel.specs.Items.{Item, link, stay, no_link, link_at, setter_of, reads_of, is_in_force}
-use Rattle.panel.specs.Panels.{opened, with_link, with_setter, freed, dropped, place_after, to_front}
+use Rattle.panel.specs.Panels.{opened, with_link, with_setter, freed, replaced, place_after, to_front}
 use Rattle.panel.specs.Solution.{setter_reads, is_looped}
-use Rattle.panel.specs.Legal.{Formed, Legal}
-use Rattle.panel.proofs.InForce.{unused_off}
+use Rattle.panel.specs.Legal.{Formed, Aside, Legal}
+use Rattle.panel.proofs.InForce.{unused_off, parked_off}
+use Rattle.panel.proofs.Standings.{waiting_not_holding, parked_not_holding}
 use Rattle.panel.proofs.Reversed.{setter_own, number_setter, link_not_stay, setter_stay, put, put_here, put_there, link_here, holding_sets}
-use Rattle.panel.proofs.Legal.{Placed, Good, Carrying, Weak, LegalBut, placed, legal, carrying, carrying_step, carrying_link}
+use Rattle.panel.proofs.Legal.{Placed, Good, Carrying, Weak, LegalBut, placed, rests_free, legal, carrying, carrying_step, carrying_link}
 use Rattle.panel.proofs.Checks.{new_link, Addable}
 use Rattle.panel.proofs.Setters.{whole, setter_reads_inside, no_loop_within, reads_there}
 
@@ -151,28 +153,38 @@ legal_add p i l h a =
 
 -- an item that is no required link may wait
 pub legal_but : (p : Panel) (c : Item) → LegalBut c p → Weak p.links c → Legal p
-legal_but p c h weak = legal p c h.carrying h.rests weak h.loopless
+legal_but p c h weak = legal p c h.carrying (rests_free p.links c h.rests) weak h.loopless
 
--- a link that may stand in a panel of n fields and is not in force
-pub record Aside (n : ℕ) (l : Link) : Type 0 where
-  pub good : Good n l
-  pub off : is_in_force l ≡ false
-  pub rests : l.standing ≡ Waiting
+-- ---- a link that is not in force in place of another
+
+pub none_aside : (n : ℕ) → Aside n no_link
+none_aside n = inl refl
+
+module _ {n : ℕ} {l : Link} where
+  pub aside_good : Aside n l → Good n l
+  aside_good (inl e) = rw e (good_none n)
+  aside_good (inr (u, s, f)) = record { formed = λ e. f; unused = λ e. absurd (clash u e) }
+
+  pub aside_off : Aside n l → is_in_force l ≡ false
+  aside_off (inl e) = rw e (unused_off no_link refl)
+  aside_off (inr (u, s, f)) = parked_off l s
+
+  pub aside_free : Aside n l → (f : ℕ) → l.standing ≢ Holding f
+  aside_free (inl e) = waiting_not_holding (ap (λ (x : Link). x.standing) e)
+  aside_free (inr (u, s, g)) = parked_not_holding s
 
 -- it takes the number of a link by which nothing was set
 aside_link : (p : Panel) (i : ℕ) (l : Link) → Aside p.size l → i < 128 → Carrying (link i) p → is_looped p ≡ false → Legal (with_link p i l)
 aside_link p i l a small h e =
     let here : link_at (set p.links i l) i ≡ l = link_here p.links i l (omega (arith, h.filled.full)) in
-    legal (with_link p i l) (link i) (carrying_link p i l h a.good) (ap (λ (x : Link). x.standing) here ∙ a.rests)
-    (λ u z. clash (rw here at u) a.off) (loopless_link p i l h e)
+    legal (with_link p i l) (link i) (carrying_link p i l h (aside_good a)) (λ f x. aside_free a f (ap (λ (x : Link). x.standing) (sym here) ∙ x))
+    (λ u z. clash (rw here at u) (aside_off a)) (loopless_link p i l h e)
 
--- of a link that waits
-aside_waiting : (p : Panel) (i : ℕ) (l : Link) → Aside p.size l → Legal p → i < 128 → (link_at p.links i).standing ≡ Waiting → Legal (with_link p i l)
-aside_waiting p i l a h small rests =
-    aside_link p i l a small (carrying p (link i) h (λ f l e. never f ((whole p h).held.sets f i l e).holds)) h.loopless
-  where
-    never : (f : ℕ) → (link_at p.links i).standing ≡ Holding f → ⊥
-    never f e = let z : ◌≡◌ {A = ℕ} 0 1 = cc in omega arith
+-- of a link that holds no field
+aside_unset : (p : Panel) (i : ℕ) (l : Link) → Aside p.size l → Legal p → i < 128 → ((f : ℕ) → (link_at p.links i).standing ≢ Holding f)
+    → Legal (with_link p i l)
+aside_unset p i l a h small free =
+    aside_link p i l a small (carrying p (link i) h (λ f l e. free f ((whole p h).held.sets f i l e).holds)) h.loopless
 
 -- of a link that holds v, and v's stay sets v
 aside_holding : (p : Panel) (i v : ℕ) (l : Link) → Aside p.size l → Legal p → i < 128 → (link_at p.links i).standing ≡ Holding v
@@ -216,24 +228,23 @@ aside_holding p i v l a h small holds = aside_link q i l a small (subst (λ (c :
 
 pub legal_aside : (p : Panel) (i : ℕ) (l : Link) → Aside p.size l → Legal p → i < 128 → (s : Standing) → (link_at p.links i).standing ≡ s
     → Legal (freed (with_link p i l) s)
-legal_aside p i l a h small Waiting e = aside_waiting p i l a h small e
+legal_aside p i l a h small Waiting e = aside_unset p i l a h small (waiting_not_holding e)
 legal_aside p i l a h small (Holding v) e = aside_holding p i v l a h small e
-
-pub none_aside : (n : ℕ) → Aside n no_link
-none_aside n = record { good = good_none n; off = unused_off no_link refl; rests = refl }
+legal_aside p i l a h small Parked e = aside_unset p i l a h small (parked_not_holding e)
 
 -- a field given back to its stay leaves the number of fields and the links
 pub freed_parts : (q : Panel) (s : Standing) → ((freed q s).size ≡ q.size) × ((freed q s).links ≡ q.links)
 freed_parts q Waiting = (refl, refl)
 freed_parts q (Holding v) = (refl, refl)
+freed_parts q Parked = (refl, refl)
 
-pub dropped_parts : (p : Panel) (i : ℕ) → ((dropped p i).size ≡ p.size) × ((dropped p i).links ≡ set p.links i no_link)
-unfolding dropped
-dropped_parts p i = freed_parts (with_link p i no_link) (link_at p.links i).standing
+pub replaced_parts : (p : Panel) (i : ℕ) (l : Link) → ((replaced p i l).size ≡ p.size) × ((replaced p i l).links ≡ set p.links i l)
+unfolding replaced
+replaced_parts p i l = freed_parts (with_link p i l) (link_at p.links i).standing
 
-pub legal_dropped : (p : Panel) (i : ℕ) → Legal p → i < 128 → Legal (dropped p i)
-unfolding dropped
-legal_dropped p i h small = legal_aside p i no_link (none_aside p.size) h small (link_at p.links i).standing refl
+pub legal_replaced : (p : Panel) (i : ℕ) (l : Link) → Aside p.size l → Legal p → i < 128 → Legal (replaced p i l)
+unfolding replaced
+legal_replaced p i l a h small = legal_aside p i l a h small (link_at p.links i).standing refl
 
 -- ---- a stay moved to the front
 

@@ -1,25 +1,26 @@
 -- A change is a removal and an add in a row. What entering a link comes to does not depend on the panel that the count goes by (`enter_alike`); a
--- change that passes its checks lets the removal and then the add pass theirs. So it is refused with the removal, or refused with the add, or it
--- leaves the panel of both (`change_cases`).
+-- change of a link in force that passes its checks lets the removal and then the add pass theirs. So it is refused with the removal, or refused with
+-- the add, or it leaves the panel of both (`change_cases`). A parked link is altered and nothing else (`change_parked`).
 use Prim.Native.Nat.{ℕ}
-use mathlib.Core.Path.{◌≡◌, refl}
+use mathlib.Core.Path.{◌≡◌, refl, ◌∙◌}
 use mathlib.Core.Bool.{Bool, true, false}
 use mathlib.Core.List.{List}
 use mathlib.Core.Logic.{◌⊎◌, inl, inr}
 use lib.Dec.{eqb}
+use Rattle.panel.specs.declared.Standing.TheVariants.{Parked}
 use Rattle.panel.specs.declared.Link.{Link}
 use Rattle.panel.specs.declared.Panel.{Panel}
 use Rattle.panel.specs.declared.Refusal.{Refusal}
 use Rattle.panel.specs.declared.Refusal.TheVariants.{Conflict, Loop}
-use Rattle.panel.specs.Items.{Item, link}
+use Rattle.panel.specs.Items.{Item, link, link_at, is_parked}
 use Rattle.panel.specs.Answers.{Answer, is_refusal, refused}
 use Rattle.panel.specs.Panels.{with_link}
 use Rattle.panel.specs.Solution.{is_blocked, path_for, reversed, is_looped}
-use Rattle.panel.specs.Steps.{accepted, reverse_step, enter_step, add_step, remove_step, change_step}
+use Rattle.panel.specs.Steps.{accepted, reverse_step, quiet, enter_step, add_step, remove_step, renew_step, change_step}
 use Rattle.panel.specs.Commands.{covered_in, outputs_in, Passes, add_checks, remove_checks, change_checks, adding, removing, changing, performed}
 use Rattle.panel.specs.Legal.{Legal}
-use Rattle.panel.proofs.Checks.{checked_step, new_link, changeable, change_removes, change_adds}
-use Rattle.panel.proofs.Performed.{pick, Without, without_unused, change_either}
+use Rattle.panel.proofs.Checks.{checked_step, new_link, parked_new, changeable, change_removes, change_adds}
+use Rattle.panel.proofs.Performed.{pick, Without, without_unused, renew_either, either_parked}
 
 -- ---- the same step, counted from two panels
 
@@ -70,13 +71,26 @@ module _ (p : Panel) (id level : ℕ) (bytes : List ℕ) where
       ((is_refusal removal.reply ≡ true) × (removal.panel ≡ p) × (change ≡ removal))
       ⊎ ((is_refusal removal.reply ≡ false) × Without p id removal.panel × Alike p removal.panel change addition)
 
-  pub change_cases : Legal p → Passes (change_checks p id level bytes) → Cases
-  change_cases h passed =
+  -- a parked link
+  pub change_parked : Passes (change_checks p id level bytes) → (link_at p.links id).standing ≡ Parked → change ≡ quiet (with_link p id (parked_new level bytes))
+  unfolding change_step
+  change_parked passed e =
+      checked_step p (change_checks p id level bytes) (change_step p id level (covered_in bytes) (outputs_in bytes)) passed ∙ rw e refl
+
+  -- any other
+  pub change_renews : Passes (change_checks p id level bytes) → is_parked (link_at p.links id).standing ≡ false
+      → change ≡ renew_step p id level (covered_in bytes) (outputs_in bytes)
+  unfolding change_step
+  change_renews passed e =
+      checked_step p (change_checks p id level bytes) (change_step p id level (covered_in bytes) (outputs_in bytes)) passed ∙ rw e refl
+
+  pub change_cases : Legal p → Passes (change_checks p id level bytes) → is_parked (link_at p.links id).standing ≡ false → Cases
+  change_cases h passed other =
       rw (
         checked_step p (remove_checks p id) (remove_step p id) (change_removes p id level bytes passed),
-        checked_step p (change_checks p id level bytes) (change_step p id level (covered_in bytes) (outputs_in bytes)) passed,
+        change_renews passed other,
       )
-      (change_either Case p id level bytes (λ r e. inl (r, e, refl))
+      (renew_either Case p id level bytes (λ r e. inl (r, e, refl))
       (λ r w. inr (r, w, rw (checked_step q (add_checks q id level bytes) (add_step q id level (covered_in bytes) (outputs_in bytes)) (adds w)) (enter_alike p q q id (new_link level bytes)))))
     where
       q : Panel

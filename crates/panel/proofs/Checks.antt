@@ -22,7 +22,7 @@ use Rattle.panel.specs.declared.Reply.{Reply}
 use Rattle.panel.specs.declared.Reply.TheVariants.{Accepted, Refused}
 use Rattle.panel.specs.Items.{link_at}
 use Rattle.panel.specs.Answers.{Answer, is_refusal, refused, reply_bytes}
-use Rattle.panel.specs.Panels.{waiting_link}
+use Rattle.panel.specs.Panels.{waiting_link, parked_link}
 use Rattle.panel.specs.Commands.{field_of, is_output, has_bit6, any_of, fields_in, covered_in, outputs_in, is_rising, are_field_bytes, Check, checked, check_reply, Passes, is_open, open_checks, link_checks, add_checks, remove_checks, change_checks, touch_checks, check}
 use Rattle.panel.specs.Legal.{Formed}
 use Rattle.panel.proofs.Answers.{replies_apart}
@@ -218,6 +218,14 @@ size_fields q (b ∷ bs) = go (q b) refl (size_fields q bs)
 -- the link that an add makes
 abbrev pub new_link : ℕ → List ℕ → Link
 new_link level bytes = waiting_link level (covered_in bytes) (outputs_in bytes)
+
+-- and the one that a change of a parked link makes
+abbrev pub parked_new : ℕ → List ℕ → Link
+parked_new level bytes = parked_link level (covered_in bytes) (outputs_in bytes)
+
+-- the link of a number, to be entered as it is recorded
+abbrev pub returning : Panel → ℕ → Link
+returning p id = let l = link_at p.links id in waiting_link l.level l.covered l.outputs
 
 pub new_formed : (n level : ℕ) (bytes : List ℕ) → level ≤ 15 → length bytes ≤ 8 → any_of is_output bytes ≡ true
     → any_of (λ b. leb n (field_of b)) bytes ≡ false → Formed n (new_link level bytes)

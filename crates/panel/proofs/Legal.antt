@@ -2,7 +2,7 @@
 -- `carrying` go from the one to the other; `held_step` is the one step of a reversal: the open item takes a field, and its setter is open then.
 use Prim.Native.Nat.{ℕ, ◌≤◌, ◌<◌}
 use mathlib.Core.Path.{◌≡◌, refl, sym, ap, ◌∙◌, subst}
-use mathlib.Core.Bool.{true, false}
+use mathlib.Core.Bool.{Bool, true, false}
 use mathlib.Core.List.{List}
 use mathlib.Core.Logic.{◌≢◌}
 use native.Mathlib.Decide.{ℕ_discrete, dec_lt}
@@ -72,6 +72,11 @@ abbrev pub Rests : List Link → Item → Type 0
 Rests links (link i) = (link_at links i).standing ≡ Waiting
 Rests links (stay f) = Unit {0}
 
+-- or that it holds no field
+abbrev pub Free : List Link → Item → Type 0
+Free links (link i) = (f : ℕ) → (link_at links i).standing ≢ Holding f
+Free links (stay f) = Unit {0}
+
 -- c is no required link
 abbrev pub Weak : List Link → Item → Type 0
 Weak links (link i) = is_in_force (link_at links i) ≡ true → (link_at links i).level ≢ 0
@@ -123,8 +128,12 @@ carrying p c h idle = record { few = h.few; placed = placed p h; filled = filled
 pub holding_not_waiting : {s : Standing} {f : ℕ} → s ≡ Holding f → s ≢ Waiting
 holding_not_waiting d e = let z : ◌≡◌ {A = ℕ} 0 1 = cc in omega arith
 
-pub legal : (p : Panel) (c : Item) → Carrying c p → Rests p.links c → Weak p.links c → is_looped p ≡ false → Legal p
-legal p c h rests weak loopless = record {
+pub rests_free : (links : List Link) (c : Item) → Rests links c → Free links c
+rests_free links (link i) e = λ f h. holding_not_waiting h e
+rests_free links (stay f) e = tt
+
+pub legal : (p : Panel) (c : Item) → Carrying c p → Free p.links c → Weak p.links c → is_looped p ≡ false → Legal p
+legal p c h free weak loopless = record {
   few = h.few;
   links_length = h.filled.full;
   place_length = h.placed.full;
@@ -153,7 +162,7 @@ legal p c h rests weak loopless = record {
         go (no m) = absurd (omega (arith, h.held.past f (omega arith) l))
 
     not_c : (i f : ℕ) → (link_at p.links i).standing ≡ Holding f → link i ≢ c
-    not_c i f e q = holding_not_waiting e (subst (Rests p.links) (sym q) rests)
+    not_c i f e q = subst (Free p.links) (sym q) free f e
 
     at_holding : (i f : ℕ) → i < 128 → (link_at p.links i).standing ≡ Holding f → (f < p.size) × (setter_of p.setter f ≡ link i)
     at_holding i f l e = h.held.held i f l (not_c i f e) e
@@ -265,8 +274,10 @@ filled_set n i links l h good = record { full = length-set links i l ∙ h.full;
     go j k (yes d) = rw (d, link_here links i l (omega (arith, h.full))) good
     go j k (no d) = rw (link_there links i j l d) (h.good j k)
 
-pub formed_standing : (n : ℕ) (l : Link) (s : Standing) → Formed n l → Formed n (standing l s)
-formed_standing n l s h = record {
+-- the standing, and whether the number is in use, play no part
+pub formed_standing : (n : ℕ) (l : Link) (u : Bool) (s : Standing) → Formed n l
+    → Formed n (record { covered = l.covered; outputs = l.outputs; level = l.level; used = u; standing = s })
+formed_standing n l u s h = record {
   level = h.level;
   small = h.small;
   outputs_small = h.outputs_small;
@@ -280,7 +291,7 @@ formed_standing n l s h = record {
 pub good_standing : (n : ℕ) (links : List Link) (i : ℕ) (s : Standing) → Filled n links → is_in_force (link_at links i) ≡ true
     → Good n (standing (link_at links i) s)
 good_standing n links i s h u = record {
-  formed = λ e. formed_standing n (link_at links i) s (force_formed n links h i u);
+  formed = λ e. formed_standing n (link_at links i) (link_at links i).used s (force_formed n links h i u);
   unused = λ e. absurd (clash (force_used _ u) e);
 }
 

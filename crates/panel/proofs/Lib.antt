@@ -1,6 +1,7 @@
 -- The laws that the functions' proofs and other crates cite.
 pub mod Answers
 pub mod InForce
+pub mod Standings
 pub mod Reversed
 pub mod Legal
 pub mod Setters

@@ -20,6 +20,7 @@ use Rattle.fieldset.proofs.Tests.{and_left, and_right}
 use Rattle.fieldset.proofs.Numbers.{clash}
 use Rattle.fieldset.proofs.Fields.{set_of_lt, ext_member, member_high, member_setOf, member_setOf_lt, empty_of_none, union_none, size_empty}
 use Rattle.fieldset.proofs.Lists.{all_in}
+use Rattle.downstream.specs.Downstream.{spread}
 use Rattle.downstream.proofs.Spreading.{spread_lt, spread_nothing}
 use Rattle.panel.specs.declared.Panel.{Panel}
 use Rattle.panel.specs.Items.{Item, item_of, setter_of, outputs_of}
@@ -28,7 +29,8 @@ use Rattle.panel.specs.declared.Reply.TheVariants.{Accepted, Refused}
 use Rattle.panel.specs.Answers.{reply_bytes}
 use Rattle.panel.specs.Panels.{holding}
 use Rattle.panel.specs.Solution.{setter_reads, reversed}
-use Rattle.panel.specs.Moved.{turned, redrawn}
+use Rattle.panel.specs.Moved.{turned, redrawn, moved}
+use Rattle.panel.specs.Steps.{accepted, quiet}
 use Rattle.panel.specs.Commands.{any_of}
 use Rattle.panel.specs.Outcomes.{counted, redrawn_by}
 use Rattle.panel.proofs.Reversed.{put, put_here, put_there, reversed_setters, Off, number_of, holding_setter, waiting_setter}
@@ -97,7 +99,7 @@ reversal_on n st c (v ∷ vs) (off, dis) (lv, all) once idle f (inr i) e =
         go (yes a) = idle v lv (sym q ∙ ap (put st v c) a ∙ put_here st v c)
         go (no a) = a (once f v l lv (sym (put_there st v c f a) ∙ q))
 
-leads_all : (n : ℕ) (out : Item → ℕ) (st : ℕ → Item) (c : Item) (vs : List ℕ) → Leads n out st c vs → All (λ v. v < n) vs
+pub leads_all : (n : ℕ) (out : Item → ℕ) (st : ℕ → Item) (c : Item) (vs : List ℕ) → Leads n out st c vs → All (λ v. v < n) vs
 leads_all n out st c [] h = tt
 leads_all n out st c (v ∷ vs) (l, o, h) = (l, leads_all n out st (st v) vs h)
 
@@ -159,6 +161,14 @@ turned_lt p q few = lt_of_lt_of_le (set_of_lt _ q.size) (pow_mono few)
 pub redrawn_by_lem : (p q : Panel) (m : ℕ) → q.size ≤ 64 → m ≡ turned p q → redrawn_by m 0 q ≡ redrawn p q
 unfolding redrawn_by redrawn
 redrawn_by_lem p q m few e = rw e (union_none _ (spread_lt (setter_reads q) q.size (turned p q) (turned_lt p q few)))
+
+-- a panel with the same setters: the reply is 0
+pub accepted_still : (p q : Panel) → q.setter ≡ p.setter → accepted p q ≡ quiet q
+unfolding moved redrawn
+accepted_still p q e =
+    ap (λ (m : ℕ). record { panel = q; reply = 0x00 ∷ size (spread (setter_reads q) q.size m) ∷ [] }) (turned_none p q e)
+    ∙ ap (λ (m : ℕ). record { panel = q; reply = 0x00 ∷ size m ∷ [] }) (spread_nothing (setter_reads q) q.size)
+    ∙ ap (λ (m : ℕ). record { panel = q; reply = 0x00 ∷ m ∷ [] }) size_empty
 
 -- a set without fields leaves the reply as it is
 pub counted_empty : (r : Reply) (set : ℕ) → set ≡ 0 → counted r set ≡ r

@@ -8,7 +8,7 @@ use native.Mathlib.Omega.{arith}
 use lib.ListN.{length}
 use lib.Seq.{set-get_or}
 use Rattle.panel.specs.declared.Standing.{Standing}
-use Rattle.panel.specs.declared.Standing.TheVariants.{Waiting, Holding}
+use Rattle.panel.specs.declared.Standing.TheVariants.{Waiting, Holding, Parked}
 use Rattle.panel.specs.declared.Link.{Link}
 use Rattle.panel.specs.declared.Panel.{Panel}
 use Rattle.panel.specs.declared.Refusal.{Refusal}
@@ -33,11 +33,13 @@ taken_place p k s path = reversed_place (freed (altered p k s) s.freed) _ _ ∙ 
     free : (t : Standing) → (freed (altered p k s) t).place ≡ s.place
     free Waiting = refl
     free (Holding v) = refl
+    free Parked = refl
 
 -- what is freed changes no link
 pub freed_links : (p : Panel) (s : Standing) → (freed p s).links ≡ p.links
 freed_links p Waiting = refl
 freed_links p (Holding v) = refl
+freed_links p Parked = refl
 
 -- a step that frees no field and reverses no path
 pub taken_still : (p : Panel) (k : ℕ) (s : Step) (path : List ℕ) → s.freed ≡ Waiting → s.setter ≡ 128 → s.count ≡ 0 → taken p k s path ≡ altered p k s

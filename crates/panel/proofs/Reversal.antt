@@ -23,7 +23,7 @@ use Rattle.panel.specs.Panels.{holding}
 use Rattle.panel.specs.Solution.{level, setter_level, setter_others, strength_of, is_blocked, path_for, reversed, is_looped}
 use Rattle.panel.specs.Legal.{Legal}
 use Rattle.panel.proofs.Reversed.{put, put_here, put_there, reversed_setters, left, left_last, Off, alike_outputs, holding_size, holding_alike, holding_same, waiting_same, holding_sets, reversed_level, reversed_setters_lem, Fit, Fits}
-use Rattle.panel.proofs.Legal.{Carrying, Rests, Weak, LegalBut, legal, carrying, held_force, force_fit, carrying_step, carrying_waiting, waiting_rests}
+use Rattle.panel.proofs.Legal.{Carrying, Rests, Weak, LegalBut, rests_free, legal, carrying, held_force, force_fit, carrying_step, carrying_waiting, waiting_rests}
 use Rattle.panel.proofs.Setters.{whole, outputs_inside, others_out, others_inside, setter_ranked, setter_falls, rests_waiting, waits_idle, waits_force}
 
 -- ---- paths that can be reversed
@@ -109,7 +109,7 @@ module _ (p : Panel) (c : Item) (vs : List ℕ) (h : Carrying c p) (route : Rout
 
   pub legal_route : is_looped (reversed p c vs) ≡ false → Legal (reversed p c vs)
   legal_route loopless =
-      legal (reversed p c vs) (left (setter_of p.setter) c vs) route_carrying route_rests
+      legal (reversed p c vs) (left (setter_of p.setter) c vs) route_carrying (rests_free (reversed p c vs).links (left (setter_of p.setter) c vs) route_rests)
       (weak (left (setter_of p.setter) c vs) route.ends) loopless
     where
       weak : (d : Item) → 0 < level p d → Weak (reversed p c vs).links d

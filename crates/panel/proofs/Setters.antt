@@ -22,12 +22,13 @@ use Rattle.fieldset.proofs.Tests.{and_left, and_right}
 use Rattle.ordering.proofs.Plan.{rank_of, no_loop_ranked}
 use Rattle.ordering.proofs.Loops.{ranked_no_loop}
 use Rattle.panel.specs.declared.Standing.{Standing}
-use Rattle.panel.specs.declared.Standing.TheVariants.{Waiting, Holding}
+use Rattle.panel.specs.declared.Standing.TheVariants.{Waiting, Holding, Parked}
 use Rattle.panel.specs.declared.Link.{Link}
 use Rattle.panel.specs.declared.Panel.{Panel}
 use Rattle.panel.specs.Items.{Item, link, stay, link_at, setter_of, outputs_of, reads_of, is_in_force, in_force, is_waiting, waits}
 use Rattle.panel.specs.Solution.{setter_others, setter_reads, is_looped}
 use Rattle.panel.specs.Legal.{Formed, Legal}
+use Rattle.panel.proofs.InForce.{parked_off}
 use Rattle.panel.proofs.Reversed.{setter_own, setter_stay, link_there}
 use Rattle.panel.proofs.Legal.{Filled, Held, Carrying, carrying, single, force_small, force_formed, held_force, held_output}
 
@@ -133,6 +134,7 @@ reads_there links i f l (stay g) ne = refl
 pub rests_waiting : (s : Standing) → is_waiting s ≡ true → s ≡ Waiting
 rests_waiting Waiting e = refl
 rests_waiting (Holding f) e = absurd (clash e refl)
+rests_waiting Parked e = absurd (clash e refl)
 
 module _ (c : Item) (n : ℕ) (links : List Link) (setter : List ℕ) (h : Held c n links setter) where
   -- an item that waits sets nothing
@@ -154,6 +156,7 @@ module _ (c : Item) (n : ℕ) (links : List Link) (setter : List ℕ) (h : Held 
       go : (s : Standing) → (link_at links i).standing ≡ s → (waits n links setter (link i) ≡ true) ⊎ ((f : ℕ) × (f < n) × (setter_of setter f ≡ link i))
       go Waiting e = inl (rw (u, e))
       go (Holding f) e = let (l, s) = h.held i f (force_small links i full u) ne e in inr (f, l, s)
+      go Parked e = absurd (clash u (parked_off (link_at links i) e))
   waits_or_sets (stay g) ne full u = go (dec_lt (at setter g) 128)
     where
       go : Dec (at setter g < 128) → (waits n links setter (stay g) ≡ true) ⊎ ((f : ℕ) × (f < n) × (setter_of setter f ≡ stay g))

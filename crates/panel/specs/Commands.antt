@@ -7,7 +7,7 @@ use Rattle.panel.specs.declared.Refusal.{Refusal}
 use Rattle.panel.specs.declared.Refusal.TheVariants.{AlreadyOpen, NotOpen, BadSize, BadLink, NoSuchField, LinkTaken, NoSuchLink}
 use Rattle.panel.specs.Items.{link_at}
 use Rattle.panel.specs.Answers.{Answer, refusal_bytes, refused}
-use Rattle.panel.specs.Steps.{open_step, add_step, remove_step, touch_step, plan_step, change_step}
+use Rattle.panel.specs.Steps.{open_step, add_step, remove_step, touch_step, plan_step, change_step, park_step, unpark_step}
 
 -- ---- field bytes
 
@@ -95,7 +95,7 @@ link_checks p id level bytes number =
 abbrev pub add_checks : Panel → ℕ → ℕ → List ℕ → List Check
 add_checks p id level bytes = link_checks p id level bytes (check (link_at p.links id).used LinkTaken)
 
--- NoSuchLink "(removed number not in use)"
+-- NoSuchLink "(removed number not in use)"; "NoSuchLink .. as for Add and Remove" of a link that is parked or brought back (document 02, request 8)
 abbrev pub check_remove : ℕ → ℕ → Bool → List Check
 check_remove size id used = check (not (ltb 0 size)) NotOpen ∷ check (ltb 127 id) BadLink ∷ check (not used) NoSuchLink ∷ []
 
@@ -118,7 +118,7 @@ plan_checks p = check (not (is_open p)) NotOpen ∷ []
 -- ---- commands
 
 -- "A command is an opening, add, remove, touch or plan with any numbers"; an add has the list of its field bytes. "Kinds of command added later join":
--- frame 06, a change, "with the body of frame 02" (document 02, request 5)
+-- frame 06, a change, "with the body of frame 02" (document 02, request 5); "Frame 09 id 01 parks .., 09 id 00 brings back" (request 8)
 pub data Command : Type 0 where
   opening : ℕ → Command
   adding : ℕ → ℕ → List ℕ → Command
@@ -126,6 +126,8 @@ pub data Command : Type 0 where
   touching : ℕ → Command
   planning : Command
   changing : ℕ → ℕ → List ℕ → Command
+  parking : ℕ → Command
+  unparking : ℕ → Command
 
 -- the panel after a command, and the reply
 abbrev pub performed : Panel → Command → Answer
@@ -137,3 +139,10 @@ performed p (touching f) = checked p (touch_checks p f) (touch_step p f)
 performed p planning = checked p (plan_checks p) (plan_step p)
 performed p (changing id level bytes) =
     checked p (change_checks p id level bytes) (change_step p id level (covered_in bytes) (outputs_in bytes))
+performed p (parking id) = checked p (remove_checks p id) (park_step p id)
+performed p (unparking id) = checked p (remove_checks p id) (unpark_step p id)
+
+-- the commands that take a link out of force: a removal, or where that is told a parking, which "parks as Remove would" (document 02, request 8)
+abbrev pub dropping : Bool → ℕ → Command
+dropping true id = parking id
+dropping false id = removing id

@@ -1,9 +1,9 @@
 -- Links and stays, which set fields. The definitions take the parts of a panel that they use: its links, places, setters.
-use Rattle.std.specs.Prelude.{ℕ, ◌+◌, Bool, true, false, ◌&&◌, cond, List, ◌++◌, map, ltb, get_or}
+use Rattle.std.specs.Prelude.{ℕ, ◌+◌, Bool, true, false, not, ◌&&◌, cond, List, ◌++◌, map, ltb, get_or}
 use Rattle.fieldset.specs.Tables.{at, tabulate}
 use Rattle.fieldset.specs.Fields.{only, without}
 use Rattle.panel.specs.declared.Standing.{Standing}
-use Rattle.panel.specs.declared.Standing.TheVariants.{Waiting, Holding}
+use Rattle.panel.specs.declared.Standing.TheVariants.{Waiting, Holding, Parked}
 use Rattle.panel.specs.declared.Link.{Link}
 
 -- what may set a field: the link of a number, or the stay of a field
@@ -41,9 +41,15 @@ abbrev pub reads_of : List Link → Item → ℕ → ℕ
 reads_of links (link i) f = without (link_at links i).covered f
 reads_of links (stay g) f = 0
 
--- "In force are all links added and not since removed"
+-- "a third standing, parked" (document 02, request 8)
+abbrev pub is_parked : Standing → Bool
+is_parked Waiting = false
+is_parked (Holding f) = false
+is_parked Parked = true
+
+-- "In force are all links added and not since removed"; a parked one "does not count as in force" (document 02, request 8)
 unfoldable pub is_in_force : Link → Bool
-is_in_force l = l.used
+is_in_force l = l.used && not (is_parked l.standing)
 
 -- ".., and all n stays"
 abbrev pub in_force : ℕ → List Link → Item → Bool
@@ -53,6 +59,7 @@ in_force n links (stay f) = ltb f n
 abbrev pub is_waiting : Standing → Bool
 is_waiting Waiting = true
 is_waiting (Holding f) = false
+is_waiting Parked = false
 
 -- an item in force that sets no field: a link whose standing is waiting, or the stay of a field that a link sets
 abbrev pub waits : ℕ → List Link → List ℕ → Item → Bool

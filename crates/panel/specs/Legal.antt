@@ -1,8 +1,8 @@
 -- What a legal panel is: what every operation may rely on. Every command keeps its panel legal (`proofs/Performed.antt`).
-use Rattle.std.specs.Prelude.{ℕ, ◌^◌, ◌≤◌, ◌<◌, ◌≡◌, ◌≢◌, true, false, length}
+use Rattle.std.specs.Prelude.{ℕ, ◌^◌, ◌≤◌, ◌<◌, ◌≡◌, ◌≢◌, ◌⊎◌, true, false, length}
 use Rattle.fieldset.specs.Tables.{at}
 use Rattle.fieldset.specs.Fields.{member, size}
-use Rattle.panel.specs.declared.Standing.TheVariants.{Waiting, Holding}
+use Rattle.panel.specs.declared.Standing.TheVariants.{Waiting, Holding, Parked}
 use Rattle.panel.specs.declared.Link.{Link}
 use Rattle.panel.specs.declared.Panel.{Panel}
 use Rattle.panel.specs.Items.{no_link, link_at, is_in_force}
@@ -17,6 +17,10 @@ pub record Formed (n : ℕ) (l : Link) : Type 0 where
   pub subset : (u : ℕ) → u < 64 → member l.outputs u ≡ true → member l.covered u ≡ true
   pub some_output : 0 < l.outputs
   pub few : size l.covered ≤ 8
+
+-- what may stand under a number and is not in force: the default link, or a parked one
+abbrev pub Aside : ℕ → Link → Type 0
+Aside n l = (l ≡ no_link) ⊎ ((l.used ≡ true) × (l.standing ≡ Parked) × Formed n l)
 
 pub record Legal (p : Panel) : Type 0 where
   -- "n from 1 to 64"; 0 before opening

@@ -1,8 +1,8 @@
 -- Panels before and after opening, and what changes in one.
-use Rattle.std.specs.Prelude.{ℕ, ◌+◌, true, cond, List, eqb, ltb, set, replicate}
+use Rattle.std.specs.Prelude.{ℕ, ◌+◌, Bool, true, false, cond, List, eqb, ltb, set, replicate}
 use Rattle.fieldset.specs.Tables.{at, tabulate}
 use Rattle.panel.specs.declared.Standing.{Standing}
-use Rattle.panel.specs.declared.Standing.TheVariants.{Waiting, Holding}
+use Rattle.panel.specs.declared.Standing.TheVariants.{Waiting, Holding, Parked}
 use Rattle.panel.specs.declared.Link.{Link}
 use Rattle.panel.specs.declared.Panel.{Panel}
 use Rattle.panel.specs.Items.{Item, link, stay, no_link, link_at}
@@ -14,6 +14,10 @@ opened n = record { size = n; links = replicate 128 no_link; place = tabulate (�
 -- a link in force that waits
 abbrev pub waiting_link : ℕ → ℕ → ℕ → Link
 waiting_link level covered outputs = record { covered = covered; outputs = outputs; level = level; used = true; standing = Waiting }
+
+-- a parked link
+abbrev pub parked_link : ℕ → ℕ → ℕ → Link
+parked_link level covered outputs = record { covered = covered; outputs = outputs; level = level; used = true; standing = Parked }
 
 -- the link at another standing
 abbrev pub standing : Link → Standing → Link
@@ -41,10 +45,24 @@ waiting p (stay f) = p
 abbrev pub freed : Panel → Standing → Panel
 freed p Waiting = p
 freed p (Holding v) = with_setter p v 128
+freed p Parked = p
+
+-- the link l stands in place of that of a number, and what that one set is set by its stay
+unfoldable pub replaced : Panel → ℕ → Link → Panel
+replaced p id l = freed (with_link p id l) (link_at p.links id).standing
 
 -- "If the link waits, drop it. If it sets v, drop it and let v's stay set v"
-unfoldable pub dropped : Panel → ℕ → Panel
-dropped p id = freed (with_link p id no_link) (link_at p.links id).standing
+abbrev pub dropped : Panel → ℕ → Panel
+dropped p id = replaced p id no_link
+
+-- the link is dropped but for its record: "it holds nothing, ..; its number stays taken" (document 02, request 8)
+abbrev pub parked : Panel → ℕ → Panel
+parked p id = replaced p id (standing (link_at p.links id) Parked)
+
+-- what is left of a link that is dropped: where it is parked its record, else nothing
+abbrev pub left_of : Bool → Link → Link
+left_of true l = standing l Parked
+left_of false l = no_link
 
 -- "f's stay moves to place 0; those that stood before it move down one"
 abbrev pub place_after : List ℕ → ℕ → ℕ → ℕ

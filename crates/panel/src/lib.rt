@@ -3,6 +3,7 @@
 
 ghost use Rattle.std.specs.Prelude.{◌≡◌, length};
 ghost use Rattle.panel.specs.Items.{no_link};
+ghost use Rattle.panel.specs.Panels.{standing};
 ghost use Rattle.panel.specs.Outcomes.{unchanged};
 
 // The setter of a field that its stay sets.
@@ -17,11 +18,12 @@ pub const LAST_LINK: u8 = 127;
 // The bytes of the rows of a largest plan: three for each of 64 fields.
 pub const ROWS: usize = 192;
 
-// A link's standing: it waits, or it holds one named field.
+// A link's standing: it waits, it holds one named field, or it is parked, which takes it out of force.
 #[derive(Clone, Copy)]
 pub enum Standing {
     Waiting,
     Holding(u8),
+    Parked,
 }
 
 // A link: a constraint over its covered fields, which it is permitted to hold by setting one of its outputs.
@@ -119,6 +121,19 @@ pub fn no_link() -> Link
         level: 0,
         used: false,
         standing: Standing::Waiting,
+    }
+}
+
+// The link at another standing.
+pub fn at_standing(l: Link, s: Standing) -> Link
+    ensures { result ≡ standing l s }
+{
+    Link {
+        covered: l.covered,
+        outputs: l.outputs,
+        level: l.level,
+        used: l.used,
+        standing: s,
     }
 }
 

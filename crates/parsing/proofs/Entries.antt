@@ -15,7 +15,7 @@ use borrow.Author.Tests.{eq-eqb, ne_eqb}
 use Rattle.fieldset.specs.Tables.{at}
 use Rattle.fieldset.proofs.Tests.{and_right}
 use Rattle.panel.specs.declared.Standing.{Standing}
-use Rattle.panel.specs.declared.Standing.TheVariants.{Waiting, Holding}
+use Rattle.panel.specs.declared.Standing.TheVariants.{Waiting, Holding, Parked}
 use Rattle.panel.specs.declared.Link.{Link}
 use Rattle.panel.specs.declared.Panel.{Panel}
 use Rattle.panel.specs.Panels.{opened}
@@ -34,7 +34,8 @@ use Rattle.lines.specs.Lines.{lines_of, line_length, behind_of}
 use Rattle.lines.proofs.Lines.{behind_within, behind_on, lines_on, lines_end}
 use Rattle.frames.specs.Frames.{pair_of, word_of, formula_in}
 use Rattle.frames.proofs.Reading.{bad_told, frame_told}
-use Rattle.images.specs.Entries.{with_size, placed, with_order, standing_of, with_link_line, entered, entered_all, line_bytes, candidate}
+use Rattle.images.specs.Entries.{with_size, placed, with_order, standing_of, holds_nothing, with_link_line, entered, entered_all, line_bytes, candidate}
+use Rattle.images.proofs.Facts.{field_held}
 use Rattle.parsing.specs.Parsing.{Framed, fields_end, field_part, link_in, with_links, with_setters, setter_in}
 
 -- ---- stores, and what is past the end
@@ -43,10 +44,10 @@ pub set_past {ℓ} : {A : Type ℓ} (l : List A) (i : ℕ) (a : A) → length l 
 set_past l i a h = sym (set_out l i a h)
 
 pub setter_in_lem : (l : List ℕ) (f i : ℕ) → f < 64 → set l f i ≡ setter_in l f i
-setter_in_lem l f i h = rw (ne_eqb f 255 (λ e. omega arith))
+setter_in_lem l f i h = rw (field_held f h)
 
 pub setter_past : (l : List ℕ) (f i : ℕ) → length l ≡ 64 → 64 ≤ f → l ≡ setter_in l f i
-setter_past l f i e h = go (eqb f 255)
+setter_past l f i e h = go (holds_nothing f)
   where
     go : (b : Bool) → l ≡ cond b l (set l f i)
     go true = refl
@@ -110,8 +111,11 @@ module _ {line before now : List ℕ} {n k : ℕ} (P : Placing line before now n
 pub standing_waits : (b : ℕ) → b ≡ 0xFF → Waiting ≡ standing_of b
 standing_waits b e = rw (eq-eqb b 255 e)
 
-pub standing_holds : (b : ℕ) → (b ≡ 0xFF → ⊥) → Holding b ≡ standing_of b
-standing_holds b n = rw (ne_eqb b 255 n)
+pub standing_parked : (b : ℕ) → b ≡ 0xFE → Parked ≡ standing_of b
+standing_parked b e = rw e
+
+pub standing_holds : (b : ℕ) → (b ≡ 0xFF → ⊥) → (b ≡ 0xFE → ⊥) → Holding b ≡ standing_of b
+standing_holds b n k = rw (ne_eqb b 0xFF n, ne_eqb b 0xFE k)
 
 pub link_in_lem : (frame : List ℕ) (end n c o : ℕ) (st : Standing) → end ≡ fields_end n
     → c ≡ covered_in (take (end - 4) (drop 4 frame)) → o ≡ outputs_in (take (end - 4) (drop 4 frame)) → st ≡ standing_of (at frame 3)

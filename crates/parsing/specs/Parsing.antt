@@ -1,12 +1,12 @@
 -- A line of digits with the first of its bytes in a buffer of zeros, and what a link's line gives.
-use Rattle.std.specs.Prelude.{ℕ, ◌-◌, min, max, ◌≡◌, true, cond, List, eqb, length, take, drop, set, replicate}
+use Rattle.std.specs.Prelude.{ℕ, ◌-◌, min, max, ◌≡◌, true, cond, List, length, take, drop, set, replicate}
 use Rattle.std.proofs.lemmas.List.Edits.{sets}
 use Rattle.fieldset.specs.Tables.{at}
 use Rattle.panel.specs.declared.Link.{Link}
 use Rattle.panel.specs.declared.Panel.{Panel}
 use Rattle.panel.specs.Commands.{covered_in, outputs_in}
 use Rattle.hexadecimal.specs.Hex.{are_digits, bytes_of, frame_room}
-use Rattle.images.specs.Entries.{standing_of}
+use Rattle.images.specs.Entries.{standing_of, holds_nothing}
 
 pub record Framed (line frame : List ℕ) (n : ℕ) : Type 0 where
   pub digits : are_digits line ≡ true
@@ -31,6 +31,6 @@ with_links p links = record { size = p.size; links = links; place = p.place; set
 abbrev pub with_setters : Panel → List ℕ → Panel
 with_setters p setter = record { size = p.size; links = p.links; place = p.place; setter = setter }
 
--- link i as the setter of field f; FF is no field
+-- link i as the setter of field f; FF and FE are no field
 abbrev pub setter_in : List ℕ → ℕ → ℕ → List ℕ
-setter_in setter f i = cond (eqb f 0xFF) setter (set setter f i)
+setter_in setter f i = cond (holds_nothing f) setter (set setter f i)

@@ -78,6 +78,8 @@ fn standing_of(b: u8) -> Standing
 {
     if b == 0xFF {
         Standing::Waiting
+    } else if b == 0xFE {
+        Standing::Parked
     } else {
         Standing::Holding(b)
     }
@@ -237,8 +239,8 @@ fn enter(s: Sheet, line: &[u8]) -> Sheet
 }
 
 // What all lines of a text enter into an unopened panel.
-// The contract rules out, for instance, FF entered as a field that a link holds and the first field of an order left out (must-fail: standing_ff_held,
-// places_from_1).
+// The contract rules out, for instance, FF entered as a field that a link holds, a parked link entered as one that waits, and the first field of an
+// order left out (must-fail: standing_ff_held, parked_read_as_waiting, places_from_1).
 pub fn read_lines(text: &[u8]) -> Sheet
     ensures { (result ≡ candidate text.now) × Full result }
 {

@@ -1,27 +1,30 @@
-// Removing a link.
+// Removing a link, and parking it.
 #![tactic(auto)]
 
 ghost use Rattle.std.specs.Prelude.{◌≡◌, ◌%◌, ◌<◌, length};
 ghost use Rattle.fieldset.specs.Tables.{at};
 ghost use Rattle.panel.specs.Items.{link_at};
-ghost use Rattle.panel.specs.Panels.{dropped};
+ghost use Rattle.panel.specs.Panels.{left_of};
 ghost use Rattle.panel.specs.Answers.{reply_bytes};
-ghost use Rattle.panel.specs.Commands.{check_reply, check_remove, removing};
+ghost use Rattle.panel.specs.Commands.{check_reply, check_remove, dropping};
 ghost use Rattle.panel.specs.Legal.{Legal};
 ghost use Rattle.panel.specs.Outcomes.{Decides};
 ghost use Rattle.tables.specs.Tables.{Tabled};
+ghost use Rattle.scanning.specs.Scan.{TabledWithout};
 ghost use Rattle.removing.specs.Choice.{OfField, chosen_of};
 ghost use Rattle.removing.specs.Settled.{Settles};
 ghost use Rattle.removing.specs.Scans.{scan_count};
 
 use fieldset::{below, only, wide};
-use panel::{LAST_LINK, Link, Panel, Refusal, Reply, STAY, Standing, Step, no_link, unchanged};
+use panel::{
+    LAST_LINK, Link, Panel, Refusal, Reply, STAY, Standing, Step, at_standing, no_link, unchanged,
+};
 use reversal::{Verdict, decide, step_of};
 use scanning::{Blocked, scan_without};
 use strength::top_of;
 
-// The reply of the checks of a removal, on a panel of n fields; `used` where the number is in use.
-fn check_remove(n: usize, id: u8, used: bool) -> Reply
+// The reply of the checks of a removal, or of kind 09, on a panel of n fields; `used` where the number is in use.
+pub fn check_remove(n: usize, id: u8, used: bool) -> Reply
     ensures { reply_bytes result ≡ check_reply (check_remove n id used) }
 {
     if n == 0 {
@@ -80,6 +83,7 @@ pub struct Decision {
 
 // What is to be done once the link that sets v is dropped and v's stay sets v. The tables become those of the panel without the link, `worked` becomes
 // the number of strengths that were worked out for the scan, and a path that is to be reversed stands in the buffer.
+// It is the same where the link is removed and where it is parked.
 // The contract rules out, for instance, a blocked link that does not set and the number of the freed field for the count (must-fail:
 // blocked_link_does_not_set, field_for_the_count).
 pub fn settle(
@@ -93,7 +97,7 @@ pub fn settle(
 ) -> Decision
     requires { Legal p × Tabled p levels.old others.old reads.old × (v < 64) × (at p.setter v < 128) × (length path.old ≡ 64) }
     ensures settles { Settles p (at p.setter v) v path.new result.number result.verdict }
-    ensures tabled { Tabled (dropped p (at p.setter v)) levels.new others.new reads.new }
+    ensures tabled_without { TabledWithout p (at p.setter v) levels.new others.new reads.new }
     ensures worked_after { worked.new ≡ p.size }
 {
     let n = p.size;
@@ -124,22 +128,34 @@ pub fn settle(
     }
 }
 
-// Decides on removing a link; `old` is the link that stands under its number. Where the removal makes a scan, `worked`
-// becomes the number of strengths that were worked out for it.
+// What is left of a link that is dropped: where it is parked its record, else nothing.
+fn left_of(park: bool, old: Link) -> Link
+    ensures { result ≡ left_of park old }
+{
+    if park {
+        at_standing(old, Standing::Parked)
+    } else {
+        no_link()
+    }
+}
+
+// Decides on dropping a link, by a removal or by a parking; `old` is the link that stands under its number. Where this makes a scan, `worked` becomes
+// the number of strengths that were worked out for it.
 // The contract rules out, for instance, a freed field that is not counted and a Conflict for a loop (must-fail: freed_field_not_counted,
 // loop_is_a_conflict).
-pub fn remove(
+pub fn drop_link(
     p: Panel,
     old: Link,
     levels: &[u8; 64],
     others: &[u64; 64],
     reads: &[u64; 64],
     id: u8,
+    park: bool,
     path: &mut [u8; 64],
     worked: &mut u8,
 ) -> Step
     requires { Legal p × Tabled p levels.now others.now reads.now × (old ≡ link_at p.links (id % 128)) × (length path.old ≡ 64) }
-    ensures decides { Decides p (id % 128) (removing id) path.new result }
+    ensures decides { Decides p (id % 128) (dropping park id) path.new result }
     ensures worked_after { worked.new ≡ scan_count worked.old p id }
 {
     let n = p.size;
@@ -148,9 +164,10 @@ pub fn remove(
     if let Reply::Refused(_) = reply {
         return unchanged(n, &place, old, reply);
     }
+    let left = left_of(park, old);
     let s = old.standing;
     let Standing::Holding(h) = s else {
-        return step_of(Verdict::Free, n, &place, no_link(), s, STAY);
+        return step_of(Verdict::Free, n, &place, left, Standing::Waiting, STAY);
     };
     let mut fresh = *levels;
     let mut outs = *others;
@@ -168,5 +185,5 @@ pub fn remove(
     if let Verdict::Looped = verdict {
         return unchanged(n, &place, old, Reply::Refused(Refusal::Loop));
     }
-    step_of(verdict, n, &place, no_link(), s, settled.number)
+    step_of(verdict, n, &place, left, s, settled.number)
 }

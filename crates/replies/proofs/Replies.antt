@@ -18,7 +18,7 @@ use Rattle.panel.proofs.Answers.{refusal_length, reply_two}
 use Rattle.hexadecimal.specs.Hex.{line_of}
 use Rattle.hexadecimal.proofs.Bytes.{length_line}
 use Rattle.frames.specs.declared.Command.{Command}
-use Rattle.frames.specs.declared.Command.TheVariants.{Open, Add, Remove, Touch, Plan, Change, Enter, Relate, Refused}
+use Rattle.frames.specs.declared.Command.TheVariants.{Open, Add, Drop, Touch, Plan, Change, Enter, Relate, Unpark, Refused}
 use Rattle.frames.specs.contracts.Command.{the_type}
 use Rattle.frames.specs.Texts.{refusal_of}
 use Rattle.replies.specs.declared.RefusalBytes.{RefusalBytes}
@@ -81,32 +81,34 @@ rows_tell_none c r rows =
 -- a command that is no plan, by its tag
 pub no_rest : (c : Command) (r : Reply)
     → (tag_of the_type c ≡ 0) ⊎ ((tag_of the_type c ≡ 1) ⊎ ((tag_of the_type c ≡ 2) ⊎ ((tag_of the_type c ≡ 3)
-    ⊎ ((tag_of the_type c ≡ 5) ⊎ ((tag_of the_type c ≡ 6) ⊎ ((tag_of the_type c ≡ 7) ⊎ (tag_of the_type c ≡ 8)))))))
+    ⊎ ((tag_of the_type c ≡ 5) ⊎ ((tag_of the_type c ≡ 6) ⊎ ((tag_of the_type c ≡ 7) ⊎ ((tag_of the_type c ≡ 8) ⊎ (tag_of the_type c ≡ 9))))))))
     → rest_of c r ≡ 0
 no_rest (Open n) r h = refl
 no_rest (Add id level) r h = refl
-no_rest (Remove id) r h = refl
+no_rest (Drop id park) r h = refl
 no_rest (Touch f) r h = refl
 no_rest Plan r h =
     absurd
     (⊎_elim (λ e. omega arith)
     (⊎_elim (λ e. omega arith) (⊎_elim (λ e. omega arith) (⊎_elim (λ e. omega arith) (⊎_elim (λ e. omega arith)
-    (⊎_elim (λ e. omega arith) (⊎_elim (λ e. omega arith) (λ e. omega arith))))))) h)
+    (⊎_elim (λ e. omega arith) (⊎_elim (λ e. omega arith) (⊎_elim (λ e. omega arith) (λ e. omega arith)))))))) h)
 no_rest (Change id level) r h = refl
 no_rest (Enter f b) r h = refl
 no_rest (Relate id form) r h = refl
+no_rest (Unpark id) r h = refl
 no_rest (Refused x) r h = refl
 
 -- a refusal has none
 refused_rest : (c : Command) (x : Refusal) → rest_of c (Refusing x) ≡ 0
 refused_rest (Open n) x = refl
 refused_rest (Add id level) x = refl
-refused_rest (Remove id) x = refl
+refused_rest (Drop id park) x = refl
 refused_rest (Touch f) x = refl
 refused_rest Plan x = refl
 refused_rest (Change id level) x = refl
 refused_rest (Enter f b) x = refl
 refused_rest (Relate id form) x = refl
+refused_rest (Unpark id) x = refl
 refused_rest (Refused y) x = refl
 
 -- the whole reply, by its cases

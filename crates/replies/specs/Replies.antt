@@ -3,7 +3,7 @@ use Rattle.std.specs.Prelude.{ℕ, ◌+◌, ◌-◌, ◌*◌, List, ◌++◌, le
 use Rattle.panel.specs.declared.Reply.{Reply}
 use Rattle.panel.specs.Answers.{reply_bytes, plan_rest, rows_length}
 use Rattle.frames.specs.declared.Command.{Command}
-use Rattle.frames.specs.declared.Command.TheVariants.{Open, Add, Remove, Touch, Plan, Change, Enter, Relate, Refused}
+use Rattle.frames.specs.declared.Command.TheVariants.{Open, Add, Drop, Touch, Plan, Change, Enter, Relate, Unpark, Refused}
 use Rattle.replies.specs.declared.RefusalBytes.{RefusalBytes}
 
 -- the characters of the longest reply's line: a plan of 64 fields has 2 + 3 * 64 bytes, and the line an LF
@@ -22,12 +22,13 @@ buffered bytes = record { bytes = bytes ++ replicate (refusal_room - length byte
 abbrev pub rest_of : Command → Reply → ℕ
 rest_of (Open n) reply = 0
 rest_of (Add id level) reply = 0
-rest_of (Remove id) reply = 0
+rest_of (Drop id park) reply = 0
 rest_of (Touch f) reply = 0
 rest_of Plan reply = plan_rest reply
 rest_of (Change id level) reply = 0
 rest_of (Enter f b) reply = 0
 rest_of (Relate id form) reply = 0
+rest_of (Unpark id) reply = 0
 rest_of (Refused r) reply = 0
 
 -- the reply to a command, for a plan with the first rows of the buffer

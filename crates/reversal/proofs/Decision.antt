@@ -86,6 +86,26 @@ module _ (q : Panel) (c : Item) (h : Carrying c q) (loopless : is_looped q ≡ f
       → s ≡ greatest (member (outputs_of q.links c)) (strength (at levels) (at others) q.size) 64 → is_blocked q c ≡ ltb (level q c) s
   is_blocked_lem s w top = blocked_over q c w ∙ ap (ltb (level q c)) (sym (top ∙ greatest_outs))
 
+  -- the path on the tables is the path for c
+  pub table_path : is_blocked q c ≡ true → (s : ℕ) → s ≡ greatest (member (outputs_of q.links c)) (strength (at levels) (at others) q.size) 64
+      → path (at levels) (at others) (strength (at levels) (at others) q.size) s q.size
+      (lowest_at (strength (at levels) (at others) q.size) s (outputs_of q.links c))
+      ≡ path_for q c
+  unfolding str path_for strongest
+  table_path b s top =
+      let start : Start q c = start_of_lem q c h (blocking q c b) in
+      let outs = outputs_of q.links c in
+      let s' : s ≡ greatest (member outs) (strength_of q) 64 = top ∙ greatest_outs in
+      let v : ℕ = strongest (strength_of q) outs in
+      let from : lowest_at str s outs ≡ v = lowest_at_cong str (strength_of q) s outs outs_same ∙ ap (λ (x : ℕ). lowest_at (strength_of q) x outs) s' in
+      let strong : strength_of q v ≡ s = (strongest_found (strength_of q) outs v (omega (arith, start.small, h.few)) start.output).strong ∙ sym s' in
+      ap (λ (x : ℕ). path (at levels) (at others) str s q.size x) from
+      ∙ path_same q.size (at levels) (setter_level q) (at others) (setter_others q) (level_at q c h loopless levels others reads t)
+      (others_at q c h loopless levels others reads t) (table_inside q c h loopless levels others reads t) str (strength_of q)
+      (table_strength q c h loopless levels others reads t) s (table_tied q c h loopless levels others reads t s) q.size v start.small
+      (table_strength q c h loopless levels others reads t v start.small ∙ strong)
+      ∙ ap (λ (x : ℕ). path (setter_level q) (setter_others q) (strength_of q) x q.size v) (sym strong)
+
   module _ (b : is_blocked q c ≡ true) (s count : ℕ) (after : List ℕ) (looped : Bool)
       (top : s ≡ greatest (member (outputs_of q.links c)) (strength (at levels) (at others) q.size) 64)
       (d : Found levels others q.size s (outputs_of q.links c) (cover_of q.links c) reads after count looped) where
@@ -94,20 +114,7 @@ module _ (q : Panel) (c : Item) (h : Carrying c q) (loopless : is_looped q ≡ f
 
     -- the path in the buffer is the path for c
     pub decided_path : take count after ≡ path_for q c
-    unfolding str path_for strongest
-    decided_path =
-        let outs = outputs_of q.links c in
-        let s' : s ≡ greatest (member outs) (strength_of q) 64 = top ∙ greatest_outs in
-        let v : ℕ = strongest (strength_of q) outs in
-        let from : lowest_at str s outs ≡ v = lowest_at_cong str (strength_of q) s outs outs_same ∙ ap (λ (x : ℕ). lowest_at (strength_of q) x outs) s' in
-        let strong : strength_of q v ≡ s = (strongest_found (strength_of q) outs v (omega (arith, start.small, h.few)) start.output).strong ∙ sym s' in
-        d.is_path
-        ∙ ap (λ (x : ℕ). path (at levels) (at others) str s q.size x) from
-        ∙ path_same q.size (at levels) (setter_level q) (at others) (setter_others q) (level_at q c h loopless levels others reads t)
-        (others_at q c h loopless levels others reads t) (table_inside q c h loopless levels others reads t) str (strength_of q)
-        (table_strength q c h loopless levels others reads t) s (table_tied q c h loopless levels others reads t s) q.size v start.small
-        (table_strength q c h loopless levels others reads t v start.small ∙ strong)
-        ∙ ap (λ (x : ℕ). path (setter_level q) (setter_others q) (strength_of q) x q.size v) (sym strong)
+    decided_path = d.is_path ∙ table_path b s top
 
     covers : (d : Item) (v : ℕ) → in_force q.size q.links d ≡ true → v < q.size → member (outputs_of q.links d) v ≡ true → Covers q.links d v
     covers (link i) v f l o =

@@ -19,7 +19,7 @@ use Rattle.fieldset.proofs.Numbers.{clash}
 use Rattle.fieldset.proofs.Fields.{member_empty, member_only, member_union, member_setOf_lt, empty_of_none, set_of_lt, union_lt}
 use Rattle.strength.specs.Strength.{greatest, strength}
 use Rattle.panel.specs.declared.Standing.{Standing}
-use Rattle.panel.specs.declared.Standing.TheVariants.{Waiting, Holding}
+use Rattle.panel.specs.declared.Standing.TheVariants.{Waiting, Holding, Parked}
 use Rattle.panel.specs.declared.Link.{Link}
 use Rattle.panel.specs.declared.Panel.{Panel}
 use Rattle.panel.specs.declared.Refusal.TheVariants.{Loop}
@@ -41,7 +41,7 @@ use Rattle.panel.proofs.Moved.{reversed_changes, turned_is, redrawn_by_lem, coun
 use Rattle.tables.specs.Tables.{Tabled}
 use Rattle.reversal.specs.declared.Verdict.{Verdict}
 use Rattle.reversal.specs.declared.Verdict.TheVariants.{Free, Looped, Path}
-use Rattle.reversal.specs.Reversals.{fields_of, Found, Resolved, held_field, setter_by, count_by, fields_by, step_of}
+use Rattle.reversal.specs.Reversals.{fields_of, Found, Resolved, held_field, HeldField, setter_by, count_by, fields_by, step_of}
 use Rattle.reversal.proofs.Fields.{fields_none, fields_first}
 use Rattle.reversal.proofs.ReadFields.{cover_of}
 use Rattle.reversal.proofs.Decision.{is_blocked_lem, decided_path, found_panel, found_refused, found_accepted}
@@ -56,15 +56,19 @@ module _ (p : Panel) (k n : ℕ) (place : List ℕ) (l : Link) (held : Standing)
     pub legal : Legal p
     pub size : after.size ≡ p.size
     -- what it gives free is a field that link k holds, and no link k is in force then
-    pub field : (v : ℕ) → held ≡ Holding v → v < 64
+    pub frees : HeldField held
     pub gone : (v : ℕ) → held ≡ Holding v → (at p.setter v < 128) × (is_in_force (link_at after.links (at p.setter v)) ≡ false)
     pub keeps : (f : ℕ) → f < 64 → at p.setter f ≡ k → (l ≡ link_at p.links k) ⊎ (held ≡ Holding f)
 
   module _ (ch : Change) (cmd : Command) (path : List ℕ) where
+    field : (v : ℕ) → held ≡ Holding v → v < 64
+    field v e = subst HeldField e ch.frees
+
     -- the setters that the change leaves
     same : (s : Standing) → held ≡ s → (f : ℕ) → s ≢ Holding f → at after.setter f ≡ at p.setter f
     same Waiting e f ne = rw e refl
     same (Holding v) e f ne = rw e (get_or-set_other p.setter v f 128 0 (λ d. ne (ap Holding (sym d))))
+    same Parked e f ne = rw e refl
 
     none_zero : (a b f : ℕ) → union a b ≡ 0 → f < 64 → (member a f || member b f) ≡ false
     none_zero a b f z lf = sym (member_union a b f lf) ∙ ap (λ (m : ℕ). member m f) z ∙ member_empty f
@@ -81,7 +85,7 @@ module _ (p : Panel) (k n : ℕ) (place : List ℕ) (l : Link) (held : Standing)
       set_anew : (v : ℕ) → held ≡ Holding v → at p.setter v ≢ at r.setter v
       set_anew v e x =
           let (small, off) = ch.gone v e in
-          clash (legal_after.setter_in_force v (ch.field v e) (omega arith)) (force (at r.setter v) ∙ rw (← x) off)
+          clash (legal_after.setter_in_force v (field v e) (omega arith)) (force (at r.setter v) ∙ rw (← x) off)
 
       changed : (f : ℕ) → f < 64 → member (union (fields_by t) (held_field held)) f ≡ not (eqb (at p.setter f) (at r.setter f))
       unfolding fields_of
@@ -92,6 +96,7 @@ module _ (p : Panel) (k n : ℕ) (place : List ℕ) (l : Link) (held : Standing)
         where
           go : (s : Standing) → held ≡ s → (not (eqb (at after.setter f) (at r.setter f)) || member (held_field s) f) ≡ not (eqb (at p.setter f) (at r.setter f))
           go Waiting e = rw (member_empty f) (or-false (not (eqb (at after.setter f) (at r.setter f))) ∙ ap (λ (x : ℕ). not (eqb x (at r.setter f))) (same Waiting e f (λ q. holding_not_waiting q refl)))
+          go Parked e = absurd (subst HeldField e ch.frees)
           go (Holding v) e = at_v (ℕ_discrete f v)
             where
               all_true : (b : Bool) → (b || true) ≡ true
@@ -121,8 +126,9 @@ module _ (p : Panel) (k n : ℕ) (place : List ℕ) (l : Link) (held : Standing)
 
           waiting : (s : Standing) → held ≡ s → held ≡ Waiting
           waiting Waiting e = e
+          waiting Parked e = absurd (subst HeldField e ch.frees)
           waiting (Holding v) e =
-              let lv : v < 64 = ch.field v e in
+              let lv : v < 64 = field v e in
               let q = none_zero (fields_by t) (held_field held) v z lv in
               absurd (clash (rw (e, member_only v v lv, eq-eqb v v refl) (either (member (fields_by t) v))) q)
             where
@@ -138,7 +144,7 @@ module _ (p : Panel) (k n : ℕ) (place : List ℕ) (l : Link) (held : Standing)
           changed = turns ∙ ap (λ (a : Answer). turned p a.panel) (sym accept);
           still = still;
           path_of = path_of;
-          freed_field = ch.field;
+          freed_field = field;
           freed_turns = λ v e x. set_anew v e (x ∙ ap (λ (a : Answer). at a.panel.setter v) accept);
           keeps = ch.keeps;
         };

@@ -7,7 +7,7 @@ use Rattle.strength.specs.Filling.{Acyclic, Strengths, Within}
 use Rattle.ordering.specs.Order.{has_loop}
 use Rattle.ordering.specs.Walks.{Among}
 use Rattle.panel.specs.declared.Standing.{Standing}
-use Rattle.panel.specs.declared.Standing.TheVariants.{Waiting, Holding}
+use Rattle.panel.specs.declared.Standing.TheVariants.{Waiting, Holding, Parked}
 use Rattle.panel.specs.declared.Link.{Link}
 use Rattle.panel.specs.declared.Reply.TheVariants.{Accepted}
 use Rattle.panel.specs.declared.Step.{Step}
@@ -94,11 +94,13 @@ Resolved levels others n level outputs covered reads after (Path count set) =
 abbrev pub held_field : Standing → ℕ
 held_field Waiting = 0
 held_field (Holding v) = only v
+held_field Parked = 0
 
--- it is one of 64 fields
+-- what a step gives free: nothing, or one of 64 fields
 abbrev pub HeldField : Standing → Type 0
 HeldField Waiting = Unit {0}
 HeldField (Holding v) = v < 64
+HeldField Parked = ⊥
 
 -- what a verdict gives a step: what sets the path's first field, how many fields the path has, and these
 abbrev pub setter_by : Verdict → ℕ → ℕ

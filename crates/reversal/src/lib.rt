@@ -112,6 +112,7 @@ fn held_field(s: Standing) -> u64
     match s {
         Standing::Waiting => 0,
         Standing::Holding(v) => only(wide(v)),
+        Standing::Parked => 0,
     }
 }
 

@@ -19,8 +19,8 @@ use writing::{put, put_bytes, put_line, store};
 // The length of the longest text of a sheet.
 pub const LONGEST: usize = 5322;
 
-// The version that is written.
-pub const VERSION: u8 = 1;
+// The version that is written, and the newest that is read.
+pub const VERSION: u8 = 2;
 
 // What saving answers: that the panel is not open, or the length of the whole text.
 #[derive(Clone, Copy)]
@@ -111,13 +111,14 @@ fn put_fields(out: &mut [u8], at: usize, covered: u64, outputs: u64) -> usize
     q
 }
 
-// The field that a link holds, or FF.
+// The field that a link holds, FF of one that waits, FE of a parked one.
 fn standing_byte(s: Standing) -> u8
     ensures { result ≡ standing_byte s }
 {
     match s {
         Standing::Waiting => 0xFF,
         Standing::Holding(f) => f,
+        Standing::Parked => 0xFE,
     }
 }
 
@@ -224,8 +225,8 @@ fn put_values(out: &mut [u8], at: usize, values: &[i32; 64], n: usize) -> usize
 }
 
 // The whole text, as many of its first bytes as fit; its length.
-// The contract rules out, for instance, another byte than FF for a waiting link and a line for a value that is zero (must-fail: waiting_written_as_fe,
-// zero_value_written).
+// The contract rules out, for instance, another byte than FF for a waiting link or than FE for a parked one, and a line for a value that is zero
+// (must-fail: waiting_written_as_fe, parked_written_as_ff, zero_value_written).
 pub fn write(out: &mut [u8], version: u8, s: Sheet) -> usize
     requires { s.panel.size ≤ 64 }
     ensures out_after { out.new ≡ sets out.old 0 (image_of version s) }
@@ -244,7 +245,7 @@ pub fn write(out: &mut [u8], version: u8, s: Sheet) -> usize
 }
 
 // The text of an open panel in the lent buffer, as many of its first bytes as fit, and its length; of a panel that is not open nothing is written.
-// The contract rules out, for instance, the text of a panel that is not open (must-fail: unopened_saved).
+// The contract rules out, for instance, the text of a panel that is not open and a text of version 01 (must-fail: unopened_saved, version_01_written).
 pub fn save(s: Sheet, out: &mut [u8]) -> Saved
     requires { s.panel.size ≤ 64 }
     ensures { SavedAs s out.old out.new result }

@@ -1,6 +1,6 @@
--- A link that holds a field is dropped: what is the same where the link stays and only its field's stay steps in. The scan looks at the links as they
--- were; the link is not blocked in either panel, so by a table of the strengths the same is blocked (`blocked_kept`), and the least blocked item is the
--- same (`found_kept`). So what is worked out and found is that of the panel without the link (`scanned`).
+-- A link that holds a field is dropped, removed or parked: what is the same where the link stays and only its field's stay steps in. The scan looks at
+-- the links as they were; the link is not blocked in either panel, so by a table of the strengths the same is blocked (`blocked_kept`), and the least
+-- blocked item is the same (`found_kept`). So what is worked out and found is that of the panel without the link (`scanned`).
 use mathlib.Core.Path.{◌≡◌, refl, sym, ap, ◌∙◌, subst, fun_ext}
 use mathlib.Core.Logic.{◌≢◌}
 use mathlib.Core.Bool.{Bool, true, false, cond, not-eq-not}
@@ -20,25 +20,24 @@ use Rattle.strength.specs.Filling.{Acyclic}
 use Rattle.panel.specs.declared.Standing.TheVariants.{Holding}
 use Rattle.panel.specs.declared.Link.{Link}
 use Rattle.panel.specs.declared.Panel.{Panel}
-use Rattle.panel.specs.Items.{Item, link, stay, no_link, link_at, item_of, setter_of, outputs_of, is_in_force, items_of}
-use Rattle.panel.specs.Panels.{with_link, freed, dropped}
+use Rattle.panel.specs.Items.{Item, link, stay, link_at, item_of, setter_of, outputs_of, is_in_force, is_waiting, items_of}
+use Rattle.panel.specs.Panels.{with_link, freed, replaced}
 use Rattle.panel.specs.Solution.{level, strength_of, is_blocked, lesser, least, least_blocked}
-use Rattle.panel.specs.Legal.{Legal}
-use Rattle.panel.proofs.InForce.{unused_off}
+use Rattle.panel.specs.Legal.{Aside, Legal}
 use Rattle.panel.proofs.Reversed.{setter_stay, setter_number, link_here, link_there}
 use Rattle.panel.proofs.Setters.{reads_there}
 use Rattle.panel.proofs.Least.{least_passes, blocked_force}
-use Rattle.panel.proofs.Changes.{legal_dropped}
+use Rattle.panel.proofs.Changes.{aside_off, legal_replaced}
 use Rattle.tables.specs.Tables.{Tabled, StrengthsOf}
 use Rattle.tables.proofs.Settings.{same_setting, tabled_set}
 use Rattle.tables.proofs.Tables.{panel_acyclic, panel_table, table_strengths}
 use Rattle.scanning.specs.declared.Blocked.{Blocked}
 use Rattle.scanning.specs.declared.Blocked.TheVariants.{Nothing, Link as ALink, Stay as AStay}
 use Rattle.scanning.specs.Scan.{with_setters, is_blocked_link, is_blocked_by, least_blocked_by, found_of, Recorded, Names, Finds, Scanned}
-use Rattle.scanning.proofs.Over.{strengths_block, link_holds}
+use Rattle.scanning.proofs.Over.{strengths_block, link_idle}
 
 -- two levels that agree on the items that pass
-least_same : (q : Item → Bool) (lev lev' : Item → ℕ) → ((d : Item) → q d ≡ true → lev d ≡ lev' d) → (cs : List Item) → least q lev cs ≡ least q lev' cs
+pub least_same : (q : Item → Bool) (lev lev' : Item → ℕ) → ((d : Item) → q d ≡ true → lev d ≡ lev' d) → (cs : List Item) → least q lev cs ≡ least q lev' cs
 unfolding least
 least_same q lev lev' h [] = refl
 least_same q lev lev' h (c ∷ cs) = rw (least_same q lev lev' h cs) (go (q c) refl)
@@ -65,26 +64,26 @@ pub record Held (p : Panel) (id v : ℕ) (levels others reads : List ℕ) : Type
   pub small : id < 128
   pub holds : (link_at p.links id).standing ≡ Holding v
 
-module _ {p : Panel} {id v : ℕ} {levels others reads : List ℕ} (x : Held p id v levels others reads) where
+module _ {p : Panel} {id v : ℕ} {levels others reads : List ℕ} (x : Held p id v levels others reads) (left : Link) (a : Aside p.size left) where
   h : Legal p
   h = x.legal
 
   pub held_small : v < 64
   held_small = field_small p h id v x.small x.holds
 
-  -- the stay of v steps in, and then the link is dropped
+  -- the stay of v steps in, and then the link is dropped: what is left under its number is not in force
   abbrev stepped : Panel
   stepped = with_setters p (set p.setter v 128)
 
   abbrev pub rest : Panel
-  rest = with_link stepped id no_link
+  rest = with_link stepped id left
 
-  pub dropped_rest : dropped p id ≡ rest
-  unfolding dropped
-  dropped_rest = ap (freed (with_link p id no_link)) x.holds
+  pub dropped_rest : replaced p id left ≡ rest
+  unfolding replaced
+  dropped_rest = ap (freed (with_link p id left)) x.holds
 
   pub legal_rest : Legal rest
-  legal_rest = subst Legal dropped_rest (legal_dropped p id h x.small)
+  legal_rest = subst Legal dropped_rest (legal_replaced p id left a h x.small)
 
   -- v is set by its stay, every other field as before, and none by the link
   stay_sets : setter_of rest.setter v ≡ stay v
@@ -108,28 +107,28 @@ module _ {p : Panel} {id v : ℕ} {levels others reads : List ℕ} (x : Held p i
 
   -- another item
   level_kept : (d : Item) → d ≢ link id → level rest d ≡ level p d
-  level_kept (link i) ne = ap (λ (l : Link). l.level) (link_there p.links id i no_link (λ e. ne (ap link e)))
+  level_kept (link i) ne = ap (λ (l : Link). l.level) (link_there p.links id i left (λ e. ne (ap link e)))
   level_kept (stay f) ne = refl
 
   outputs_kept : (d : Item) → d ≢ link id → outputs_of rest.links d ≡ outputs_of p.links d
-  outputs_kept (link i) ne = ap (λ (l : Link). l.outputs) (link_there p.links id i no_link (λ e. ne (ap link e)))
+  outputs_kept (link i) ne = ap (λ (l : Link). l.outputs) (link_there p.links id i left (λ e. ne (ap link e)))
   outputs_kept (stay f) ne = refl
 
   tabled_rest : Tabled rest (set levels v (16 + at p.place v)) (set others v 0) (set reads v 0)
   unfolding setter_of
   tabled_rest =
       tabled_set p rest 64 64 v (16 + at p.place v) 0 0 held_small
-      (λ f a b c l ne.
+      (λ f _ _ _ l ne.
       let same : setter_of rest.setter f ≡ setter_of p.setter f = ap (λ (c : ℕ). item_of c f) (others_set f ne) in
       let other : setter_of p.setter f ≢ link id = λ e. unset f l (same ∙ e) in
       let d = setter_of p.setter f in
-      (l, same_setting p rest f d refl same (level_kept d other) (outputs_kept d other) (reads_there p.links id f no_link d other)))
+      (l, same_setting p rest f d refl same (level_kept d other) (outputs_kept d other) (reads_there p.links id f left d other)))
       (record { level_is = rw stay_sets refl; others_are = rw stay_sets (sym (without_only v)); reads_are = rw stay_sets refl }) x.tabled
 
   not_blocked : is_blocked rest (link id) ≡ false
   not_blocked =
       not-eq-not.0 (λ b. clash (blocked_force rest (link id) b)
-      (ap is_in_force (link_here p.links id no_link (omega (arith, h.links_length))) ∙ unused_off no_link refl))
+      (ap is_in_force (link_here p.links id left (omega (arith, h.links_length))) ∙ aside_off a))
 
   blocked_other : (d : Item) → is_blocked rest d ≡ true → d ≢ link id
   blocked_other d b e = clash b (ap (is_blocked rest) e ∙ not_blocked)
@@ -145,8 +144,8 @@ module _ {p : Panel} {id v : ℕ} {levels others reads : List ℕ} (x : Held p i
     blocked_kept (link i) = go (ℕ_discrete i id)
       where
         go : Dec (i ≡ id) → is_blocked_link table (link_at p.links i) ≡ is_blocked rest (link i)
-        go (yes e) = rw e (sym (link_holds table (link_at p.links id) v x.holds) ∙ sym not_blocked)
-        go (no e) = ap (is_blocked_link table) (sym (link_there p.links id i no_link e)) ∙ strengths_block rest table legal_rest strong (link i)
+        go (yes e) = rw e (sym (link_idle table (link_at p.links id) (ap is_waiting x.holds)) ∙ sym not_blocked)
+        go (no e) = ap (is_blocked_link table) (sym (link_there p.links id i left e)) ∙ strengths_block rest table legal_rest strong (link i)
     blocked_kept (stay f) = strengths_block rest table legal_rest strong (stay f)
 
     found_kept : least_blocked_by table stepped ≡ least_blocked rest
@@ -162,7 +161,7 @@ module _ {p : Panel} {id v : ℕ} {levels others reads : List ℕ} (x : Held p i
         kept : (b : Blocked) → least_blocked_by table stepped ≡ found_of b → Recorded p.links b → Recorded rest.links b
         kept Nothing e is = tt
         kept (ALink i l) e is =
-            is ∙ sym (link_there p.links id i no_link (λ d. blocked_other (link i) (found_blocked (link i) (sym found_kept ∙ e)) (ap link d)))
+            is ∙ sym (link_there p.links id i left (λ d. blocked_other (link i) (found_blocked (link i) (sym found_kept ∙ e)) (ap link d)))
         kept (AStay f) e is = tt
 
   -- the tables with the stay of v are those of the panel without the link: its strengths are those that the scan reads
@@ -175,14 +174,14 @@ module _ {p : Panel} {id v : ℕ} {levels others reads : List ℕ} (x : Held p i
     rest_table = is ∙ panel_table rest legal_rest _ _ _ tabled_rest before
 
     pub scanned : (worked : ℕ) → worked ≡ p.size → (b : Blocked) → Names p.links (least_blocked_by table stepped) b
-        → Scanned (dropped p id) before table b worked
+        → Scanned (replaced p id left) before table b worked
     scanned worked n b names =
         let finds = finds_kept table (table_strengths rest table before rest_table) b names in
         subst (λ (q : Panel). Scanned q before table b worked) (sym dropped_rest) (record { strengths = rest_table; once = n; finds = finds })
 
-  pub tabled_dropped : Tabled (dropped p id) (set levels v (16 + at p.place v)) (set others v 0) (set reads v 0)
+  pub tabled_dropped : Tabled (replaced p id left) (set levels v (16 + at p.place v)) (set others v 0) (set reads v 0)
   tabled_dropped = subst (λ (q : Panel). Tabled q (set levels v (16 + at p.place v)) (set others v 0) (set reads v 0)) (sym dropped_rest) tabled_rest
 
   -- the link is that which sets v
-  pub dropped_setter : dropped p (at p.setter v) ≡ rest
-  dropped_setter = ap (dropped p) (h.holding_sets id v x.small x.holds) ∙ dropped_rest
+  pub dropped_setter : replaced p (at p.setter v) left ≡ rest
+  dropped_setter = ap (λ (i : ℕ). replaced p i left) (h.holding_sets id v x.small x.holds) ∙ dropped_rest

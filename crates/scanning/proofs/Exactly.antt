@@ -20,8 +20,8 @@ use Rattle.panel.proofs.Legal.{force_small}
 use Rattle.panel.proofs.Setters.{whole, setter_ranked, setter_falls}
 use Rattle.panel.proofs.Reversal.{blocking, blocked_by}
 use Rattle.panel.proofs.Least.{blocked_force, LeastBlocked, least_blocked_lem, none_least}
-use Rattle.panel.specs.Panels.{dropped}
-use Rattle.panel.proofs.Changes.{legal_dropped}
+use Rattle.panel.specs.Panels.{replaced}
+use Rattle.panel.proofs.Changes.{legal_replaced}
 use Rattle.tables.proofs.Tables.{table_strengths}
 use Rattle.scanning.specs.Scan.{found_of}
 use Rattle.scanning.proofs.Over.{link_level}
@@ -79,11 +79,11 @@ scans_exactly p h =
       none_blocked = (λ e. subst (LeastBlocked p) e found, none_least p (least_blocked p) found);
     }
 
--- the scan of a removal: the panel without the link is legal
+-- the scan of a removal, or of a parking: the panel without the link is legal
 pub removal_scans : RemovalScans
-removal_scans p h id small before table found worked scan =
-    let q = dropped p id in
-    let exactly : ScanExactly q = scans_exactly q (legal_dropped p id h small) in
+removal_scans p h id small l aside before table found worked scan =
+    let q = replaced p id l in
+    let exactly : ScanExactly q = scans_exactly q (legal_replaced p id l aside h small) in
     let is : least_blocked q ≡ found_of found = scan.finds.0 in
     record {
       entries = table_strengths q table before scan.strengths;

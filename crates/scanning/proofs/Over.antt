@@ -15,7 +15,7 @@ use Rattle.fieldset.proofs.Numbers.{any_here, any_none, any_cong}
 use Rattle.fieldset.proofs.Fields.{member_only}
 use Rattle.fieldset.proofs.Emptying.{Emptying, empty_start, empty_step, empty_end, taken_in}
 use Rattle.panel.specs.declared.Standing.{Standing}
-use Rattle.panel.specs.declared.Standing.TheVariants.{Waiting, Holding}
+use Rattle.panel.specs.declared.Standing.TheVariants.{Waiting}
 use Rattle.panel.specs.declared.Link.{Link}
 use Rattle.panel.specs.declared.Panel.{Panel}
 use Rattle.panel.specs.Items.{Item, link, stay, link_at, outputs_of, is_in_force, is_waiting, waits}
@@ -105,9 +105,10 @@ module _ (table : List ℕ) (x : Link) where
   pub link_unused : x.used ≡ false → false ≡ is_blocked_link table x
   link_unused e = sym (ap (λ (u : Bool). (u && is_waiting x.standing) && is_over table x.level x.outputs) (unused_off x e))
 
-  pub link_holds : (f : ℕ) → x.standing ≡ Holding f → false ≡ is_blocked_link table x
-  link_holds f e =
-      sym (ap (λ (s : Standing). (is_in_force x && is_waiting s) && is_over table x.level x.outputs) e
+  -- one that holds a field or is parked
+  pub link_idle : is_waiting x.standing ≡ false → false ≡ is_blocked_link table x
+  link_idle e =
+      sym (ap (λ (w : Bool). (is_in_force x && w) && is_over table x.level x.outputs) e
       ∙ ap (λ (u : Bool). u && is_over table x.level x.outputs) (and-false (is_in_force x)))
 
   pub link_waits : (r : Bool) → x.used ≡ true → x.standing ≡ Waiting → r ≡ is_over table x.level x.outputs → r ≡ is_blocked_link table x

@@ -4,11 +4,12 @@ use Rattle.std.proofs.Math.Option.{none, some}
 use Rattle.fieldset.specs.Tables.{at}
 use Rattle.fieldset.specs.Fields.{member}
 use Rattle.strength.specs.Strength.{greatest}
+use Rattle.panel.specs.declared.Link.{Link}
 use Rattle.panel.specs.declared.Panel.{Panel}
 use Rattle.panel.specs.Items.{Item, link, outputs_of, waits}
-use Rattle.panel.specs.Panels.{dropped}
+use Rattle.panel.specs.Panels.{replaced}
 use Rattle.panel.specs.Solution.{level, setter_level, setter_others, strength_of, is_blocked, least_blocked}
-use Rattle.panel.specs.Legal.{Legal}
+use Rattle.panel.specs.Legal.{Aside, Legal}
 use Rattle.scanning.specs.declared.Blocked.{Blocked}
 use Rattle.scanning.specs.Scan.{found_of, Recorded, Scanned}
 
@@ -31,7 +32,7 @@ pub record ScanExactly (p : Panel) : Type 0 where
   -- nothing is found exactly when no link and no stay is blocked
   pub none_blocked : least_blocked p ≡ none ↔ ((c : Item) → is_blocked p c ≡ false)
 
--- of every legal panel, so of the one that a removal leaves without its link
+-- of every legal panel, so of the one that a removal, or a parking, leaves without its link
 abbrev pub ScansExactly : Type 0
 ScansExactly = (p : Panel) → Legal p → ScanExactly p
 
@@ -49,8 +50,8 @@ pub record RemovalScan (p : Panel) (table : List ℕ) (found : Blocked) (worked 
   -- what strength, blocked and the one that is taken are
   pub exactly : ScanExactly p
 
--- of every removal of a link, from what `scan_without` promises (`Scanned`)
+-- of every removal of a link, and of every parking, from what `scan_without` promises (`Scanned`)
 abbrev pub RemovalScans : Type 0
 RemovalScans =
-    (p : Panel) → Legal p → (id : ℕ) → id < 128 → (before table : List ℕ) (found : Blocked) (worked : ℕ) → Scanned (dropped p id) before table found worked
-    → RemovalScan (dropped p id) table found worked
+    (p : Panel) → Legal p → (id : ℕ) → id < 128 → (l : Link) → Aside p.size l → (before table : List ℕ) (found : Blocked) (worked : ℕ)
+    → Scanned (replaced p id l) before table found worked → RemovalScan (replaced p id l) table found worked

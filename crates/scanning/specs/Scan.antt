@@ -7,7 +7,10 @@ use Rattle.fieldset.specs.Fields.{member}
 use Rattle.panel.specs.declared.Link.{Link}
 use Rattle.panel.specs.declared.Panel.{Panel}
 use Rattle.panel.specs.Items.{Item, link, stay, link_at, outputs_of, is_in_force, is_waiting, waits, items_of}
+use Rattle.panel.specs.Panels.{replaced}
 use Rattle.panel.specs.Solution.{level, strength_of, least, least_blocked}
+use Rattle.panel.specs.Legal.{Aside}
+use Rattle.tables.specs.Tables.{Tabled}
 use Rattle.scanning.specs.declared.Blocked.{Blocked}
 use Rattle.scanning.specs.declared.Blocked.TheVariants.{Nothing, Link as ALink, Stay as AStay}
 
@@ -59,3 +62,11 @@ pub record Scanned (p : Panel) (before table : List ℕ) (found : Blocked) (work
   pub once : worked ≡ p.size
   -- document 01's blocked link or stay of least level is found, and none exactly where none is blocked (`Exactly.antt`)
   pub finds : Finds p found
+
+-- the scan once the link of a number is dropped, whatever then stands there that is not in force: nothing, or the link parked
+abbrev pub ScannedWithout : Panel → ℕ → List ℕ → List ℕ → Blocked → ℕ → Type 0
+ScannedWithout p id before table found worked = (l : Link) → Aside p.size l → Scanned (replaced p id l) before table found worked
+
+-- and the tables of that panel
+abbrev pub TabledWithout : Panel → ℕ → List ℕ → List ℕ → List ℕ → Type 0
+TabledWithout p id levels others reads = (l : Link) → Aside p.size l → Tabled (replaced p id l) levels others reads

@@ -3,10 +3,9 @@
 
 ghost use Rattle.std.specs.Prelude.{◌≡◌, ◌<◌, length};
 ghost use Rattle.fieldset.specs.Tables.{at};
-ghost use Rattle.panel.specs.Panels.{dropped};
 ghost use Rattle.panel.specs.Legal.{Legal};
 ghost use Rattle.tables.specs.Tables.{Tabled};
-ghost use Rattle.scanning.specs.Scan.{is_over, is_blocked_link, with_setters, least_blocked_by, Names, Scanned};
+ghost use Rattle.scanning.specs.Scan.{is_over, is_blocked_link, with_setters, least_blocked_by, Names, ScannedWithout, TabledWithout};
 
 use fieldset::{first, without_lowest};
 use panel::{Link, Panel, STAY, STAY_LEVEL, Standing};
@@ -41,6 +40,7 @@ fn is_blocked(l: Link, table: &[u8; 64]) -> bool
             }
         }
         Standing::Holding(_) => false,
+        Standing::Parked => false,
     }
 }
 
@@ -91,7 +91,7 @@ pub struct Found {
 }
 
 // The scan without the link that sets v, once it is dropped and v's stay sets v: the tables become those of that panel, each of its strengths is worked
-// out once, and the scan reads only these.
+// out once, and the scan reads only these. Whether the link is removed or parked makes no difference to it.
 // The contract rules out, for instance, an entry from before the removal and a scan that stops at the first blocked link (must-fail:
 // entry_from_before_the_removal, stops_at_first_blocked).
 pub fn scan_without(
@@ -103,8 +103,8 @@ pub fn scan_without(
     table: &mut [u8; 64],
 ) -> Found
     requires { Legal p × Tabled p levels.old others.old reads.old × (v < 64) × (at p.setter v < 128) × (length table.old ≡ 64) }
-    ensures scanned { Scanned (dropped p (at p.setter v)) table.old table.new result.blocked result.worked }
-    ensures tabled { Tabled (dropped p (at p.setter v)) levels.new others.new reads.new }
+    ensures scanned_without { ScannedWithout p (at p.setter v) table.old table.new result.blocked result.worked }
+    ensures tabled_without { TabledWithout p (at p.setter v) levels.new others.new reads.new }
 {
     let mut setter = p.setter;
     setter[v] = STAY;

@@ -1,5 +1,6 @@
 -- Every command leaves a legal sheet legal. A command of the panel leaves each link its covered fields and its number's use but for the link that it
--- adds, which had no formula, the one that it removes, which then has none, and the one that it changes (`fits_solved`, `changed_here`); a run of
+-- adds, which had no formula, the one that it removes, which then has none, and the one that it changes (`fits_solved`, `changed_here`), whatever its
+-- standing; a run of
 -- the plan leaves every value within the limits (`run_within`) and reaches no field past the panel's (`run_others`). Assumes nothing.
 use Prim.Native.Nat.{ℕ, ◌≤◌, ◌<◌}
 use mathlib.Core.Path.{◌≡◌, refl, sym, ap, subst, ◌∙◌}
@@ -22,15 +23,15 @@ use Rattle.panel.specs.declared.Panel.{Panel}
 use Rattle.panel.specs.Items.{Item, no_link, link_at}
 use Rattle.panel.specs.Answers as answers
 use Rattle.panel.specs.Answers.{refusal_bytes, is_refusal}
-use Rattle.panel.specs.Panels.{opened, to_front}
+use Rattle.panel.specs.Panels.{opened, waiting_link, to_front}
 use Rattle.panel.specs.Solution.{setter_reads, reversed, plan_of, is_looped}
 use Rattle.panel.specs.Commands as panel
-use Rattle.panel.specs.Commands.{opening, adding, removing, touching, planning, changing, covered_in, Passes, Check, check_reply}
+use Rattle.panel.specs.Commands.{opening, adding, removing, touching, planning, changing, parking, unparking, covered_in, Passes, Check, check_reply}
 use Rattle.panel.specs.Legal.{Legal}
 use Rattle.panel.proofs.Reversed.{AllAlike, alike_covered, alike_used, link_here, link_there, reversed_alike, reversed_size}
-use Rattle.panel.proofs.Changes.{unopened_links, dropped_parts}
-use Rattle.panel.proofs.Checks.{addable, removable, changeable, touchable, openable, new_link}
-use Rattle.panel.proofs.Performed.{legal_performed, Keeps, Without, AfterChange, kept_performed, performed_size}
+use Rattle.panel.proofs.Changes.{unopened_links, replaced_parts}
+use Rattle.panel.proofs.Checks.{addable, removable, changeable, touchable, openable, new_link, parked_new, returning}
+use Rattle.panel.proofs.Performed.{legal_performed, parked_record, Keeps, Without, AfterChange, kept_performed, performed_size}
 use Rattle.values.specs.Limits.{value_at, outside}
 use Rattle.formulas.specs.declared.Formula.{Formula}
 use Rattle.formulas.specs.declared.Formula.TheVariants.{None}
@@ -143,20 +144,24 @@ module _ (s : Sheet) (h : LegalSheet s) where
       go true e (inr (u, a)) = inr (refl, rw (← eqb-true (link_at s.panel.links id).covered (covered_in bytes) e) a)
       go false e f = inl (dropped_here id l)
 
-  changed_there : (id level : ℕ) (bytes : List ℕ) (k : ℕ) → k ≢ id → (q : Panel) → Without s.panel id q
-      → Fits (after (changing id level bytes) k) (link_at q.links k)
-  changed_there id level bytes k d q w = go (eqb (link_at s.panel.links id).covered (covered_in bytes)) (kept (h.fits k))
+  -- and so does that of another link
+  changed_there : (id level : ℕ) (bytes : List ℕ) (k : ℕ) → k ≢ id → (l : Link) → Fits (formula_at s.formulas k) l → Fits (after (changing id level bytes) k) l
+  changed_there id level bytes k d l f = go (eqb (link_at s.panel.links id).covered (covered_in bytes))
     where
-      -- of another link only the standing may be another
-      kept : Fits (formula_at s.formulas k) (link_at s.panel.links k) → Fits (formula_at s.formulas k) (link_at q.links k)
-      kept f =
-          fits_alike q.links (set s.panel.links id no_link) w.links k
-          (subst (Fits (formula_at s.formulas k)) (sym (link_there s.panel.links id k no_link d)) f)
+      go : (b : Bool) → Fits (formula_at (cond b s.formulas (with_formula s.formulas id None)) k) l
+      go true = f
+      go false = subst (λ (x : Formula). Fits x l) (sym (dropped_there id k d)) f
 
-      go : (b : Bool) → Fits (formula_at s.formulas k) (link_at q.links k)
-          → Fits (formula_at (cond b s.formulas (with_formula s.formulas id None)) k) (link_at q.links k)
-      go true f = f
-      go false f = subst (λ (x : Formula). Fits x (link_at q.links k)) (sym (dropped_there id k d)) f
+  -- of which a removal may have changed the standing
+  without_there : (id k : ℕ) → k ≢ id → (q : Panel) → Without s.panel id q → Fits (formula_at s.formulas k) (link_at q.links k)
+  without_there id k d q w =
+      fits_alike q.links (set s.panel.links id no_link) w.links k
+      (subst (Fits (formula_at s.formulas k)) (sym (link_there s.panel.links id k no_link d)) (h.fits k))
+
+  -- a formula fits its link as it is recorded, brought back
+  returned : (formula : Formula) (l : Link) → Fits formula l → Fits formula (waiting_link l.level l.covered l.outputs)
+  returned formula l (inl e) = inl e
+  returned formula l (inr (u, a)) = inr (refl, a)
 
   fits_solved : (c : panel.Command) → AfterChange (λ q. FitsAll (after c) q.links) s.panel c
   unfolding opened to_front
@@ -166,16 +171,34 @@ module _ (s : Sheet) (h : LegalSheet s) where
       fits_set (after (adding id level bytes)) s.panel.links id (new_link level bytes) (omega (arith, h.panel.links_length, new.link.number))
       (inl (unused_none (formula_at s.formulas id) (link_at s.panel.links id) (h.fits id) new.free)) (λ k d. h.fits k)
   fits_solved (removing id) = λ a.
-      subst (FitsAll (after (removing id))) (sym (dropped_parts s.panel id).1)
+      subst (FitsAll (after (removing id))) (sym (replaced_parts s.panel id no_link).1)
       (fits_set (after (removing id)) s.panel.links id no_link (omega (arith, h.panel.links_length, (removable s.panel id a).number))
       (inl (dropped_here id (removable s.panel id a).number))
       (λ k d. subst (λ (x : Formula). Fits x (link_at s.panel.links k)) (sym (dropped_there id k d)) (h.fits k)))
   fits_solved (touching f) = λ a. h.fits
   fits_solved planning = h.fits
-  fits_solved (changing id level bytes) = λ a q w.
-      let small = (changeable s.panel id level bytes a).number in
-      fits_set (after (changing id level bytes)) q.links id (new_link level bytes) (omega (arith, w.full, h.panel.links_length)) (changed_here id level bytes small)
-      (λ k d. changed_there id level bytes k d q w)
+  fits_solved (changing id level bytes) = λ a.
+      let small = (changeable s.panel id level bytes a).number in (
+        λ e.
+            fits_set (after (changing id level bytes)) s.panel.links id (parked_new level bytes) (omega (arith, h.panel.links_length))
+            (changed_here id level bytes small) (λ k d. changed_there id level bytes k d (link_at s.panel.links k) (h.fits k)),
+        λ e q w.
+            fits_set (after (changing id level bytes)) q.links id (new_link level bytes) (omega (arith, w.full, h.panel.links_length))
+            (changed_here id level bytes small) (λ k d. changed_there id level bytes k d (link_at q.links k) (without_there id k d q w)),
+      )
+  fits_solved (parking id) = λ a. (
+    λ e. h.fits,
+    λ e.
+        subst (FitsAll (after (parking id))) (sym (replaced_parts s.panel id (parked_record s.panel id)).1)
+        (fits_set (after (parking id)) s.panel.links id (parked_record s.panel id) (omega (arith, h.panel.links_length, (removable s.panel id a).number))
+        (h.fits id) (λ k d. h.fits k)),
+  )
+  fits_solved (unparking id) = λ a. (
+    λ e.
+        fits_set (after (unparking id)) s.panel.links id (returning s.panel id) (omega (arith, h.panel.links_length, (removable s.panel id a).number))
+        (returned (formula_at s.formulas id) (link_at s.panel.links id) (h.fits id)) (λ k d. h.fits k),
+    λ e. h.fits,
+  )
 
   after_length : (c : panel.Command) → length (formulas_after s c).of ≡ 128
   after_length (opening n) = h.formulas_length
@@ -188,6 +211,8 @@ module _ (s : Sheet) (h : LegalSheet s) where
       go : (b : Bool) → length (cond b s.formulas (with_formula s.formulas id None)).of ≡ 128
       go true = h.formulas_length
       go false = length-set s.formulas.of id no_rule ∙ h.formulas_length
+  after_length (parking id) = h.formulas_length
+  after_length (unparking id) = h.formulas_length
 
   legal_solved : (c : panel.Command) → LegalSheet (performed s (solving c)).sheet
   legal_solved c =

@@ -10,7 +10,7 @@ use Rattle.panel.specs.Answers as answers
 use Rattle.panel.specs.Answers.{refusal_bytes, is_refusal}
 use Rattle.panel.specs.Moved as panels
 use Rattle.panel.specs.Commands as panel
-use Rattle.panel.specs.Commands.{opening, adding, removing, touching, planning, changing, covered_in, Check, check, check_reply}
+use Rattle.panel.specs.Commands.{opening, adding, removing, touching, planning, changing, parking, unparking, covered_in, Check, check, check_reply}
 use Rattle.values.specs.Changes.{revalued}
 use Rattle.formulas.specs.declared.Formula.{Formula}
 use Rattle.formulas.specs.declared.Formula.TheVariants.{None, Ratio, Sum}
@@ -39,7 +39,7 @@ refused s r = record { sheet = s; reply = 0xFF ∷ refusal_bytes r }
 -- ---- the panel's commands
 
 -- the formulas after a command that is not refused: "removal drops it"; of a change, "its formula kept if the covered fields are the same, else dropped"
--- (request 5)
+-- (request 5); of a parked link "its formula kept" (request 8)
 abbrev pub formulas_after : Sheet → panel.Command → Formulas
 formulas_after s (opening n) = s.formulas
 formulas_after s (adding id level bytes) = s.formulas
@@ -48,6 +48,8 @@ formulas_after s (touching f) = s.formulas
 formulas_after s planning = s.formulas
 formulas_after s (changing id level bytes) =
     cond (eqb (link_at s.panel.links id).covered (covered_in bytes)) s.formulas (with_formula s.formulas id None)
+formulas_after s (parking id) = s.formulas
+formulas_after s (unparking id) = s.formulas
 
 -- no value changes
 abbrev pub solved : Sheet → panel.Command → answers.Answer → Answer

@@ -23,7 +23,7 @@ use Rattle.panel.specs.Items.{Item, link, stay, no_link, link_at, setter_of, ite
 use Rattle.panel.specs.Panels.{standing, with_link, with_setter, holding, waiting, freed}
 use Rattle.panel.specs.Solution.{reversed}
 use Rattle.panel.proofs.Reversed.{AllAlike, alike_level, alike_outputs, alike_reads, Fit, put_here, put_there, holding_place, holding_alike, holding_sets, waiting_place, waiting_setter, waiting_alike}
-use Rattle.panel.proofs.Legal.{holding_not_waiting}
+use Rattle.panel.proofs.Standings.{freed_none}
 use Rattle.tables.specs.declared.Entry.{Entry}
 use Rattle.tables.specs.Tables.{EntryOf, Setting, Tabled, Places}
 use Rattle.tables.proofs.Settings.{entry_setting, same_setting, tabled_same}
@@ -89,7 +89,7 @@ tabled_but p s field t = record {
 }
 
 -- and with all
-pub tabled_whole : (p : Panel) {s : Standing} {l o r : List ℕ} → s ≡ Waiting → TabledBut p s l o r → Tabled p l o r
+pub tabled_whole : (p : Panel) {s : Standing} {l o r : List ℕ} → ((f : ℕ) → s ≢ Holding f) → TabledBut p s l o r → Tabled p l o r
 tabled_whole p {s} {l} {o} {r} e t = record {
   levels_full = t.levels_full;
   others_full = t.others_full;
@@ -98,7 +98,7 @@ tabled_whole p {s} {l} {o} {r} e t = record {
 }
   where
     go : (f : ℕ) → (s ≡ Holding f) ⊎ Setting p f (at l f) (at o f) (at r f) → Setting p f (at l f) (at o f) (at r f)
-    go f (inl d) = absurd (holding_not_waiting d e)
+    go f (inl d) = absurd (e f d)
     go f (inr k) = k
 
 -- the item of the number c sets the field v
@@ -181,9 +181,9 @@ module _ (n : ℕ) (path : List ℕ) (c : ℕ) {p q : Panel} {held : Standing} {
         }),
       )
 
-  pub reversing_all : held ≡ Waiting → l' ≡ l → o' ≡ o → r' ≡ r → q ≡ p → Starts n path c p held q l' o' r'
+  pub reversing_all : ((f : ℕ) → held ≢ Holding f) → l' ≡ l → o' ≡ o → r' ≡ r → q ≡ p → Starts n path c p held q l' o' r'
   reversing_all e el eo er eq = (
-    rw (eq, e) refl,
+    eq ∙ sym (freed_none p held e),
     rw (eq, el, eo, er) (record {
       within = omega arith;
       panel = reversed_stay p c 0 (at path 0) (take n path);

@@ -23,6 +23,7 @@ use Rattle.panel.specs.Solution.{setter_reads, reversed}
 use Rattle.panel.specs.Outcomes.{altered, taken, Takes}
 use Rattle.panel.specs.Legal.{Legal}
 use Rattle.panel.proofs.Reversed.{AllAlike, alike_reads, reversed_alike, link_here, link_there}
+use Rattle.panel.proofs.Standings.{waiting_not_holding}
 use Rattle.panel.proofs.Outcomes.{freed_links, taken_place, taken_still}
 use Rattle.tables.specs.Tables.{Setting, Tabled, Places, level_with}
 use Rattle.tables.proofs.Settings.{places, placed_setting}
@@ -107,4 +108,4 @@ module _ {p : Panel} {k : ℕ} {path : List ℕ} {s : Step} {after : Panel} (d :
     pub taken_unmoved : {levels' : List ℕ} → levels' ≡ placed_levels → s.changed ≡ 0 → Taken after (altered p k s) levels' others reads
     taken_unmoved e z =
         let still = d.still z in
-        taken_by (sym (taken_still p k s path still.0 still.1 still.2)) (tabled_whole (altered p k s) still.0 (tabled_altered e))
+        taken_by (sym (taken_still p k s path still.0 still.1 still.2)) (tabled_whole (altered p k s) (waiting_not_holding still.0) (tabled_altered e))

@@ -76,7 +76,7 @@ unmoved : (p : Panel) → Legal p → (k : ℕ) (named : Link) → named ≡ lin
 unmoved p h k named same place = record {
   legal = h;
   size = refl;
-  field = λ v e. absurd (holding_not_waiting e refl);
+  frees = tt;
   gone = λ v e. absurd (holding_not_waiting e refl);
   keeps = λ g l e. inl same;
 }

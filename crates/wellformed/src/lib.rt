@@ -48,6 +48,7 @@ fn is_waiting(s: Standing) -> bool
     match s {
         Standing::Waiting => true,
         Standing::Holding(_) => false,
+        Standing::Parked => false,
     }
 }
 
@@ -65,6 +66,7 @@ fn is_standing(setter: &[u8; 64], i: usize, outputs: u64, s: Standing) -> bool
                 false
             }
         }
+        Standing::Parked => true,
     }
 }
 
@@ -110,6 +112,7 @@ fn holds(s: Standing, f: usize) -> bool
     match s {
         Standing::Waiting => false,
         Standing::Holding(g) => wide(g) == f,
+        Standing::Parked => false,
     }
 }
 

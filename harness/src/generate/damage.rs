@@ -25,7 +25,7 @@ pub fn text(rng: &mut Rng, text: &mut Vec<u8>, places: usize) {
 
 /// A frame with something wrong, as a rule.
 fn bad_frame(rng: &mut Rng, mut frame: Vec<u8>) -> Vec<u8> {
-    match rng.below(11) {
+    match rng.below(12) {
         0 => frame[0] = *rng.pick(&[0, 6, 7, 8, 9, 0x0A, 0x10, 0x81, 0xFF]),
         1 => frame.push(rng.byte()),
         2 => frame.truncate(1 + rng.below(frame.len())),
@@ -34,6 +34,7 @@ fn bad_frame(rng: &mut Rng, mut frame: Vec<u8>) -> Vec<u8> {
         5 => frame = vec![4, *rng.pick(&[0, 1, 62, 63, 64, 128, 255])],
         6 => frame = bad_value(rng),
         7 => frame = bad_formula(rng),
+        8 => frame = bad_switch(rng),
         _ => frame = bad_link(rng),
     }
     frame
@@ -53,6 +54,14 @@ fn bad_formula(rng: &mut Rng) -> Vec<u8> {
     frame.push(*rng.pick(&[0, 1, 1, 2, 2, 3, 0x81, 255]));
     let length = *rng.pick(&[0, 1, 1, 3, 4, 4, 5]);
     frame.extend((0..length).map(|_| *rng.pick(&[0, 1, 2, 63, 64, 255])));
+    frame
+}
+
+/// A frame of kind 09 with something wrong, as a rule.
+fn bad_switch(rng: &mut Rng) -> Vec<u8> {
+    let mut frame = vec![9, *rng.pick(&[0, 1, 2, 127, 128, 255])];
+    let length = *rng.pick(&[0, 1, 1, 1, 1, 2]);
+    frame.extend((0..length).map(|_| *rng.pick(&[0, 0, 1, 1, 2, 9, 0x80, 255])));
     frame
 }
 

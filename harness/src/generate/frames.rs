@@ -20,9 +20,9 @@ pub struct Mix {
     pub output_percent: usize,
     /// Number of frames after the opening.
     pub frames: (usize, usize),
-    /// Weights of add, remove, touch, plan, value (kind 07), formula (kind 08) and
-    /// change (kind 06).
-    pub weights: [usize; 7],
+    /// Weights of add, remove, touch, plan, value (kind 07), formula (kind 08),
+    /// change (kind 06) and parking or bringing back (kind 09).
+    pub weights: [usize; 8],
     /// Chance of a change to leave level and outputs and to draw only the fields that
     /// are merely read; else it is drawn from all changes.
     pub reread_percent: usize,
@@ -42,7 +42,7 @@ const MIDDLE: Mix = Mix {
     covered: (1, 4),
     output_percent: 60,
     frames: (10, 80),
-    weights: [50, 25, 20, 5, 15, 10, 15],
+    weights: [50, 25, 20, 5, 15, 10, 15, 20],
     reread_percent: 0,
     few_values_percent: 0,
     damaged_percent: 10,
@@ -69,6 +69,7 @@ pub const MIXES: &[Mix] = &[
     Mix {
         levels: &[3, 4, 5, 5, 5, 5],
         output_percent: 95,
+        weights: [50, 25, 20, 5, 15, 10, 15, 30],
         ..MIDDLE
     },
     // Many links waiting for few fields, often removed: blocked links.
@@ -77,7 +78,7 @@ pub const MIXES: &[Mix] = &[
         ids: 20,
         levels: &[1, 2, 2, 3, 3, 4],
         covered: (1, 3),
-        weights: [50, 40, 5, 5, 10, 5, 25],
+        weights: [50, 40, 5, 5, 10, 5, 25, 20],
         ..MIDDLE
     },
     // Fewer links than fields, often touched: blocked stays.
@@ -87,7 +88,7 @@ pub const MIXES: &[Mix] = &[
         levels: &[0, 0, 3],
         covered: (2, 5),
         output_percent: 80,
-        weights: [35, 25, 35, 5, 20, 10, 20],
+        weights: [35, 25, 35, 5, 20, 10, 20, 20],
         ..MIDDLE
     },
     // Long walks over many fields.
@@ -98,6 +99,7 @@ pub const MIXES: &[Mix] = &[
         covered: (2, 3),
         output_percent: 90,
         frames: (40, 160),
+        weights: [50, 25, 20, 5, 15, 10, 15, 25],
         ..MIDDLE
     },
     // All 64 fields, all link numbers, up to eight fields a link.
@@ -107,7 +109,7 @@ pub const MIXES: &[Mix] = &[
         levels: ALL_LEVELS,
         covered: (1, 8),
         frames: (100, 300),
-        weights: [80, 5, 10, 5, 10, 10, 10],
+        weights: [80, 5, 10, 5, 10, 10, 10, 20],
         ..MIDDLE
     },
     // All link numbers in use at last.
@@ -118,7 +120,7 @@ pub const MIXES: &[Mix] = &[
         covered: (1, 2),
         output_percent: 95,
         frames: (250, 400),
-        weights: [95, 0, 3, 2, 3, 2, 2],
+        weights: [95, 0, 3, 2, 3, 2, 2, 2],
         damaged_percent: 1,
         ..MIDDLE
     },
@@ -128,7 +130,7 @@ pub const MIXES: &[Mix] = &[
         levels: &[0, 0, 2, 7],
         covered: (2, 2),
         output_percent: 85,
-        weights: [12, 8, 3, 2, 50, 25, 10],
+        weights: [12, 8, 3, 2, 50, 25, 10, 8],
         ..MIDDLE
     },
     // Sums, many of them in one direction.
@@ -137,7 +139,7 @@ pub const MIXES: &[Mix] = &[
         levels: &[0, 2, 7],
         covered: (2, 5),
         output_percent: 40,
-        weights: [12, 8, 3, 2, 50, 25, 10],
+        weights: [12, 8, 3, 2, 50, 25, 10, 8],
         ..MIDDLE
     },
     // Any number of fields, any level.
@@ -168,8 +170,19 @@ pub const MIXES: &[Mix] = &[
         fields: (2, 10),
         ids: 30,
         frames: (300, 1500),
-        weights: [40, 35, 20, 5, 20, 10, 20],
+        weights: [40, 35, 20, 5, 20, 10, 20, 20],
         damaged_percent: 2,
+        ..MIDDLE
+    },
+    // Few links, parked and brought back again and again.
+    Mix {
+        fields: (2, 5),
+        ids: 6,
+        levels: &[0, 0, 2, 2, 7],
+        covered: (1, 3),
+        frames: (20, 120),
+        weights: [20, 10, 8, 4, 15, 12, 20, 45],
+        few_values_percent: 30,
         ..MIDDLE
     },
     // Links that keep their outputs and read other fields, values that fields have
@@ -181,7 +194,7 @@ pub const MIXES: &[Mix] = &[
         covered: (1, 3),
         output_percent: 80,
         frames: (20, 120),
-        weights: [25, 15, 8, 3, 12, 6, 35],
+        weights: [25, 15, 8, 3, 12, 6, 35, 8],
         reread_percent: 70,
         few_values_percent: 80,
         ..MIDDLE
@@ -223,8 +236,15 @@ fn frames_while(
     frames
 }
 
-/// The link numbers taken to be in use, each with its body (see `body`).
-type Used = BTreeMap<u8, Vec<u8>>;
+/// The link numbers taken to be in use.
+type Used = BTreeMap<u8, Known>;
+
+/// What a link in use is taken to be.
+struct Known {
+    /// See `body`.
+    body: Vec<u8>,
+    parked: bool,
+}
 
 /// One frame.
 fn frame(rng: &mut Rng, mix: &Mix, fields: usize, used: &mut Used) -> Vec<u8> {
@@ -235,7 +255,10 @@ fn frame(rng: &mut Rng, mix: &Mix, fields: usize, used: &mut Used) -> Vec<u8> {
             let body = body(rng, mix, fields);
             let frame = [&[2, id], &body[..]].concat();
             // An add of a number in use is refused.
-            used.entry(id).or_insert(body);
+            used.entry(id).or_insert(Known {
+                body,
+                parked: false,
+            });
             frame
         }
         1 => {
@@ -248,23 +271,44 @@ fn frame(rng: &mut Rng, mix: &Mix, fields: usize, used: &mut Used) -> Vec<u8> {
         4 => values::store(rng, mix, fields),
         5 => {
             let id = used_id(rng, mix, used);
-            let field_bytes = used.get(&id).map_or(&[][..], |body| &body[1..]);
+            let field_bytes = used.get(&id).map_or(&[][..], |link| &link.body[1..]);
             let covered: Vec<u8> = field_bytes.iter().map(|byte| byte % 128).collect();
             values::formula(rng, id, &covered, fields)
         }
-        _ => {
+        6 => {
             let id = used_id(rng, mix, used);
             let body = match used.get_mut(&id) {
-                Some(body) => {
-                    changes::change(rng, mix, fields, body);
-                    body.clone()
+                Some(link) => {
+                    changes::change(rng, mix, fields, &mut link.body);
+                    link.body.clone()
                 }
                 // A change of a number not in use is refused.
                 None => body(rng, mix, fields),
             };
             [&[6, id], &body[..]].concat()
         }
+        _ => switch(rng, mix, used),
     }
+}
+
+/// A frame of kind 09. Its last byte is nearly always 00 or 01, mostly the one by which
+/// the link is parked or brought back.
+fn switch(rng: &mut Rng, mix: &Mix, used: &mut Used) -> Vec<u8> {
+    let parked: Vec<u8> = used.keys().copied().filter(|id| used[id].parked).collect();
+    let id = match !parked.is_empty() && rng.percent(50) {
+        true => *rng.pick(&parked),
+        false => used_id(rng, mix, used),
+    };
+    let is_parked = parked.contains(&id);
+    let last = match rng.below(60) {
+        0 => *rng.pick(&[2, 3, 0x10, 0x80, 0x81, 0xFF]),
+        1..=8 => is_parked as u8,
+        _ => !is_parked as u8,
+    };
+    if let Some(link) = used.get_mut(&id).filter(|_| last < 2) {
+        link.parked = last == 1;
+    }
+    vec![9, id, last]
 }
 
 /// The place in `weights` that is drawn.

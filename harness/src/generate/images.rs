@@ -14,13 +14,19 @@ pub fn image(seed: u64) -> Vec<u8> {
 }
 
 /// A saved text of one mix. Every line has digits and its LF. In about every third text
-/// one byte of one line is another one, one too many or left out; else there is little that a reading refuses as a
-/// BadImage, and standings are drawn so that a good part is fit.
+/// one byte of one line is another one, one too many or left out; else there is little that
+/// a reading refuses as a BadImage, and standings are drawn so that a good part is fit.
+/// About every third text is of version 01.
 pub fn image_of(rng: &mut Rng, mix: &Mix) -> Vec<u8> {
     let fields = rng.between(mix.fields.0, mix.fields.1);
     let stays = shuffled(rng, fields);
-    let mut frames = vec![vec![0x0A, 1, fields as u8], [&[0x0B], &stays[..]].concat()];
-    let links = links(rng, mix, &stays);
+    let version = *rng.pick(&[1, 2, 2]);
+    let mut frames = vec![
+        vec![0x0A, version, fields as u8],
+        [&[0x0B], &stays[..]].concat(),
+    ];
+    let parked_percent = if version == 1 { 2 } else { 20 };
+    let links = links(rng, mix, &stays, parked_percent);
     frames.extend(links.iter().cloned());
     frames.extend(formulas(rng, &links, fields));
     for field in 0..fields as u8 {
@@ -43,15 +49,19 @@ fn shuffled(rng: &mut Rng, fields: usize) -> Vec<u8> {
     (0..fields).map(draw).collect()
 }
 
-/// The lines of the links, more often few than many: with many there is a loop.
-fn links(rng: &mut Rng, mix: &Mix, stays: &[u8]) -> Vec<Vec<u8>> {
+/// The lines of the links, more often few than many: with many there is a loop. A link
+/// that is parked, by this chance, leaves its fields to others.
+fn links(rng: &mut Rng, mix: &Mix, stays: &[u8], parked_percent: usize) -> Vec<Vec<u8>> {
     let most = 1 + rng.below(mix.ids.min(stays.len() + 3));
     let count = rng.below(most + 1);
     let mut held = Vec::new();
     let mut lines = Vec::new();
     for id in some_fields(rng, mix.ids, count) {
         let body = body(rng, mix, stays.len());
-        let standing = standing(rng, &body[1..], stays, &held);
+        let standing = match rng.chance(parked_percent) {
+            true => 0xFE,
+            false => standing(rng, &body[1..], stays, &held),
+        };
         held.push(standing);
         lines.push([&[0x0C, id, body[0], standing], &body[1..]].concat());
     }

@@ -21,6 +21,8 @@ impl Run {
             Command::Change(id, level, ref field_bytes) => self.change(id, level, field_bytes)?,
             Command::Store(field, value) => self.store(field, value)?,
             Command::Formula(id, formula) => self.give_formula(id, formula)?,
+            Command::Park(id) => self.park(id)?,
+            Command::BringBack(id) => self.panel.bring_back(id)?,
         };
         Ok(Reply::Moved(moved))
     }
@@ -39,6 +41,12 @@ impl Run {
         let moved = self.panel.remove(id)?;
         self.formulas.remove(&id);
         Ok(moved)
+    }
+
+    /// Kind 09 "parks as Remove would", the scan included, but its formula is kept.
+    fn park(&mut self, id: u8) -> Result<u8, Refusal> {
+        self.scans.extend(self.panel.scan_of_remove(id));
+        self.panel.park(id)
     }
 
     /// Kind 06 "removes the link and adds it anew as one, its formula kept if the

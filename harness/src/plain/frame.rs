@@ -23,6 +23,10 @@ pub enum Command {
     Store(u8, i32),
     /// 08 id and a formula
     Formula(u8, Formula),
+    /// 09 id 01
+    Park(u8),
+    /// 09 id 00
+    BringBack(u8),
 }
 
 /// "Digits 0-9 and A-F, two a byte." BadHex: "empty line, odd count, another
@@ -59,9 +63,9 @@ fn bad_hex(offset: usize) -> Refusal {
 }
 
 /// The kinds of frames. BadFrame: "unknown kind, wrong length for the kind,
-/// bit 6 set in a field byte"; of kind 08 "another length or formula kind".
-/// Numbers of several bytes are "most significant first", the value of kind 07
-/// is in "two's complement".
+/// bit 6 set in a field byte"; of kind 08 "another length or formula kind", of
+/// kind 09 "another last byte". Numbers of several bytes are "most significant
+/// first", the value of kind 07 is in "two's complement".
 pub fn read_frame(frame: &[u8]) -> Result<Command, Refusal> {
     match *frame {
         [1, n] => Ok(Command::Open(n)),
@@ -80,6 +84,8 @@ pub fn read_frame(frame: &[u8]) -> Result<Command, Refusal> {
             Ok(Command::Formula(id, Formula::Ratio(p, q)))
         }
         [8, id, 2, field] => Ok(Command::Formula(id, Formula::Sum(field))),
+        [9, id, 1] => Ok(Command::Park(id)),
+        [9, id, 0] => Ok(Command::BringBack(id)),
         _ => Err(Refusal::BadFrame),
     }
 }

@@ -9,11 +9,13 @@ pub enum Item {
     Stay(u8),
 }
 
-/// "A link's standing is either waiting or holding one named field."
+/// "A link's standing is either waiting or holding one named field", and, of
+/// document 02, request 8, "a third standing, parked: it holds nothing".
 #[derive(Clone, Copy, Debug, PartialEq, Eq)]
 pub enum Standing {
     Waiting,
     Holding(u8),
+    Parked,
 }
 
 /// "A link has a number 0 to 127, a level 0 to 15, a set of 1 to 8 covered
@@ -27,17 +29,25 @@ pub struct Link {
     pub standing: Standing,
 }
 
+impl Link {
+    /// The link with this standing.
+    pub(super) fn with(self, standing: Standing) -> Link {
+        Link { standing, ..self }
+    }
+}
+
 /// A panel; the default one is unopened.
 #[derive(Clone, Debug, Default, PartialEq, Eq)]
 pub struct Panel {
-    /// The links in force.
+    /// The links in force and those that are parked.
     pub(super) links: BTreeMap<u8, Link>,
     /// The fields in the order of their stays; none while unopened.
     pub(super) stays: Vec<u8>,
 }
 
 impl Panel {
-    /// The links in force: "all links added and not since removed".
+    /// The links whose number is in use: "all links added and not since removed",
+    /// parked ones among them.
     pub fn links(&self) -> &BTreeMap<u8, Link> {
         &self.links
     }
@@ -57,11 +67,19 @@ impl Panel {
         !self.stays.is_empty()
     }
 
-    /// "In force are all links added and not since removed, and all n stays."
+    /// "In force are all links added and not since removed, and all n stays"; a
+    /// parked link "does not count as in force".
     pub fn in_force(&self) -> Vec<Item> {
-        let links = self.links.keys().map(|&id| Item::Link(id));
+        let links = self.links.keys().filter(|&&id| !self.is_parked(id));
+        let links = links.map(|&id| Item::Link(id));
         let stays = self.stays.iter().map(|&field| Item::Stay(field));
         links.chain(stays).collect()
+    }
+
+    /// Whether a link of this number is parked.
+    pub fn is_parked(&self, id: u8) -> bool {
+        let link = self.links.get(&id);
+        link.is_some_and(|link| link.standing == Standing::Parked)
     }
 
     /// The link's own level; "the stay at place p, from 0, has level 16 + p".
@@ -130,7 +148,7 @@ impl Panel {
     /// exactly when no link does.
     pub(super) fn set_standing(&mut self, item: Item, standing: Standing) {
         if let Item::Link(id) = item {
-            let link = self.links.get_mut(&id).expect("link in force");
+            let link = self.links.get_mut(&id).expect("link in use");
             link.standing = standing;
         }
     }

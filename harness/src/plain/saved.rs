@@ -1,5 +1,6 @@
 //! "Keep a panel in the drawer" (document 02, request 7): "saved panels as
-//! versioned text", their writer and their reader.
+//! versioned text", their writer and their reader. By request 8 "the saved text
+//! becomes version 02, with standing FE; the new reader takes 01 too".
 
 use super::formula::Formula;
 use super::frame::{hex, read_frame, read_hex, Command};
@@ -16,17 +17,19 @@ const LINK: u8 = 0x0C;
 const FORMULA: u8 = 0x08;
 const VALUE: u8 = 0x0D;
 
-/// The one version that is known.
-const VERSION: u8 = 1;
+/// The version that is written, and the one that is taken too.
+const VERSION: u8 = 2;
+const OLD_VERSION: u8 = 1;
 
-/// "Standing being the held field or FF."
+/// "Standing being the held field or FF", or, in version 02, FE for a parked link.
 const WAITING: u8 = 0xFF;
+const PARKED: u8 = 0xFE;
 
 impl Run {
     /// The saved text. It is "written only from an open one (else NotOpen ..)".
     pub fn saved(&self) -> Result<Vec<u8>, Refusal> {
         self.panel.must_be_open()?;
-        // "0A 01 n; 0B and the n fields, strongest stay first".
+        // "0A 01 n", now 02, "0B and the n fields, strongest stay first".
         let mut lines = vec![
             vec![SIZE, VERSION, self.panel.size()],
             [&[STAYS], self.panel.stays()].concat(),
@@ -80,6 +83,7 @@ fn link_line(id: u8, link: &Link) -> Vec<u8> {
     let standing = match link.standing {
         Standing::Waiting => WAITING,
         Standing::Holding(field) => field,
+        Standing::Parked => PARKED,
     };
     let mut line = vec![LINK, id, link.level, standing];
     // "Field byte: low six bits the field, bit 7 set if it is an output."
@@ -106,9 +110,13 @@ fn formula_line(id: u8, formula: Formula) -> Vec<u8> {
 fn has_unknown_version(text: &[u8]) -> bool {
     let first_bytes = text.get(..4).map(read_hex);
     match first_bytes {
-        Some(Ok(bytes)) => bytes[0] == SIZE && bytes[1] != VERSION,
+        Some(Ok(bytes)) => bytes[0] == SIZE && !is_known(bytes[1]),
         _ => false,
     }
+}
+
+fn is_known(version: u8) -> bool {
+    [OLD_VERSION, VERSION].contains(&version)
 }
 
 /// What a text says, or nothing where it is a BadImage: "not lines of this form and
@@ -117,10 +125,10 @@ fn has_unknown_version(text: &[u8]) -> bool {
 fn image(text: &[u8]) -> Option<Run> {
     let mut lines = lines(text)?.into_iter().peekable();
     let mut image = Run::default();
-    image.take_size(&lines.next()?)?;
+    let version = image.take_size(&lines.next()?)?;
     image.take_stays(&lines.next()?)?;
     while let Some(line) = lines.next_if(|line| line[0] == LINK) {
-        image.take_link(&line)?;
+        image.take_link(&line, version)?;
     }
     while let Some(line) = lines.next_if(|line| line[0] == FORMULA) {
         image.take_formula(&line)?;
@@ -142,13 +150,13 @@ fn lines(text: &[u8]) -> Option<Vec<Vec<u8>>> {
 /// Each takes one line over into what was said before, or gives nothing where the line
 /// makes the text a BadImage.
 impl Run {
-    /// "0A 01 n", n as in the opening.
-    fn take_size(&mut self, line: &[u8]) -> Option<()> {
-        let &[SIZE, VERSION, n] = line else {
+    /// "0A 01 n" or 0A 02 n, n as in the opening; the answer is the version.
+    fn take_size(&mut self, line: &[u8]) -> Option<u8> {
+        let &[SIZE, version, n] = line else {
             return None;
         };
         self.apply(&Command::Open(n)).ok()?;
-        Some(())
+        is_known(version).then_some(version)
     }
 
     /// "0B and the n fields", each once.
@@ -165,26 +173,31 @@ impl Run {
     }
 
     /// "For each link by rising number 0C id level standing and its field bytes",
-    /// numbers as in Add. A standing is FF or an output that no link holds yet.
-    fn take_link(&mut self, line: &[u8]) -> Option<()> {
+    /// numbers as in Add.
+    fn take_link(&mut self, line: &[u8], version: u8) -> Option<()> {
         let [LINK, id, level, standing, field_bytes @ ..] = line else {
             return None;
         };
-        let mut link = self.panel.sound_link(*id, *level, field_bytes).ok()?;
+        let link = self.panel.sound_link(*id, *level, field_bytes).ok()?;
         if !rises(&self.panel.links, *id) {
             return None;
         }
-        if *standing != WAITING {
-            let holding = Standing::Holding(*standing);
-            let mut others = self.panel.links.values();
-            let held_twice = others.any(|other| other.standing == holding);
-            if held_twice || !link.outputs.contains(standing) {
-                return None;
-            }
-            link.standing = holding;
-        }
-        self.panel.links.insert(*id, link);
+        let standing = self.standing_in_text(*standing, &link.outputs, version)?;
+        self.panel.links.insert(*id, link.with(standing));
         Some(())
+    }
+
+    /// FF, FE but not in version 01, "where FE is a BadImage", or an output that no
+    /// link holds yet.
+    fn standing_in_text(&self, byte: u8, outputs: &[u8], version: u8) -> Option<Standing> {
+        let holding = Standing::Holding(byte);
+        let mut others = self.panel.links.values();
+        match byte {
+            WAITING => Some(Standing::Waiting),
+            PARKED if version != OLD_VERSION => Some(Standing::Parked),
+            _ if others.any(|other| other.standing == holding) => None,
+            field => outputs.contains(&field).then_some(holding),
+        }
     }
 
     /// "Formulas as 08 frames by rising link number", which kind 08 accepts.

@@ -1,5 +1,5 @@
 //! "The four steps", the opening, the change of a link (document 02, request 5),
-//! and the checks in front of them.
+//! parking and bringing back (request 8), and the checks in front of them.
 
 use super::panel::{Item, Link, Panel, Standing};
 use super::refusal::Refusal;
@@ -57,12 +57,34 @@ impl Panel {
         Ok(link)
     }
 
-    /// Remove, with its checks.
+    /// Remove, with its checks. Of a parked link it "drops it and replies 0", as of
+    /// one that waits.
     pub fn remove(&mut self, id: u8) -> Result<u8, Refusal> {
-        self.must_be_open()?;
-        Panel::must_be_number(id)?;
-        self.must_have_link(id)?;
+        self.must_name_link(id)?;
         let after = self.after_remove(id)?;
+        Ok(self.replace_with(after))
+    }
+
+    /// Kind 09, 01: it "parks as Remove would; .. parking a parked link .. replies
+    /// 0".
+    pub fn park(&mut self, id: u8) -> Result<u8, Refusal> {
+        self.must_name_link(id)?;
+        if self.is_parked(id) {
+            return Ok(0);
+        }
+        let after = self.parked(id).first_blocked_turned()?;
+        Ok(self.replace_with(after))
+    }
+
+    /// Kind 09, 00: it "brings back as Add would; .. bringing back another one
+    /// replies 0".
+    pub fn bring_back(&mut self, id: u8) -> Result<u8, Refusal> {
+        self.must_name_link(id)?;
+        if !self.is_parked(id) {
+            return Ok(0);
+        }
+        let link = self.links[&id].clone();
+        let after = self.after_add(id, link.with(Standing::Waiting))?;
         Ok(self.replace_with(after))
     }
 
@@ -82,8 +104,13 @@ impl Panel {
     /// Change, behind its checks: it "removes the link and adds it anew as one";
     /// "then the removal's Loop, then the adding's Conflict or Loop; a refusal
     /// changes nothing". "Moved compares the state before with the state after
-    /// both, a link of the same number being the same setter."
+    /// both, a link of the same number being the same setter." Of a parked link it
+    /// "alters it and leaves it parked".
     pub(super) fn change(&mut self, id: u8, link: Link) -> Result<u8, Refusal> {
+        if self.is_parked(id) {
+            self.links.insert(id, link.with(Standing::Parked));
+            return Ok(0);
+        }
         let removed = self.after_remove(id)?;
         let after = removed.after_add(id, link)?;
         Ok(self.replace_with(after))
@@ -133,8 +160,15 @@ impl Panel {
         }
     }
 
-    /// "NoSuchLink (removed number not in use)", or one that is changed or gets a
-    /// formula.
+    /// The checks of a removal, and of kind 09.
+    fn must_name_link(&self, id: u8) -> Result<(), Refusal> {
+        self.must_be_open()?;
+        Panel::must_be_number(id)?;
+        self.must_have_link(id)
+    }
+
+    /// "NoSuchLink (removed number not in use)", or one that is changed, gets a
+    /// formula, is parked or brought back. The number of a parked link "stays taken".
     pub(super) fn must_have_link(&self, id: u8) -> Result<(), Refusal> {
         match self.links.contains_key(&id) {
             true => Ok(()),
@@ -172,25 +206,29 @@ impl Panel {
     }
 
     /// "If the link waits, drop it. If it sets v, drop it and let v's stay set
-    /// v. Then look at all blocked links and stays; if there are any, take the
-    /// one with the least level (among equals, the lowest link number) and
-    /// carry out the walk and the turning of Add for it, once."
+    /// v. Then" turn once.
     fn after_remove(&self, id: u8) -> Result<Panel, Refusal> {
-        let panel = self.dropped(id);
-        match panel.first_blocked() {
-            Some(item) => panel.turned(item),
-            None => Ok(panel),
+        self.dropped(id).first_blocked_turned()
+    }
+
+    /// "Look at all blocked links and stays; if there are any, take the one with
+    /// the least level (among equals, the lowest link number) and carry out the
+    /// walk and the turning of Add for it, once."
+    fn first_blocked_turned(self) -> Result<Panel, Refusal> {
+        match self.first_blocked() {
+            Some(item) => self.turned(item),
+            None => Ok(self),
         }
     }
 
-    /// The scan that the removal of a link needs, by its number of strengths:
-    /// document 02, request 4, "each field's once", so n. A link that waits needs
-    /// none: without it nothing is blocked that was not. (`after_remove` looks
-    /// all the same, and finds nothing.)
+    /// The scan that the removal or the parking of a link needs, by its number of
+    /// strengths: document 02, request 4, "each field's once", so n. A link that
+    /// waits or is parked needs none: without it nothing is blocked that was not.
+    /// (`first_blocked_turned` looks all the same, and finds nothing.)
     pub(super) fn scan_of_remove(&self, id: u8) -> Option<u8> {
         match self.links.get(&id)?.standing {
             Standing::Holding(_) => Some(self.size()),
-            Standing::Waiting => None,
+            Standing::Waiting | Standing::Parked => None,
         }
     }
 
@@ -199,6 +237,13 @@ impl Panel {
     pub fn dropped(&self, id: u8) -> Panel {
         let mut panel = self.clone();
         panel.links.remove(&id);
+        panel
+    }
+
+    /// The panel right after a link is parked: what it set its stay sets.
+    pub fn parked(&self, id: u8) -> Panel {
+        let mut panel = self.clone();
+        panel.set_standing(Item::Link(id), Standing::Parked);
         panel
     }
 

@@ -70,7 +70,7 @@ pub struct Run {
     pub formulas: BTreeMap<u8, Formula>,
     pub tally: Tally,
     /// For each scan for blocked links and stays that a removal needed, that of a
-    /// change included, in order, its number of strengths.
+    /// change included, or parking, in order, its number of strengths.
     pub scans: Vec<u8>,
 }
 

@@ -6,6 +6,8 @@
 pub mod book;
 pub mod choices;
 pub mod held;
+pub mod panels;
 pub mod redraws;
 pub mod state;
+pub mod texts;
 pub mod values;

@@ -41,7 +41,7 @@ use Rattle.frames.specs.Reading.{tail_of}
 use Rattle.deciding.specs.Lines.{Framed, formula_after, sets_formula, AnswerRest, TouchStep}
 use Rattle.deciding.proofs.Arms.{OneOf, framed, entered_touch}
 use Rattle.answering.specs.Scans.{line_scan}
-use Rattle.answering.proofs.LineAnswers.{removal_no_change, removed_scan, no_scan, removed_step, touch_taken, touch_setters, entered_step, step_panel, Stepped, step_legal, step_sizes, answer_legal, answer_sizes, decided_stepped, step_panel_lem, changed_panel, changed_turned, changed_tabled, changed_rest, changed_worked, formulas_same, did}
+use Rattle.answering.proofs.LineAnswers.{drop_no_change, dropped_scan, no_scan, dropped_step, unparked_step, touch_taken, touch_setters, entered_step, step_panel, Stepped, step_legal, step_sizes, answer_legal, answer_sizes, decided_stepped, step_panel_lem, changed_panel, changed_turned, changed_tabled, changed_rest, changed_worked, formulas_same, did}
 use Rattle.answering.proofs.Going.{Did, Going, start, line_done, finish_end, finish_full}
 use Rattle.answering.proofs.answer_lines.Statement.{statement}
 use Rattle.answering.proofs.answer_lines.Tie as tie
@@ -78,10 +78,10 @@ abbrev text_of : tie.At-loop invariant-loop decreases-loop → List ℕ
 text_of c = (begin (filled c)).args.text.now
 
 -- the sheet that the line meets
-abbrev sheet-of : tie.After-old invariant-loop decreases-loop → Sheet
-sheet-of c = let l = (looped c).loop in sheet_of l.q l.formulas l.values
+abbrev sheet_of_lem : tie.After-old invariant-loop decreases-loop → Sheet
+sheet_of_lem c = let l = (looped c).loop in sheet_of l.q l.formulas l.values
 
-is-legal : (c : tie.After-old invariant-loop decreases-loop) → LegalSheet (sheet-of c)
+is-legal : (c : tie.After-old invariant-loop decreases-loop) → LegalSheet (sheet_of_lem c)
 is-legal c = (looped c).loop.invariant.3.legal
 
 number_small : (c : tie.After-wide invariant-loop decreases-loop) → c.wide.result < 128
@@ -132,32 +132,42 @@ mul-old c = omega (arith, number_small c)
 element-copy-out-old : tie.Need-element-copy-out-old invariant-loop decreases-loop
 element-copy-out-old c = omega (arith, number_small c)
 
--- in the arms of the match, the command is a removal, or another; among these, a value that is entered
-abbrev removes : tie.After-levels2 invariant-loop decreases-loop → tie.After-command invariant-loop decreases-loop
-removes c = c.before.before
+-- in the arms of the match, the command drops a link, brings one back, or is another; among these, a value that is entered
+abbrev drops : tie.After-levels2 invariant-loop decreases-loop → tie.After-command invariant-loop decreases-loop
+drops c = c.before.before
 
-abbrev decides : tie.After-levels3 invariant-loop decreases-loop → tie.After-old invariant-loop decreases-loop
-decides c = c.before.before
+abbrev unparks : tie.After-levels3 invariant-loop decreases-loop → tie.After-command2 invariant-loop decreases-loop
+unparks c = c.before.before
+
+abbrev decides : tie.After-levels4 invariant-loop decreases-loop → tie.After-old invariant-loop decreases-loop
+decides c = c.before.before.before
 
 abbrev decided : tie.After-decide-line invariant-loop decreases-loop → tie.After-old invariant-loop decreases-loop
 decided c = decides c.before.before.before.before.before
 
-abbrev enters : tie.After-after invariant-loop decreases-loop → tie.After-command2 invariant-loop decreases-loop
+abbrev enters : tie.After-after invariant-loop decreases-loop → tie.After-command3 invariant-loop decreases-loop
 enters c = c.before.before.before.before.before.before
 
 -- the touch of a value that is entered
-touches : (c : tie.After-command2 invariant-loop decreases-loop) → let d = c.before.before in let r = d.decide-line in
-    TouchStep (looped (decided d)).loop.q 0 c.command2.given.0.0 r.new.1.1.1.1.1.1.0 r.new.1.1.1.1.1.1.1.0 r.result
+touches : (c : tie.After-command3 invariant-loop decreases-loop) → let d = c.before.before in let r = d.decide-line in
+    TouchStep (looped (decided d)).loop.q 0 c.command3.given.0.0 r.new.1.1.1.1.1.1.0 r.new.1.1.1.1.1.1.1.0 r.result
 touches c =
     let d = c.before.before in
-    entered_touch _ _ (tail_of (read (decided d)).read-line.result) _ _ _ (command-of (decided d)) _ _ c.command2.given.1 d.decide-line.ensures
+    entered_touch _ _ (tail_of (read (decided d)).read-line.result) _ _ _ (command-of (decided d)) _ _ c.command3.given.1 d.decide-line.ensures
 
-remove-requires : tie.Need-remove-requires invariant-loop decreases-loop
-remove-requires c κs =
-    let k = removes c.before.before.before.before in
+drop-link-requires : tie.Need-drop-link-requires invariant-loop decreases-loop
+drop-link-requires c κs =
+    let k = drops c.before.before.before.before in
     let n = k.before.before in
     let l = (looped n).loop.inv in
     ((is-legal n).panel, l.2, named-at n ∙ ap (λ (x : Command). link_at (looped n).loop.q.links (number_of x)) k.command.given.1, l.1)
+
+unpark-requires : tie.Need-unpark-requires invariant-loop decreases-loop
+unpark-requires c κs =
+    let k = unparks c.before.before.before in
+    let n = k.before.before.before in
+    let l = (looped n).loop.inv in
+    ((is-legal n).panel, l.2, named-at n ∙ ap (λ (x : Command). link_at (looped n).loop.q.links (number_of x)) k.command2.given.1, l.1)
 
 framed_at : (c : tie.After-old invariant-loop decreases-loop) → Framed (read c).read-line.result
 framed_at c = framed _ _ (read c).read-line.ensures
@@ -177,7 +187,7 @@ enter-requires c κs =
     let k = enters g.before in
     let n = decided k.before.before in
     let d = (touches k).decides in (
-      (is-legal n, named-at n ∙ ap (λ (x : Command). link_at (looped n).loop.q.links (number_of x)) k.command2.given.1),
+      (is-legal n, named-at n ∙ ap (λ (x : Command). link_at (looped n).loop.q.links (number_of x)) k.command3.given.1),
       ((_, d), touch_setters d g.setters.ensures),
     )
 
@@ -197,53 +207,61 @@ abbrev parts : tie.After-stay-levels invariant-loop decreases-loop → tie.After
 parts c = c.before.before.before.before.before
 
 -- the step changes setters
-abbrev changes : tie.After-path4 invariant-loop decreases-loop → tie.After-stay-levels invariant-loop decreases-loop
+abbrev changes : tie.After-path5 invariant-loop decreases-loop → tie.After-stay-levels invariant-loop decreases-loop
 changes c = c.before.before
 
 abbrev tail_at : tie.After-old invariant-loop decreases-loop → List ℕ
 tail_at c = tail_of (read c).read-line.result
 
 same-command : (c : tie.At-match-branch invariant-loop decreases-loop) → c.match.command ≡ command-of c.before
-same-command c = ⊎_elim (λ w. w.14 ∙ sym w.1.given.1) (⊎_elim (λ w. w.26 ∙ sym w.8.given.1) (λ w. w.13)) c.match.branch
+same-command c =
+    ⊎_elim (λ w. w.14 ∙ sym w.1.given.1)
+    (⊎_elim (λ w. w.14 ∙ sym w.2.given.1) (⊎_elim (λ w. w.27 ∙ sym w.9.given.1) (λ w. w.14))) c.match.branch
 
 stepped : (c : tie.At-match-branch invariant-loop decreases-loop)
-    → let n = c.before in let m = c.match in Stepped (sheet-of n) (number_of (command-of n)) (command-of n) (tail_at n) m.path m.rows m.values m.step
+    → let n = c.before in let m = c.match in Stepped (sheet_of_lem n) (number_of (command-of n)) (command-of n) (tail_at n) m.path m.rows m.values m.step
 stepped c =
     let n = c.before in
     let m = c.match in
     let l = (looped n).loop in
     ⊎_elim
     (λ w.
-    let path = w.8.last.1.1.1.1.1.1.0 in
+    let path = w.8.last.1.1.1.1.1.1.1.0 in
     rw (w.9, w.11, w.12, w.15)
-    (subst (λ (x : Command). Stepped (sheet-of n) (number_of x) x (tail_at n) path l.rows l.values w.8.result) (sym w.1.given.1)
-    (removed_step (sheet-of n) _ _ _ _ l.inv.0 _ w.8.ensures.0)))
+    (subst (λ (x : Command). Stepped (sheet_of_lem n) (number_of x) x (tail_at n) path l.rows l.values w.8.result) (sym w.1.given.1)
+    (dropped_step (sheet_of_lem n) _ _ _ _ _ l.inv.0 _ w.8.ensures.0)))
     (⊎_elim
     (λ w.
-    let path = w.6.last.1.1.1.1.1.1.0 in
-    let rows = w.6.last.1.1.1.1.1.1.1.0 in
-    let after = w.20.last.1.1.1.1.1.1.1.1.0 in
-    let t = entered_touch _ _ (tail_at n) _ _ _ (command-of n) _ _ w.8.given.1 w.6.ensures in
-    rw (w.21, w.23, w.24, w.27)
-    (subst (λ (x : Command). Stepped (sheet-of n) (number_of x) x (tail_at n) path rows after w.20.result) (sym w.8.given.1)
-    (entered_step (sheet-of n) _ _ (tail_at n) path rows _ (to_z-of_z (record { sfits = w.16.ok }) ∙ w.16.ensures) t.rows_full _ t.decides after _ w.20.ensures)))
-    (λ w. rw (w.8, w.10, w.11, w.14)
-    (decided_stepped _ _ _ _ _ _ _ (command-of n) w.0.keys2 w.7.keys2 (named-at n) w.6.ensures l.formulas l.values)))
+    let path = w.8.last.1.1.1.1.1.1.0 in
+    rw (w.9, w.11, w.12, w.15)
+    (subst (λ (x : Command). Stepped (sheet_of_lem n) (number_of x) x (tail_at n) path l.rows l.values w.8.result) (sym w.2.given.1)
+    (unparked_step (sheet_of_lem n) _ _ _ _ l.inv.0 _ w.8.ensures)))
+    (⊎_elim
+    (λ w.
+    let path = w.7.last.1.1.1.1.1.1.0 in
+    let rows = w.7.last.1.1.1.1.1.1.1.0 in
+    let after = w.21.last.1.1.1.1.1.1.1.1.0 in
+    let t = entered_touch _ _ (tail_at n) _ _ _ (command-of n) _ _ w.9.given.1 w.7.ensures in
+    rw (w.22, w.24, w.25, w.28)
+    (subst (λ (x : Command). Stepped (sheet_of_lem n) (number_of x) x (tail_at n) path rows after w.21.result) (sym w.9.given.1)
+    (entered_step (sheet_of_lem n) _ _ (tail_at n) path rows _ (to_z-of_z (record { sfits = w.17.ok }) ∙ w.17.ensures) t.rows_full _ t.decides after _ w.21.ensures)))
+    (λ w. rw (w.9, w.11, w.12, w.15)
+    (decided_stepped _ _ _ _ _ _ _ (command-of n) w.0.keys2 w.1.keys2 w.8.keys2 (named-at n) w.7.ensures l.formulas l.values))))
     m.branch
 
 -- the step, of the link that the code names
 takes_at : (c : tie.At-match-branch invariant-loop decreases-loop)
-    → let n = c.before in let m = c.match in Takes (looped n).loop.q n.before.wide.result m.path m.step (step_panel (sheet-of n) (tail_at n) (command-of n))
+    → let n = c.before in let m = c.match in Takes (looped n).loop.q n.before.wide.result m.path m.step (step_panel (sheet_of_lem n) (tail_at n) (command-of n))
 takes_at c =
     let n = c.before in
     let m = c.match in
-    subst (λ (k : ℕ). Takes (looped n).loop.q k m.path m.step (step_panel (sheet-of n) (tail_at n) (command-of n))) (sym (number_is n)) (stepped c).takes
+    subst (λ (k : ℕ). Takes (looped n).loop.q k m.path m.step (step_panel (sheet_of_lem n) (tail_at n) (command-of n))) (sym (number_is n)) (stepped c).takes
 
 abbrev after-of : tie.At-match-branch invariant-loop decreases-loop → Panel
-after-of c = let n = c.before in step_panel (sheet-of n) (tail_at n) (command-of n)
+after-of c = let n = c.before in step_panel (sheet_of_lem n) (tail_at n) (command-of n)
 
 legal_after : (c : tie.At-match-branch invariant-loop decreases-loop) → Legal (after-of c)
-legal_after c = let n = c.before in step_legal (sheet-of n) (tail_at n) (command-of n) (is-legal n)
+legal_after c = let n = c.before in step_legal (sheet_of_lem n) (tail_at n) (command-of n) (is-legal n)
 
 mul-link : tie.Need-overflow-mul-link invariant-loop decreases-loop
 mul-link c = omega (arith, number_small (met c).before.before)
@@ -289,48 +307,48 @@ changed-requires c κs =
     (t.legal, t.tabled, framed_at (joined j).before)
 
 -- the arms meet: the panel after the line, its tables, and the rest of the answer
-abbrev met-again : tie.At-match3-branch invariant-loop decreases-loop → tie.At-match-branch invariant-loop decreases-loop
+abbrev met-again : tie.At-match4-branch invariant-loop decreases-loop → tie.At-match-branch invariant-loop decreases-loop
 met-again c = joined c.before
 
 -- the command is no change
-other : (c : tie.At-match3-keys2 invariant-loop decreases-loop) → OneOf (0 ∷ 1 ∷ 2 ∷ 3 ∷ 4 ∷ 6 ∷ 7 ∷ 8 ∷ []) (tag_of the_type (command-of (joined c.before).before))
-other c = subst (λ (x : Command). OneOf (0 ∷ 1 ∷ 2 ∷ 3 ∷ 4 ∷ 6 ∷ 7 ∷ 8 ∷ []) (tag_of the_type x)) (same-command (joined c.before)) c.match3.keys2
+other : (c : tie.At-match4-keys2 invariant-loop decreases-loop) → OneOf (0 ∷ 1 ∷ 2 ∷ 3 ∷ 4 ∷ 6 ∷ 7 ∷ 8 ∷ 9 ∷ []) (tag_of the_type (command-of (joined c.before).before))
+other c = subst (λ (x : Command). OneOf (0 ∷ 1 ∷ 2 ∷ 3 ∷ 4 ∷ 6 ∷ 7 ∷ 8 ∷ 9 ∷ []) (tag_of the_type x)) (same-command (joined c.before)) c.match4.keys2
 
-rest_is : (c : tie.At-match3-branch invariant-loop decreases-loop) → let m = met-again c in let n = m.before in let t = c.match3 in
-    AnswerRest (sheet-of n) (number_of (command-of n)) (command-of n) (tail_at n) m.match.rows m.match.values (counted t.reply (redrawn_by t.turned m.match.step.revalued t.q))
+rest_is : (c : tie.At-match4-branch invariant-loop decreases-loop) → let m = met-again c in let n = m.before in let t = c.match4 in
+    AnswerRest (sheet_of_lem n) (number_of (command-of n)) (command-of n) (tail_at n) m.match.rows m.match.values (counted t.reply (redrawn_by t.turned m.match.step.revalued t.q))
 rest_is c =
     let m = met-again c in
     let n = m.before in
     ⊎_elim
     (λ w. rw (w.9, w.14, w.15)
-    (changed_rest (sheet-of n) (command-of n) (tail_at n) _ _ _ _ (stepped m) _ _ (sym (same-command m) ∙ w.1.given.1) _ (taken c.before).panel _ _ _ _ _ w.6.result
+    (changed_rest (sheet_of_lem n) (command-of n) (tail_at n) _ _ _ _ (stepped m) _ _ (sym (same-command m) ∙ w.1.given.1) _ (taken c.before).panel _ _ _ _ _ w.6.result
     w.6.ensures))
-    (λ w. rw (w.1 ∙ (taken c.before).panel, w.6, w.7) (step_panel_lem (command-of n) (other (record { before = c.before; match3 = w.0 })) (stepped m)).1) c.match3.branch
+    (λ w. rw (w.1 ∙ (taken c.before).panel, w.6, w.7) (step_panel_lem (command-of n) (other (record { before = c.before; match4 = w.0 })) (stepped m)).1) c.match4.branch
 
-panel-is : (c : tie.At-match3-branch invariant-loop decreases-loop) → let n = (met-again c).before in c.match3.q ≡ (command_answer (sheet-of n) (command-of n) (tail_at n)).state.panel
+panel-is : (c : tie.At-match4-branch invariant-loop decreases-loop) → let n = (met-again c).before in c.match4.q ≡ (command_answer (sheet_of_lem n) (command-of n) (tail_at n)).state.panel
 panel-is c =
     let m = met-again c in
     let n = m.before in
     ⊎_elim
     (λ w. w.9
-    ∙ changed_panel (sheet-of n) (command-of n) (tail_at n) _ _ _ _ (stepped m) _ _ (sym (same-command m) ∙ w.1.given.1) _ (taken c.before).panel _ _ _ _ _ w.6.result
+    ∙ changed_panel (sheet_of_lem n) (command-of n) (tail_at n) _ _ _ _ (stepped m) _ _ (sym (same-command m) ∙ w.1.given.1) _ (taken c.before).panel _ _ _ _ _ w.6.result
     w.6.ensures)
-    (λ w. w.1 ∙ (taken c.before).panel ∙ (step_panel_lem (command-of n) (other (record { before = c.before; match3 = w.0 })) (stepped m)).0) c.match3.branch
+    (λ w. w.1 ∙ (taken c.before).panel ∙ (step_panel_lem (command-of n) (other (record { before = c.before; match4 = w.0 })) (stepped m)).0) c.match4.branch
 
-tabled-is : (c : tie.At-match3-branch invariant-loop decreases-loop) → let t = c.match3 in Tabled t.q t.levels t.others t.reads
+tabled-is : (c : tie.At-match4-branch invariant-loop decreases-loop) → let t = c.match4 in Tabled t.q t.levels t.others t.reads
 tabled-is c =
     let m = met-again c in
     let n = m.before in
     ⊎_elim
     (λ w. rw (w.9, w.11, w.12, w.13)
-    (changed_tabled (sheet-of n) (command-of n) (tail_at n) _ _ _ _ (stepped m) _ _ (sym (same-command m) ∙ w.1.given.1) _ (taken c.before).panel _ _ _ _ _ w.6.result
+    (changed_tabled (sheet_of_lem n) (command-of n) (tail_at n) _ _ _ _ (stepped m) _ _ (sym (same-command m) ∙ w.1.given.1) _ (taken c.before).panel _ _ _ _ _ w.6.result
     w.6.ensures))
-    (λ w. rw (w.1, w.3, w.4, w.5) (taken c.before).tabled) c.match3.branch
+    (λ w. rw (w.1, w.3, w.4, w.5) (taken c.before).tabled) c.match4.branch
 
-legal-is : (c : tie.At-match3-branch invariant-loop decreases-loop) → Legal c.match3.q
+legal-is : (c : tie.At-match4-branch invariant-loop decreases-loop) → Legal c.match4.q
 legal-is c =
     let n = (met-again c).before in
-    subst Legal (sym (panel-is c)) (answer_legal (sheet-of n) (command-of n) (tail_at n) (is-legal n)).panel
+    subst Legal (sym (panel-is c)) (answer_legal (sheet_of_lem n) (command-of n) (tail_at n) (is-legal n)).panel
 
 -- ---- the count, and the kept tables
 
@@ -340,12 +358,12 @@ below-requires-2 c κs =
     let e = k.before.before.before.before.before in
     let m = joined e.before.before in
     let n = m.before in
-    let is = changed_panel (sheet-of n) (command-of n) (tail_at n) _ _ _ _ (stepped m) _ _ (sym (same-command m) ∙ e.enum_told.given.1) _ (taken e.before.before).panel _ _ _ _ _
+    let is = changed_panel (sheet_of_lem n) (command-of n) (tail_at n) _ _ _ _ (stepped m) _ _ (sym (same-command m) ∙ e.enum_told.given.1) _ (taken e.before.before).panel _ _ _ _ _
     k.changed.result k.changed.ensures in
-    (subst Legal (sym is) (answer_legal (sheet-of n) (command-of n) (tail_at n) (is-legal n)).panel).few
+    (subst Legal (sym is) (answer_legal (sheet_of_lem n) (command-of n) (tail_at n) (is-legal n)).panel).few
 
 -- the reads may differ from those that are kept in the fields that got another setter; after a change in any
-stale-is : (c : tie.At-match3-branch invariant-loop decreases-loop) → let l = (looped (met-again c).before).loop in let t = c.match3 in
+stale-is : (c : tie.At-match4-branch invariant-loop decreases-loop) → let l = (looped (met-again c).before).loop in let t = c.match4 in
     Stale t.q.size t.stale t.reads l.reads l.readers l.down
 stale-is c =
     let m = met-again c in
@@ -355,14 +373,14 @@ stale-is c =
     let t = taken c.before in
     ⊎_elim
     (λ w. rw (w.16, w.8.ensures, ← w.9)
-    (stale_change p (legal-is c) (subst (Sizes l.q) (sym (panel-is c)) (answer_sizes (sheet-of n) (command-of n) (tail_at n))) l.inv.2 l.inv.5 (tabled-is c)))
+    (stale_change p (legal-is c) (subst (Sizes l.q) (sym (panel-is c)) (answer_sizes (sheet_of_lem n) (command-of n) (tail_at n))) l.inv.2 l.inv.5 (tabled-is c)))
     (λ w. rw w.8
-    (subst (λ (q : Panel). Stale q.size m.match.step.changed c.match3.reads l.reads l.readers l.down) (sym (w.1 ∙ t.panel))
-    (stale_step p (legal_after m) (step_sizes (sheet-of n) (tail_at n) (command-of n)) l.inv.2 l.inv.5
-    (subst (λ (q : Panel). Tabled q c.match3.levels c.match3.others c.match3.reads) (w.1 ∙ t.panel) (tabled-is c)) (takes_at m) (number_small n.before))))
-    c.match3.branch
+    (subst (λ (q : Panel). Stale q.size m.match.step.changed c.match4.reads l.reads l.readers l.down) (sym (w.1 ∙ t.panel))
+    (stale_step p (legal_after m) (step_sizes (sheet_of_lem n) (tail_at n) (command-of n)) l.inv.2 l.inv.5
+    (subst (λ (q : Panel). Tabled q c.match4.levels c.match4.others c.match4.reads) (w.1 ∙ t.panel) (tabled-is c)) (takes_at m) (number_small n.before))))
+    c.match4.branch
 
-turned-small : (c : tie.At-match3-branch invariant-loop decreases-loop) → c.match3.turned < 2 ^ 64
+turned-small : (c : tie.At-match4-branch invariant-loop decreases-loop) → c.match4.turned < 2 ^ 64
 turned-small c =
     let m = met-again c in
     let n = m.before in
@@ -370,11 +388,11 @@ turned-small c =
     ⊎_elim
     (λ w. rw (
       w.15,
-      changed_turned (sheet-of n) (command-of n) (tail_at n) _ _ _ _ (stepped m) _ _ (sym (same-command m) ∙ w.1.given.1) _ (taken c.before).panel _ _ _ _ _ w.6.result
+      changed_turned (sheet_of_lem n) (command-of n) (tail_at n) _ _ _ _ (stepped m) _ _ (sym (same-command m) ∙ w.1.given.1) _ (taken c.before).panel _ _ _ _ _ w.6.result
           w.6.ensures,
     )
     (turned_lt _ _ (rw w.9 at few)))
-    (λ w. rw (w.7, (takes_at m).changed) (turned_lt _ _ (legal_after m).few)) c.match3.branch
+    (λ w. rw (w.7, (takes_at m).changed) (turned_lt _ _ (legal_after m).few)) c.match4.branch
 
 refresh-requires-2 : tie.Need-refresh-requires-2 invariant-loop decreases-loop
 refresh-requires-2 c κs =
@@ -393,7 +411,7 @@ line-of c = let l = looped c in take ((ended c).line-end.result - l.loop.at) (dr
 abbrev refreshed : tie.After-count-reply invariant-loop decreases-loop → tie.After-refresh2 invariant-loop decreases-loop
 refreshed c = c.before.before
 
-abbrev settled : tie.After-count-reply invariant-loop decreases-loop → tie.At-match3-branch invariant-loop decreases-loop
+abbrev settled : tie.After-count-reply invariant-loop decreases-loop → tie.At-match4-branch invariant-loop decreases-loop
 settled c = (refreshed c).before.before.before.before.before
 
 abbrev met-then : tie.After-count-reply invariant-loop decreases-loop → tie.At-match-branch invariant-loop decreases-loop
@@ -403,13 +421,13 @@ abbrev reply-of : tie.After-count-reply invariant-loop decreases-loop → List �
 reply-of j = let m = met-then j in whole_reply (command-of m.before) j.count_reply.result m.match.rows
 
 counted_is : (c : tie.After-count-reply invariant-loop decreases-loop) → let m = met-then c in let n = m.before in
-    AnswerRest (sheet-of n) (number_of (command-of n)) (command-of n) (tail_at n) m.match.rows m.match.values c.count_reply.result
+    AnswerRest (sheet_of_lem n) (number_of (command-of n)) (command-of n) (tail_at n) m.match.rows m.match.values c.count_reply.result
 counted_is c =
     let j = settled c in
-    let t = j.match3 in
+    let t = j.match4 in
     let m = met-then c in
     let n = m.before in
-    subst (AnswerRest (sheet-of n) (number_of (command-of n)) (command-of n) (tail_at n) m.match.rows m.match.values)
+    subst (AnswerRest (sheet_of_lem n) (number_of (command-of n)) (command-of n) (tail_at n) m.match.rows m.match.values)
     (sym (c.count_reply.ensures
     ∙ ap (counted t.reply) (redrawn_is (legal-is j) (tabled-is j) (refreshed c).refresh2.ensures.1 t.turned (turned-small j) m.match.step.revalued))) (rest_is j)
 
@@ -426,8 +444,8 @@ element-copy-out-rule-after c = number_small (met-then c.before.before).before.b
 rule-after-requires : tie.Need-rule-after-requires invariant-loop decreases-loop
 rule-after-requires c κs = framed_at (met-then (turned c)).before
 
-mul-t117 : tie.Need-overflow-mul-t117 invariant-loop decreases-loop
-mul-t117 c = omega (arith, number_small (met-then (turned c.before)).before.before)
+mul-t125 : tie.Need-overflow-mul-t125 invariant-loop decreases-loop
+mul-t125 c = omega (arith, number_small (met-then (turned c.before)).before.before)
 
 element-set-from-formulas : tie.Need-element-set-from-formulas invariant-loop decreases-loop
 element-set-from-formulas c = number_small (met-then (turned c.before)).before.before
@@ -449,25 +467,25 @@ rule-at c =
     let n = m.before in
     let k = n.before.wide.result in
     ⊎_elim (λ w. w.3 ∙ ap (with_formula (looped n).loop.formulas k) w.2.ensures)
-    (λ w. w.1 ∙ formulas_same (sheet-of n) k (command-of n) (tail_at n) j.count_reply.result _
+    (λ w. w.1 ∙ formulas_same (sheet_of_lem n) k (command-of n) (tail_at n) j.count_reply.result _
     (ap sets_formula (sym (same-command m)) ∙ sym c.before.sets-formula.ensures ∙ w.0.left)) c.if3.branch
 
 rule-is : (c : tie.Joined3 invariant-loop decreases-loop) → c.if3.formulas ≡ ruledBy (ruled c) (number_of (command-of (met-then (ruled c)).before))
 rule-is c = rule-at c ∙ ap (ruledBy (ruled c)) (number_is (met-then (ruled c)).before)
 
 line_does : (c : tie.Joined3 invariant-loop decreases-loop) → let j = ruled c in let m = met-then j in let n = m.before in
-    Did line_answer LegalSheet (sheet-of n) (line-of n) (sheet_of (settled j).match3.q c.if3.formulas m.match.values) (reply-of j)
+    Did line_answer LegalSheet (sheet_of_lem n) (line-of n) (sheet_of (settled j).match4.q c.if3.formulas m.match.values) (reply-of j)
 line_does c =
     let j = ruled c in
     let n = (met-then j).before in
-    did (sheet-of n) (line-of n) _ (tail_at n) (read n).read-line.ensures.bytes _ _ _ _ (counted_is j) _ (panel-is (settled j)) _ (rule-is c) (is-legal n)
+    did (sheet_of_lem n) (line-of n) _ (tail_at n) (read n).read-line.ensures.bytes _ _ _ _ (counted_is j) _ (panel-is (settled j)) _ (rule-is c) (is-legal n)
 
 -- the scan of the line: before a change none was made
 unscanned : (c : tie.At-match-branch invariant-loop decreases-loop) (id level : ℕ) → command-of c.before ≡ Change id level → c.match.worked ≡ (looped c.before).loop.worked
 unscanned c id level e =
-    ⊎_elim (λ w. absurd (removal_no_change (sym w.1.given.1 ∙ e))) (⊎_elim (λ w. w.22) (λ w. w.9)) c.match.branch
+    ⊎_elim (λ w. absurd (drop_no_change (sym w.1.given.1 ∙ e))) (⊎_elim (λ w. w.10) (⊎_elim (λ w. w.23) (λ w. w.10))) c.match.branch
 
-scans : (c : tie.At-match3-branch invariant-loop decreases-loop) → let n = (met-again c).before in c.match3.worked ≡ line_scan (looped n).loop.worked (sheet-of n) (line-of n)
+scans : (c : tie.At-match4-branch invariant-loop decreases-loop) → let n = (met-again c).before in c.match4.worked ≡ line_scan (looped n).loop.worked (sheet_of_lem n) (line-of n)
 scans c =
     let m = met-again c in
     let n = m.before in
@@ -476,15 +494,16 @@ scans c =
     ⊎_elim
     (λ w.
     let is = sym (same-command m) ∙ w.1.given.1 in
-    w.10 ∙ changed_worked (sheet-of n) (command-of n) (tail_at n) _ _ _ _ (stepped m) _ _ is _ (taken c.before).panel _ _ _ _ _ w.6.result w.6.ensures (line-of n) framed
-    ∙ ap (λ (b : ℕ). line_scan b (sheet-of n) (line-of n)) (unscanned m _ _ is))
+    w.10 ∙ changed_worked (sheet_of_lem n) (command-of n) (tail_at n) _ _ _ _ (stepped m) _ _ is _ (taken c.before).panel _ _ _ _ _ w.6.result w.6.ensures (line-of n) framed
+    ∙ ap (λ (b : ℕ). line_scan b (sheet_of_lem n) (line-of n)) (unscanned m _ _ is))
     (λ v.
-    let not-change = other (record { before = c.before; match3 = v.0 }) in
+    let not-change = other (record { before = c.before; match4 = v.0 }) in
     v.2
-    ∙ ⊎_elim (λ w. w.10 ∙ w.8.ensures.1 ∙ removed_scan l.worked (sheet-of n) (line-of n) (command-of n) (tail_at n) framed _ w.1.given.1)
-    (⊎_elim (λ w. w.22 ∙ no_scan l.worked (sheet-of n) (line-of n) (command-of n) (tail_at n) framed w.0.keys2 not-change)
-    (λ w. w.9 ∙ no_scan l.worked (sheet-of n) (line-of n) (command-of n) (tail_at n) framed w.0.keys2 not-change)) m.match.came)
-    c.match3.branch
+    ∙ ⊎_elim (λ w. w.10 ∙ w.8.ensures.1 ∙ dropped_scan l.worked (sheet_of_lem n) (line-of n) (command-of n) (tail_at n) framed _ _ w.1.given.1)
+    (⊎_elim (λ w. w.10 ∙ no_scan l.worked (sheet_of_lem n) (line-of n) (command-of n) (tail_at n) framed w.0.keys2 not-change)
+    (⊎_elim (λ w. w.23 ∙ no_scan l.worked (sheet_of_lem n) (line-of n) (command-of n) (tail_at n) framed w.0.keys2 not-change)
+    (λ w. w.10 ∙ no_scan l.worked (sheet_of_lem n) (line-of n) (command-of n) (tail_at n) framed w.0.keys2 not-change))) m.match.came)
+    c.match4.branch
 
 is-written : (j : tie.After-count-reply invariant-loop decreases-loop) → let m = met-then j in whole_reply m.match.command j.count_reply.result m.match.rows ≡ reply-of j
 is-written j = let m = met-then j in ap (λ (k : Command). whole_reply k j.count_reply.result m.match.rows) (same-command m)
@@ -568,7 +587,9 @@ answer-lines-spec =
     mul-old
     element-copy-out-old
     (λ c. search rules)
-    remove-requires
+    drop-link-requires
+    (λ c. search rules)
+    unpark-requires
     decide-line-requires
     (λ c. search rules)
     setters-requires
@@ -587,7 +608,7 @@ answer-lines-spec =
     mul-rule-after
     element-copy-out-rule-after
     rule-after-requires
-    mul-t117
+    mul-t125
     element-set-from-formulas
     slice-aggregate-put-reply
     put-reply-requires

@@ -127,18 +127,21 @@ returns-6 c =
     (formulas_apart f.formula-of.result (formula_in (k.command3.given.0.1.0 ∷ tail_of s.args.line)) f.formula-of.ensures)) refl)
 
 returns-7 : tie.Need-returns-7
-returns-7 c =
-    let k = c.before.before in
-    let s = k.before.before in
-    let e = k.command4.given.1 in
-    rw (e, c.keep5.ensures) (λ formulas values. refused_step (sheet_of _ formulas values) 0 _ _ _ s.requires.1.1 _ (named-at s e) s.requires.1.2 _)
+returns-7 c = let t = c.before in rw t.enum-told4.given.1 (kept t.before.before _ c.keep5.ensures)
 
 returns-8 : tie.Need-returns-8
 returns-8 c =
+    let k = c.before.before in
+    let s = k.before.before in
+    let e = k.command4.given.1 in
+    rw (e, c.keep6.ensures) (λ formulas values. refused_step (sheet_of _ formulas values) 0 _ _ _ s.requires.1.1 _ (named-at s e) s.requires.1.2 _)
+
+returns-9 : tie.Need-returns-9
+returns-9 c =
     let t = c.before.before in
     let k = t.before in
     let s = k.before in
-    touched_step s.args.p _ _ (tail_of s.args.line) _ _ _ s.args.line.command k.match.keys8 s.requires.1.2
+    touched_step s.args.p _ _ (tail_of s.args.line) _ _ _ s.args.line.command k.match.keys9 s.requires.1.2
     (rw (← t.touched.ensures) (c.touch.ensures _ s.requires.0.2))
 
 pub decide-line-spec : {M : Type 1} → statement M
@@ -167,6 +170,8 @@ decide-line-spec =
     (λ c κs. search rules)
     (λ c. search rules)
     (λ c κs. search rules)
+    (λ c. search rules)
+    (λ c κs. search rules)
     (λ c κs. search rules)
     (λ c κs. search rules)
     returns
@@ -176,4 +181,5 @@ decide-line-spec =
     returns-5
     returns-6
     returns-7
-    returns-8)
+    returns-8
+    returns-9)

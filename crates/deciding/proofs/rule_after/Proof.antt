@@ -35,10 +35,21 @@ formula-of-requires : tie.Need-formula-of-requires
 formula-of-requires c κs = let s = begin c.before.before.before in (s.pre.full, s.pre.short)
 
 covered-by-requires : tie.Need-covered-by-requires
-covered-by-requires c κs = let s = begin c.before.before in (s.pre, s.pre.reaches _ _ (inr c.enum-told4.given.1))
+covered-by-requires c κs = let s = begin c.before.before in (s.pre, s.pre.reaches _ _ (inr c.enum-told3.given.1))
+
+-- a link that is dropped: one that is parked keeps its formula
+dropped : (c : tie.After-known-told) → let k = c.before in let a = (begin k.before.before).args in (b : Bool) → k.command.given.0.1.0 ≡ b
+    → cond b a.old.formula None ≡ formula_after a.line.command (tail_of a.line) a.reply a.covered a.old.formula
+dropped c b e =
+    let k = c.before in
+    let a = (begin k.before.before).args in
+    ap (λ (b : Bool). cond b a.old.formula None) (sym e) ∙ given k.before.before k.command.given.1
 
 returns-2 : tie.Need-returns-2
-returns-2 c = given c.before.before c.enum-told3.given.1
+returns-2 c = dropped c.before true c.if1.true
+
+returns-3 : tie.Need-returns-3
+returns-3 c = dropped c.before false c.if1.false
 
 -- a change, whose link covers the same fields or others
 abbrev changes : tie.After-covered-by → tie.After-enum-told2
@@ -48,19 +59,19 @@ same-fields : (c : tie.After-covered-by) → let a = (begin (changes c)).args in
     → cond b a.old.formula None ≡ formula_after a.line.command (tail_of a.line) a.reply a.covered a.old.formula
 same-fields c b e =
     let a = (begin (changes c)).args in
-    ap (λ (b : Bool). cond b a.old.formula None) (sym e ∙ ap (eqb a.covered) c.covered-by.ensures) ∙ given (changes c) c.before.enum-told4.given.1
-
-returns-3 : tie.Need-returns-3
-returns-3 c = same-fields c.before true (eq-eqb _ _ c.if1.true)
+    ap (λ (b : Bool). cond b a.old.formula None) (sym e ∙ ap (eqb a.covered) c.covered-by.ensures) ∙ given (changes c) c.before.enum-told3.given.1
 
 returns-4 : tie.Need-returns-4
-returns-4 c = same-fields c.before false (ne_eqb _ _ c.if1.false)
+returns-4 c = same-fields c.before true (eq-eqb _ _ c.if2.true)
 
 returns-5 : tie.Need-returns-5
-returns-5 c = let k = c.before.before in formulas_apart _ _ c.formula-of.ensures ∙ given k.before.before k.command.given.1
+returns-5 c = same-fields c.before false (ne_eqb _ _ c.if2.false)
 
 returns-6 : tie.Need-returns-6
-returns-6 c =
+returns-6 c = let k = c.before.before in formulas_apart _ _ c.formula-of.ensures ∙ given k.before.before k.command2.given.1
+
+returns-7 : tie.Need-returns-7
+returns-7 c =
     let k = c.before in
     let a = (begin k).args in
     given_kept a.line.command (tail_of a.line) a.covered a.old.formula (sym (sets_none a.line.command c.match2.keys4)) ∙ accepted k
@@ -81,4 +92,5 @@ rule-after-spec =
     returns-3
     returns-4
     returns-5
-    returns-6)
+    returns-6
+    returns-7)

@@ -1,6 +1,8 @@
 -- `fitness::lacks` meets its contract: by cases on the standing and on whether the link is in use.
+use mathlib.Core.Path.{ap}
 use borrow.Author.Rules.{rules}
-use Rattle.fitness.proofs.Fitting.{waiting_lacks, unused_lacks, holding_lacks}
+use Rattle.panel.specs.Items.{is_waiting}
+use Rattle.fitness.proofs.Fitting.{waiting_lacks, unused_lacks, other_lacks}
 use Rattle.fitness.proofs.lacks.Statement.{statement}
 use Rattle.fitness.proofs.lacks.Tie as tie
 
@@ -11,7 +13,10 @@ returns-2 : tie.Need-returns-2
 returns-2 c = unused_lacks c.before.before.before.args.l c.if1.false
 
 returns-3 : tie.Need-returns-3
-returns-3 c = holding_lacks c.before.before.args.l c.enum-told2.given.0.0 c.enum-told2.given.1
+returns-3 c = other_lacks c.before.before.args.l (ap is_waiting c.enum-told2.given.1)
+
+returns-4 : tie.Need-returns-4
+returns-4 c = other_lacks c.before.before.args.l (ap is_waiting c.enum-told3.given.1)
 
 pub lacks-spec : {M : Type 1} → statement M
-lacks-spec = tie.close (tie.spec (λ c. search rules) (λ c. search rules) returns returns-2 returns-3)
+lacks-spec = tie.close (tie.spec (λ c. search rules) (λ c. search rules) (λ c. search rules) returns returns-2 returns-3 returns-4)

@@ -1,5 +1,5 @@
--- `frames::fits_kind` meets its contract: at each kind the comparison is the definition's, once the kind is put for its number (`fits_at`); a link and
--- a formula have comparisons of their own; no length fits any other kind (`fits_other`). Assumes nothing.
+-- `frames::fits_kind` meets its contract: at each kind the comparison is the definition's, once the kind is put for its number (`fits_at`); a link,
+-- a formula and kind 09 have comparisons of their own; no length fits any other kind (`fits_other`). Assumes nothing.
 use mathlib.Core.Path.{◌∙◌}
 use borrow.Author.Rules.{rules}
 use Rattle.frames.specs.Frames.{fits_kind}
@@ -40,12 +40,17 @@ unfolding fits_kind
 returns-8 c = let a = c.before.before.args in c.fits-formula.ensures ∙ fits_at 0x08 _ a.form a.n c.before.match.keys8
 
 returns-9 : tie.Need-returns-9
-returns-9 c = fits_other _ _ _ c.match.rest
+unfolding fits_kind
+returns-9 c = let a = c.before.before.args in c.fits-switch.ensures ∙ fits_at 0x09 _ a.form a.n c.before.match.keys9
+
+returns-10 : tie.Need-returns-10
+returns-10 c = fits_other _ _ _ c.match.rest
 
 pub fits-kind-spec : {M : Type 1} → statement M
 fits-kind-spec =
     tie.close
     (tie.spec
+    (λ c κs. search rules)
     (λ c κs. search rules)
     (λ c κs. search rules)
     (λ c κs. search rules)
@@ -57,4 +62,5 @@ fits-kind-spec =
     returns-6
     returns-7
     returns-8
-    returns-9)
+    returns-9
+    returns-10)

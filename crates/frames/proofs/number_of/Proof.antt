@@ -18,10 +18,14 @@ returns-6 c = (sym (ap number_of c.before.command3.given.1), omega arith)
 returns-8 : tie.Need-returns-8
 returns-8 c = (sym (ap number_of c.before.command4.given.1), omega arith)
 
+returns-9 : tie.Need-returns-9
+returns-9 c = (sym (ap number_of c.before.command5.given.1), omega arith)
+
 pub number-of-spec : {M : Type 1} → statement M
 number-of-spec =
     tie.close
     (tie.spec
+    (λ c. search rules)
     (λ c. search rules)
     (λ c. search rules)
     (λ c. search rules)
@@ -39,4 +43,5 @@ number-of-spec =
     returns-6
     (λ c. search rules)
     returns-8
+    returns-9
     (λ c. search rules))

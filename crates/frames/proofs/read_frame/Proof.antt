@@ -2,7 +2,7 @@
 -- (`bit6_read`). Else a kind of one or two bytes has its first bytes (`exact_read`), a longer one all of them (`long_read`); another kind would not
 -- have fitted (`fits_other`). Assumes nothing.
 use borrow.Author.Rules.{rules}
-use borrow.Author.Tests.{not-true, not-false}
+use borrow.Author.Tests.{not-true, not-false, eqb-true}
 use mathlib.Core.Path.{◌≡◌, refl, sym, ap, ◌∙◌}
 use mathlib.Core.Bool.{true, false, ◌&&◌}
 use mathlib.Core.Logic.{inl, inr, ⊎_elim}
@@ -14,7 +14,7 @@ use Prim.Native.Nat.{ℕ, ◌≤◌}
 use native.Mathlib.Omega.{arith}
 use Rattle.fieldset.specs.Tables.{at}
 use Rattle.frames.specs.Frames.{fits_kind, has_fields, checked_frame}
-use Rattle.frames.proofs.Reading.{fits_other, fits_short, fits_at, long_link, long_value, long_formula, unfit_read, bit6_read, exact_read, long_read}
+use Rattle.frames.proofs.Reading.{fits_other, fits_short, fits_at, long_link, long_value, long_formula, switch_three, unfit_read, bit6_read, exact_read, long_read}
 use Rattle.frames.proofs.read_frame.Statement.{statement}
 use Rattle.frames.proofs.read_frame.Tie as tie
 
@@ -44,7 +44,7 @@ low c k kind =
 
 -- a kind with one length
 exactly : (c : tie.Joined2) → let s = (begin c).args in
-    (k : ℕ) → at s.frame.now 0 ≡ k → (m : ℕ) → fits_kind k (at s.frame.now 2) s.n ≡ eqb s.n m
+    (k : ℕ) → at s.frame.now 0 ≡ k → (m : ℕ) → (fits_kind k (at s.frame.now 2) s.n ≡ true → s.n ≡ m)
     → take m (k ∷ at s.frame.now 1 ∷ at s.frame.now 2 ∷ drop 3 s.frame.now) ≡ checked_frame (take s.n s.frame.now)
 exactly c k kind m one = let s = begin c in exact_read s.args.frame.now s.args.n s.pre k kind (fits (fitting c.before)) m one (low c k kind)
 
@@ -80,22 +80,22 @@ returns-2 c =
 
 returns-3 : tie.Need-returns-3
 unfolding fits_kind
-returns-3 c = exactly c.before.before 0x01 c.before.match.keys1 2 refl
+returns-3 c = exactly c.before.before 0x01 c.before.match.keys1 2 (eqb-true _ 2)
 
 returns-4 : tie.Need-returns-4
 returns-4 c = let k = c.before.before in further k.before 0x02 k.match.keys2 (long_link 0x02 (inl refl))
 
 returns-5 : tie.Need-returns-5
 unfolding fits_kind
-returns-5 c = exactly c.before.before 0x03 c.before.match.keys3 2 refl
+returns-5 c = exactly c.before.before 0x03 c.before.match.keys3 2 (eqb-true _ 2)
 
 returns-6 : tie.Need-returns-6
 unfolding fits_kind
-returns-6 c = exactly c.before.before 0x04 c.before.match.keys4 2 refl
+returns-6 c = exactly c.before.before 0x04 c.before.match.keys4 2 (eqb-true _ 2)
 
 returns-7 : tie.Need-returns-7
 unfolding fits_kind
-returns-7 c = exactly c.before 0x05 c.match.keys5 1 refl
+returns-7 c = exactly c.before 0x05 c.match.keys5 1 (eqb-true _ 1)
 
 returns-8 : tie.Need-returns-8
 returns-8 c = let k = c.before.before in further k.before 0x06 k.match.keys6 (long_link 0x06 (inr refl))
@@ -106,8 +106,22 @@ returns-9 c = let k = c.before.before in further k.before 0x07 k.match.keys7 lon
 returns-10 : tie.Need-returns-10
 returns-10 c = let k = c.before.before in further k.before 0x08 k.match.keys8 long_formula
 
+-- kind 09 fits
+switched : (c : tie.After-switch-arg2) → let s = (begin c.before.before.before).args in fits_kind 0x09 (at s.frame.now 2) s.n ≡ true
+switched c =
+    let k = c.before.before in
+    fits_at 0x09 _ _ _ k.match.keys9 ∙ fits (fitting k.before.before)
+
+switch-requires : tie.Need-switch-requires
+switch-requires c κs = (switch_three _ _ (switched c)).1
+
 returns-11 : tie.Need-returns-11
 returns-11 c =
+    let k = c.before.before.before in
+    c.switch.ensures _ ∙ exactly k.before 0x09 k.match.keys9 3 (λ e. (switch_three _ _ e).0)
+
+returns-12 : tie.Need-returns-12
+returns-12 c =
     let s = begin c.before in
     unfit_read s.args.frame.now s.args.n s.pre (sym (fits_other _ _ _ c.match.rest))
 
@@ -133,6 +147,9 @@ read-frame-spec =
     (λ c. search rules)
     (λ c. search rules)
     (λ c. search rules)
+    (λ c. search rules)
+    (λ c. search rules)
+    switch-requires
     returns-3
     returns-4
     returns-5
@@ -141,4 +158,5 @@ read-frame-spec =
     returns-8
     returns-9
     returns-10
-    returns-11)
+    returns-11
+    returns-12)

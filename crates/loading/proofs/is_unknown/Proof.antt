@@ -26,10 +26,11 @@ returns-2 c =
 
 returns-3 : tie.Need-returns-3
 returns-3 c =
-    let e = c.before in
+    let t = c.before in
+    let e = t.before in
     let d = e.before.before in
     version_known (begin d).args.text.now (entered d).if1.false d.decode.result d.decode.ensures.0 e.enum-told2.given.0.0
-    e.enum-told2.given.1 _ _ refl d.decode.ensures.1 c.if2.true
+    e.enum-told2.given.1 _ _ refl d.decode.ensures.1 t.if2.true _ c.is-version.ensures
 
 returns-4 : tie.Need-returns-4
 returns-4 c =
@@ -49,6 +50,7 @@ is-unknown-spec =
     (λ c. search rules)
     (λ c. search rules)
     (λ c. search rules)
+    (λ c κs. search rules)
     returns-2
     returns-3
     returns-4)

@@ -3,7 +3,7 @@ use mathlib.Core.Path.{◌≡◌, sym, ◌∙◌}
 use mathlib.Core.Bool.{false}
 use borrow.Author.Rules.{rules}
 use Rattle.frames.specs.Texts.{is_too_long}
-use Rattle.images.specs.Reading.{is_unknown, is_bad}
+use Rattle.images.specs.Reading.{version, is_unknown, is_bad}
 use Rattle.loading.proofs.Loading.{too_long, already_open_lem, unknown, bad, taken_formed, unfit, taken}
 use Rattle.loading.proofs.load.Statement.{statement}
 use Rattle.loading.proofs.load.Tie as tie
@@ -22,13 +22,13 @@ measured c = c.before.before.before
 abbrev unopened : tie.Else3 → tie.Else2
 unopened c = c.before.before
 
-known : (c : tie.Else3) → is_unknown (begin (measured (unopened c))).args.text.now ≡ false
+known : (c : tie.Else3) → is_unknown version (begin (measured (unopened c))).args.text.now ≡ false
 known c = sym c.before.is-unknown.ensures ∙ c.if3.false
 
 abbrev parsed : tie.Else4 → tie.After-read-lines
 parsed c = c.before.before
 
-good : (c : tie.Else4) → is_bad (begin (measured (unopened (parsed c).before))).args.text.now ≡ false
+good : (c : tie.Else4) → is_bad version (begin (measured (unopened (parsed c).before))).args.text.now ≡ false
 good c = sym c.before.is-bad.ensures ∙ c.if4.false
 
 -- ---- the needs

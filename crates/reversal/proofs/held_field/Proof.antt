@@ -16,4 +16,4 @@ returns-2 c = c.only.ensures ∙ ap only c.before.wide.ensures ∙ sym (ap held_
 
 pub held-field-spec : {M : Type 1} → statement M
 held-field-spec =
-    tie.close (tie.spec (λ c. search rules) (λ c. search rules) (λ c κs. search rules) only-requires (λ c. search rules) returns-2)
+    tie.close (tie.spec (λ c. search rules) (λ c. search rules) (λ c κs. search rules) only-requires (λ c. search rules) (λ c. search rules) returns-2 (λ c. search rules))

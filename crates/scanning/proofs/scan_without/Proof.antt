@@ -3,6 +3,8 @@
 use borrow.Author.Rules.{rules}
 use native.Mathlib.Omega.{arith}
 use Rattle.fieldset.specs.Tables.{at}
+use Rattle.panel.specs.Items.{no_link}
+use Rattle.panel.proofs.Changes.{none_aside}
 use Rattle.tables.proofs.Settings.{places}
 use Rattle.scanning.proofs.Dropped.{Held, rest_acyclic, scanned, tabled_dropped}
 use Rattle.scanning.proofs.scan_without.Statement.{statement}
@@ -23,7 +25,7 @@ add-levels : tie.Need-overflow-add-levels
 add-levels c = let s = c.before.before in omega (arith, places _ s.requires.0 s.args.v s.requires.2)
 
 strengths-requires : tie.Need-strengths-requires
-strengths-requires c κs = let s = c.before.before.before.before.before in (rest_acyclic (held s), s.requires.4)
+strengths-requires c κs = let s = c.before.before.before.before.before in (rest_acyclic (held s) no_link (none_aside _), s.requires.4)
 
 find-blocked-requires : tie.Need-find-blocked-requires
 find-blocked-requires c κs = (begin c.before.before).requires.0
@@ -32,7 +34,7 @@ returns : tie.Need-returns
 returns c =
     let t = c.before.before.before in
     let s = begin t in
-    (scanned (held s) _ _ t.strengths.ensures.0 _ t.strengths.ensures.1 _ c.find-blocked.ensures, tabled_dropped (held s))
+    (λ l a. scanned (held s) l a _ _ t.strengths.ensures.0 _ t.strengths.ensures.1 _ c.find-blocked.ensures, λ l a. tabled_dropped (held s) l a)
 
 pub scan-without-spec : {M : Type 1} → statement M
 scan-without-spec =

@@ -9,6 +9,7 @@ use borrow.Author.Rules.{rules}
 use lib.ListN.{length, take}
 use Rattle.fieldset.specs.Tables.{at}
 use Rattle.panel.specs.Items.{item_of}
+use Rattle.panel.proofs.Standings.{no_holding}
 use Rattle.panel.specs.Solution.{reversed}
 use Rattle.taking.proofs.Reversal.{Reversing, Starts, reversing_freed, reversing_all, reversing_next, reversing_ends}
 use Rattle.taking.proofs.reverse.Statement.{statement}
@@ -54,8 +55,8 @@ starts c =
     ⊎_elim
     (λ w. let (_, told, _, field, _, levels-are, others_are, reads_are, panel-is) = w in
     reversing_freed _ _ _ s.requires.1 full s.requires.2 told.given.1 field.ensures levels-are others_are reads_are panel-is)
-    (λ w. let (_, told, levels-are, others_are, reads_are, panel-is) = w in
-    reversing_all _ _ _ s.requires.1 full s.requires.2 told.given.1 levels-are others_are reads_are panel-is)
+    (λ w. let (other, levels-are, others_are, reads_are, panel-is) = w in
+    reversing_all _ _ _ s.requires.1 full s.requires.2 (no_holding _ other.keys2) levels-are others_are reads_are panel-is)
     c.match.branch
 
 -- ---- the needs
@@ -146,7 +147,6 @@ reverse-spec =
     element-write-others
     (λ c. search rules)
     element-write-reads
-    (λ c. search rules)
     loop-holds
     (λ c. search rules)
     (λ c κs. search rules)

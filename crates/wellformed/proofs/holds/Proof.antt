@@ -15,4 +15,6 @@ holds-spec =
     (λ c. search rules)
     (λ c κs. search rules)
     (λ c. search rules)
-    returns-2)
+    (λ c. search rules)
+    returns-2
+    (λ c. search rules))

@@ -27,5 +27,7 @@ is-standing-spec =
     (λ c κs. search rules)
     (λ c κs. search rules)
     (λ c. search rules)
+    (λ c. search rules)
     returns-2
-    returns-3)
+    returns-3
+    (λ c. search rules))

@@ -135,7 +135,7 @@ fn dropped_while_waiting() -> Valued {
 
 /// Link 0 (required) sets field 1, 2 times field 0; link 1 (level 5) waits for it, 3
 /// to 1.
-fn waiting(name: &str) -> Valued {
+pub fn waiting(name: &str) -> Valued {
     Valued::new(name).part(
         &[
             ("0104", "0000"),

@@ -1,6 +1,7 @@
-//! Saved texts, well formed or not, with the reply to their reading.
+//! Saved texts, well formed or not, with the reply to their reading. Where nothing is
+//! parked, texts of version 01 and of version 02 have one reply.
 
-use super::{panels, resumed, text_of};
+use super::{in_version, panels, resumed, text_of};
 use crate::plain::{hex, TEXT_LIMIT};
 
 /// A text, and the reply to its reading into an unopened panel.
@@ -29,6 +30,7 @@ pub fn all() -> Vec<Reading> {
         values(),
         orders(),
         unfit(),
+        parked(),
         lengths(),
         orders_of_refusals(),
     ]
@@ -46,37 +48,74 @@ fn reading(name: &str, text: &[u8], reply: &'static str) -> Reading {
     }
 }
 
-/// Texts with one reply.
+/// Texts with one reply, those of version 01 in version 02 too.
 fn texts(reply: &'static str, texts: &[&str]) -> Vec<Reading> {
-    let reading = |text: &&str| reading(text, text.as_bytes(), reply);
-    texts.iter().map(reading).collect()
+    let both = |text: &&str| in_both_versions(text, text.as_bytes(), reply);
+    texts.iter().flat_map(both).collect()
 }
 
-/// Lines behind a panel of two fields, with one reply.
+/// A text with its reply, one of version 01 in version 02 too.
+fn in_both_versions(name: &str, text: &[u8], reply: &'static str) -> Vec<Reading> {
+    let mut readings = vec![reading(name, text, reply)];
+    if text.starts_with(b"0A01") {
+        let name = name.to_string() + ", in version 02";
+        readings.push(reading(&name, &in_version(b"02", text), reply));
+    }
+    readings
+}
+
+/// The panels of two and of three fields without links.
+const TWO_FIELDS: [&str; 2] = ["0A0102", "0B0001"];
+const THREE_FIELDS: [&str; 2] = ["0A0103", "0B000102"];
+
+/// Lines behind a panel of two fields, in both versions, with one reply.
 fn behind_two_fields(reply: &'static str, cases: &[&[&str]]) -> Vec<Reading> {
-    behind(&["0A0102", "0B0001"], reply, cases)
+    behind(&TWO_FIELDS, reply, cases)
 }
 
 /// The same of three fields.
 fn behind_three_fields(reply: &'static str, cases: &[&[&str]]) -> Vec<Reading> {
-    behind(&["0A0103", "0B000102"], reply, cases)
+    behind(&THREE_FIELDS, reply, cases)
 }
 
-/// Lines behind those of a panel without links, with one reply.
+/// Lines behind those of a panel without links, in both versions, with one reply.
 fn behind(panel: &[&str], reply: &'static str, cases: &[&[&str]]) -> Vec<Reading> {
-    let texts = cases.iter().map(|lines| text_of(&[panel, lines].concat()));
-    let readings = cases.iter().zip(texts);
-    readings
-        .map(|(lines, text)| reading(&format!("{lines:?}"), &text, reply))
-        .collect()
+    let both = |lines: &&[&str]| {
+        let text = text_of(&[panel, lines].concat());
+        in_both_versions(&format!("{lines:?}"), &text, reply)
+    };
+    cases.iter().flat_map(both).collect()
 }
 
-/// Every text that is written is taken back; and others.
+/// Lines behind a panel of two fields, with one reply in version 02; in version 01 each
+/// text is a BadImage.
+fn only_in_version_02(reply: &'static str, cases: &[&[&str]]) -> Vec<Reading> {
+    let mut readings = behind_two_fields(reply, cases);
+    for reading in &mut readings {
+        if reading.text.starts_with(b"0A01") {
+            reading.reply = BAD_IMAGE;
+        }
+    }
+    readings
+}
+
+/// Whether a saved text has a line of a parked link.
+fn has_parked(text: &[u8]) -> bool {
+    let mut lines = text.split(|&byte| byte == b'\n');
+    lines.any(|line| line.starts_with(b"0C") && line[6..8] == *b"FE")
+}
+
+/// Every text that is written is taken back, in version 01 too if nothing is parked; and
+/// others.
 fn taken() -> Vec<Reading> {
-    let mut readings: Vec<Reading> = panels::all()
-        .iter()
-        .map(|panel| reading(panel.name, &panel.saved, TAKEN))
-        .collect();
+    let mut readings = Vec::new();
+    for panel in panels::all() {
+        let old = in_version(b"01", &panel.saved);
+        let of_old = if has_parked(&old) { BAD_IMAGE } else { TAKEN };
+        let old_name = panel.name.to_string() + ", in version 01";
+        readings.push(reading(panel.name, &panel.saved, TAKEN));
+        readings.push(reading(&old_name, &old, of_old));
+    }
     let resumed = resumed::all();
     readings.extend(
         resumed
@@ -132,17 +171,21 @@ fn versions() -> Vec<Reading> {
     let mut readings = texts(
         UNKNOWN_VERSION,
         &[
-            "0A0201\n0B00\n",
+            "0A0301\n0B00\n",
             "0A0001\n0B00\n",
             "0AFF01\n0B00\n",
             "0A1101\n0B00\n",
+            "0A1201\n0B00\n",
+            "0A2001\n0B00\n",
+            "0A8201\n0B00\n",
+            "0AFE01\n0B00\n",
             "0A0A01\n0B00\n",
-            "0A02",
-            "0A02\n",
+            "0A03",
+            "0A03\n",
             "0A0F\n\n",
             "0A10g",
-            "0A02 01\r\n",
-            "0A021",
+            "0A03 01\r\n",
+            "0A031",
         ],
     );
     readings.extend(texts(
@@ -150,20 +193,25 @@ fn versions() -> Vec<Reading> {
         &[
             "0A0",
             "0A0\n",
-            "0A\n02",
-            "0A0\n2",
+            "0A\n03",
+            "0A0\n3",
             "0A0a01\n0B00\n",
             "0A0g01\n0B00\n",
-            "0Ag201\n0B00\n",
-            "0A 201\n0B00\n",
-            "0A2 01\n0B00\n",
-            "0a0201\n0B00\n",
-            "0B0201\n0B00\n",
-            "1A0201\n0B00\n",
-            "000A02\n0B00\n",
-            " 0A0201\n0B00\n",
-            "\n0A0201\n0B00\n",
-            "0A01\n0A02\n",
+            "0Ag301\n0B00\n",
+            "0A 301\n0B00\n",
+            "0A3 01\n0B00\n",
+            "0a0301\n0B00\n",
+            "0B0301\n0B00\n",
+            "1A0301\n0B00\n",
+            "000A03\n0B00\n",
+            " 0A0301\n0B00\n",
+            "\n0A0301\n0B00\n",
+            // A known version, whatever comes behind it.
+            "0A01",
+            "0A01\n0A03\n",
+            "0A01 01\r\n",
+            "0A01g",
+            "0A010",
         ],
     ));
     readings
@@ -230,7 +278,8 @@ fn sizes_and_stays() -> Vec<Reading> {
     for (n, reply) in [(63, TAKEN), (64, TAKEN), (65, BAD_IMAGE), (255, BAD_IMAGE)] {
         let stays: Vec<u8> = (0..n).rev().collect();
         let lines = [hex(&[0x0A, 1, n]), "0B".to_string() + &hex(&stays)];
-        readings.push(reading(&format!("{n} fields"), &text_of(&lines), reply));
+        let (name, text) = (format!("{n} fields"), text_of(&lines));
+        readings.extend(in_both_versions(&name, &text, reply));
     }
     readings
 }
@@ -267,7 +316,8 @@ fn links() -> Vec<Reading> {
             &["0C00050180"],
             &["0C00050081"],
             &["0C00050280"],
-            &["0C0005FE80"],
+            &["0C0005FD80"],
+            &["0C00057E80"],
             &["0C00058080"],
             &["0C0005818081"],
             // Numbers that do not rise.
@@ -382,6 +432,8 @@ fn orders() -> Vec<Reading> {
             &["0600008081"],
             &[link, "070000000001"],
             &["09"],
+            &["090001"],
+            &["0C00050080", "090000"],
             &["0E"],
             &["0F"],
             &["00"],
@@ -415,8 +467,8 @@ fn unfit() -> Vec<Reading> {
             &["0C0000FF80", "0C01050080"],
         ],
     );
-    let blocked_stay = ["0A0102", "0B0100", "0C0000018081"];
-    readings.push(reading("blocked stay", &text_of(&blocked_stay), UNFIT));
+    let blocked_stay: &[&str] = &["0C0000018081"];
+    readings.extend(behind(&["0A0102", "0B0100"], UNFIT, &[blocked_stay]));
     // A loop round three fields.
     readings.extend(behind_three_fields(
         UNFIT,
@@ -425,11 +477,76 @@ fn unfit() -> Vec<Reading> {
     readings
 }
 
+/// Standing FE, which version 01 does not know.
+fn parked() -> Vec<Reading> {
+    let mut readings = only_in_version_02(
+        TAKEN,
+        &[
+            // It would be blocked, or is required.
+            &["0C0005FE80"],
+            &["0C000FFE8081"],
+            &["0C0000FE80"],
+            &["0C7F00FE0081"],
+            // Any number of them for one field, beside one that holds or waits.
+            &["0C0000FE80", "0C0100FE80", "0C0205FE80"],
+            &["0C00000080", "0C0100FE80"],
+            &["0C0000FE80", "0C01000080", "0C0205FF80"],
+            // They would close a loop.
+            &["0C0000FE0081", "0C0100FE8001"],
+            &["0C0000010081", "0C0100FE8001"],
+            // A formula, and values that it contradicts.
+            &["0C0005FE8081", "08000100020001"],
+            &["0C0005FE8081", "08000201", "0D0000000007"],
+        ],
+    );
+    readings.extend(only_in_version_02(
+        UNFIT,
+        &[
+            // Another link waits for a field that its stay sets.
+            &["0C0005FE80", "0C0106FF80"],
+            &["0C0005FE80", "0C0100FF80"],
+            &["0C0005008081", "0C0100FE80"],
+            &["0C0000010081", "0C0100008001", "0C0200FE80"],
+        ],
+    ));
+    readings.extend(behind_two_fields(
+        BAD_IMAGE,
+        &[
+            // What Add would refuse.
+            &["0C8005FE80"],
+            &["0C0010FE80"],
+            &["0C0005FE"],
+            &["0C0005FE00"],
+            &["0C0005FEC0"],
+            &["0C0005FE8180"],
+            &["0C0005FE8080"],
+            &["0C0005FE82"],
+            &["0C0005FE8002"],
+            // Numbers that do not rise.
+            &["0C0105FE80", "0C0005FE80"],
+            &["0C0005FE80", "0C0005FE80"],
+            &["0C0005FE80", "0C00050080"],
+            &["0C00050080", "0C0005FE80"],
+            // What kind 08 would refuse.
+            &["0C0005FE80", "08000200"],
+            &["0C0005FE8081", "08000100000001"],
+            &["0C0005FE8081", "08010200"],
+            // A field held twice beside it.
+            &["0C0005FE80", "0C01050080", "0C02050080"],
+        ],
+    ));
+    let nine_fields = ["0A0109", "0B000102030405060708"];
+    let nine: &[&str] = &["0C0005FE808182838485868788"];
+    readings.extend(behind(&nine_fields, BAD_IMAGE, &[nine]));
+    readings
+}
+
 /// Lines of digits at the limit of a text, and over it.
 fn lengths() -> Vec<Reading> {
     let cases = [
         ("0A0101\n0B00\n", BAD_IMAGE),
-        ("0A0201\n0B00\n", UNKNOWN_VERSION),
+        ("0A0201\n0B00\n", BAD_IMAGE),
+        ("0A0301\n0B00\n", UNKNOWN_VERSION),
         ("", BAD_IMAGE),
     ];
     let mut readings = Vec::new();
@@ -452,7 +569,7 @@ fn orders_of_refusals() -> Vec<Reading> {
     let mut readings = texts(
         TOO_LONG,
         &[
-            &longer("0A0201\n0B00\n"),
+            &longer("0A0301\n0B00\n"),
             &longer("0A0101\n0B00\n"),
             &longer("0A0101\n0B00\n0C0005FF80\n"),
         ],
@@ -462,7 +579,7 @@ fn orders_of_refusals() -> Vec<Reading> {
     }
     readings.extend(texts(
         UNKNOWN_VERSION,
-        &["0A0200\nzz", "0A0201\n0B00\n0C0005FF80\n", "0A0241\n\n"],
+        &["0A0300\nzz", "0A0301\n0B00\n0C0005FE80\n", "0A0341\n\n"],
     ));
     readings.extend(behind_two_fields(
         BAD_IMAGE,
