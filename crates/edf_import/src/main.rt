@@ -5,35 +5,35 @@ ghost use Rattle.std.specs.Prelude.{◌≡◌, ◌≤◌, length, take};
 ghost use Rattle.edf.specs.Header.{header_length};
 ghost use Rattle.importing.specs.Imports.{import_output};
 
-use libc::STDOUT_FILENO;
+use std::io::Write;
 
 // Passes on the output for a file, whole; the answer is how many bytes it has.
-fn send(file: &[u8], output: &[u8]) -> usize
+fn send<W: Write>(writer: &mut W, file: &[u8], output: &[u8]) -> usize
     requires { output.now ≡ import_output file.now }
     ensures { result ≡ length output.now }
 {
-    io::write_all(STDOUT_FILENO, output);
+    let _written = writer.write_all(output);
     output.len()
 }
 
 // Passes on the output for the first `len` bytes of a buffer, in which the longest header has room: what a longer file has behind them plays no part.
 // The contract rules out, for instance, a part of the output and room for one byte too few (must-fail: first_line_only, buffer_one_byte_short).
-fn answer(buffer: &[u8], len: usize) -> usize
+fn answer<W: Write>(writer: &mut W, buffer: &[u8], len: usize) -> usize
     requires { (len ≤ length buffer.now) × (header_length 254 ≤ length buffer.now) }
     ensures { result ≡ length (import_output (take len buffer.now)) }
 {
     let file = &buffer[..len];
     let mut out = [0u8; importing::LONGEST];
     let n = importing::import(file, &mut out);
-    send(file, &out[..n])
+    send(writer, file, &out[..n])
 }
 
 // Where a read fails nothing is written.
-fn main() {
-    let mut buffer = io::large_buffer();
-    let input = input::read_input(&mut buffer);
+fn main(rt: HostRuntime) {
+    let mut buffer = [0u8; 65536];
+    let input = input::read_input(&mut rt.stdin(), &mut buffer);
     if !input.whole {
         return;
     }
-    answer(&buffer, input.len);
+    answer(&mut rt.stdout(), &buffer, input.len);
 }

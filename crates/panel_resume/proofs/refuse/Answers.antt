@@ -8,7 +8,7 @@ use Rattle.sessions.proofs.Resuming.{refused_resumed}
 use Rattle.panel_resume.proofs.refuse.Goals as goal
 
 pub returns : goal.returns
-returns c =
+returns g c =
     let is = c.requires.0 in
     λ text.
     c.tell.ensures

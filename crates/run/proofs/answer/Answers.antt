@@ -6,5 +6,5 @@ use Rattle.frames.specs.Frames.{line_answer}
 use Rattle.run.proofs.answer.Goals as goal
 
 pub returns : goal.returns
-returns c =
+returns g c =
     λ w. c.answer_from.ensures w ∙ ap (λ s. length (output_of line_answer s c.args.text.now)) c.unopened.ensures.0
