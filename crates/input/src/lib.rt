@@ -68,7 +68,8 @@ fn has_argument<R: Env>(rt: &R, number: usize) -> bool {
     !matches!(rt.arg(number, &mut nothing), Err(FillError::NotPresent))
 }
 
-// Reads the file that the program's argument names. Without an argument, with more than one, or where the file cannot be opened, nothing is read.
+// Reads the file that the program's argument names. Without an argument, with more than one, or where the file cannot be opened, nothing is read; std opens
+// files by text, so one whose name is no UTF-8 cannot be.
 pub fn read_named<R: Env + Files>(rt: &R, buffer: &mut [u8]) -> Input
     ensures { (length buffer.new ≡ length buffer.old) × (result.len ≤ length buffer.old) }
 {
