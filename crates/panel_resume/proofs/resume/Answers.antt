@@ -22,9 +22,11 @@ same-reply g c = sym (ap (λ (a : Answer). is_refusal a.reply) (is_read g c))
 pub refuse-requires : goal.refuse-requires
 refuse-requires g c =
     let at = (goal.at.refuse-requires g c).After-load-r in
-    (is_read g at, same-reply g at ∙ sym c.is_refusal.ensures ∙ c.if-is_refusal.true)
+    let same = same-reply g at in
+    (is_read g at, (cc))
 
 pub answer-requires : goal.answer-requires
 answer-requires g c =
     let at = (goal.at.answer-requires g c).After-load-r in
-    (is_read g at, same-reply g at ∙ sym c.is_refusal.ensures ∙ c.if-is_refusal.false)
+    let same = same-reply g at in
+    (is_read g at, (cc))
