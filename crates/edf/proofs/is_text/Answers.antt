@@ -2,10 +2,6 @@ use mathlib.Core.Path.{refl, sym, ◌∙◌}
 use Rattle.edf.proofs.Texts.{text_on, text_other, text_short, text_end}
 use Rattle.edf.proofs.is_text.Goals as goal
 
--- ---- the place: a round of the loop, with both characters there
-
--- ---- the needs
-
 pub loop-i-init : goal.loop-i-init
 loop-i-init c = refl
 

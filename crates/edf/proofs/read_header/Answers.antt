@@ -42,7 +42,7 @@ clear c =
       flows = flows-are _ _ _ h.1 c.read_units-units.ensures.flows_value;
     }
 
--- ---- the needs
+-- ---- the goals
 
 pub read_units-units-requires : goal.read_units-units-requires
 read_units-units-requires c =

@@ -27,7 +27,7 @@ digits-ended l =
       | else-loop-i-test w ↦ ended_all d w.loop-i-test.false
     ]
 
--- ---- the needs
+-- ---- the goals
 
 pub overflow_mul-n : goal.overflow_mul-n
 overflow_mul-n c = omega (arith, small (goal.at.overflow_mul-n c).At-loop-i)

@@ -8,8 +8,6 @@ pub returns-then-is_either : goal.returns-then-is_either
 unfolding characters
 returns-then-is_either c = unit_flow _ (sym c.is_either.ensures ∙ c.if-is_either.true)
 
--- ---- the place: the letters in lower case, of a unit that is no flow
-
 pub returns-then-is_either-2 : goal.returns-then-is_either-2
 unfolding characters
 returns-then-is_either-2 c =
@@ -19,5 +17,3 @@ pub returns-else-is_either-2 : goal.returns-else-is_either-2
 unfolding characters
 returns-else-is_either-2 c =
     unit_other _ _ c.lowered-low.ensures (sym c.is_either.ensures ∙ c.if-is_either.false) (sym c.is_either-2.ensures ∙ c.if-is_either-2.false)
-
--- TODO 11 answers given for 7 goals

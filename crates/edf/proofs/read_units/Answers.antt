@@ -21,7 +21,7 @@ module _ (file : List ℕ) (n j : ℕ) (h : 256 + n * 96 + j * 8 + 8 ≤ length 
   width : length (take (at + 8 - at) (drop at file)) ≡ 8
   width = omega (arith, length-take (at + 8 - at) (drop at file), length-drop at file)
 
--- ---- the needs
+-- ---- the goals
 
 pub read_unit-u-requires : goal.read_unit-u-requires
 read_unit-u-requires c = width c.args.file.now c.args.n c.loop-j.j (omega arith)

@@ -24,7 +24,7 @@ length-is c =
     let f = c.args.file.now in
     c.is_number.ensures ∙ ap (λ (n : ℕ). is_plain (length_text f) && eqb (number_of (length_text f)) (256 * (n + 1))) (plain_read _ _ c.in-Plain.ensures).1
 
--- ---- the needs
+-- ---- the goals
 
 pub returns-then-file-lt-BLOCK : goal.returns-then-file-lt-BLOCK
 returns-then-file-lt-BLOCK c = no_block _ c.if-file-lt-BLOCK.true

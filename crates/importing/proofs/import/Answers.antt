@@ -27,7 +27,7 @@ flows c = given_flows _ _ _ c.in-Flows.ensures
 flows-are : (file : List ℕ) (k : ℕ) → (refusal_for file ≡ none) × (k ≡ flows_of file) → written (frames_for k) ≡ import_output file
 flows-are file k f = ap (λ (k : ℕ). written (frames_for k)) f.1 ∙ sym (flows_output file f.0)
 
--- ---- the needs
+-- ---- the goals
 
 pub put_flows-requires : goal.put_flows-requires
 put_flows-requires c = let f = flows (goal.at.put_flows-requires c).In-Flows in omega (arith, f.1, (flow_count _ f.0).1)
