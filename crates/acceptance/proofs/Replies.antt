@@ -33,7 +33,7 @@ use Rattle.optimality.proofs.Graphs.{setters_of, legal_whole, strength_least}
 use Rattle.optimality.proofs.Held.{plan_whole}
 use Rattle.optimality.proofs.Answers.{Outcome, OfChecks, opening_outcome, adding_outcome, changing_outcome, removing_outcome, touching_outcome, planning_outcome}
 use Rattle.values.specs.Words.{value_of}
-use Rattle.formulas.specs.declared.Formula.{Formula}
+use Rattle.formulas.specs.Formulas.{Rule}
 use Rattle.sheet.specs.declared.Sheet.{Sheet}
 use Rattle.exactness.specs.Beginnings.{start_of}
 use Rattle.exactness.proofs.Beginnings.{begun_legal}
@@ -200,7 +200,7 @@ module _ (p : Panel) (h : Legal p) where
 value_reply : (r : ℕ) → 13 ≤ r → r ≤ 14 → IsReply 0x07 (0xFF ∷ r ∷ [])
 value_reply r a b = record { form = Form.no_value r refl a b; bytes = (omega arith, (omega arith, tt)) }
 
-formula_reply : (p : Panel) (id : ℕ) (formula : Formula) → IsReply 0x08 (check_reply (formula_checks p id formula))
+formula_reply : (p : Panel) (id : ℕ) (formula : Rule) → IsReply 0x08 (check_reply (formula_checks p id formula))
 formula_reply p id formula =
     checks_reply (IsReply 0x08) (formula_checks p id formula) (
       refused_reply 0x08 4 (omega arith) (omega arith),

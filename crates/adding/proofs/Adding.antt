@@ -21,8 +21,9 @@ use Rattle.panel.specs.declared.Link.{Link}
 use Rattle.panel.specs.declared.Panel.{Panel}
 use Rattle.panel.specs.declared.Refusal.{Refusal}
 use Rattle.panel.specs.declared.Refusal.TheVariants.{LinkTaken, Conflict, Loop}
-use Rattle.panel.specs.declared.Reply.{Reply}
-use Rattle.panel.specs.declared.Reply.TheVariants.{Accepted, Refused}
+use Rattle.panel.specs.Answers.{Reply}
+use Rattle.std.specs.Prelude.{Option, Ok, Err}
+use Rattle.std.specs.Bool.{then_some}
 use Rattle.panel.specs.declared.Step.{Step}
 use Rattle.panel.specs.Items.{link, link_at, outputs_of, is_in_force, in_force, is_waiting, waits}
 use Rattle.panel.specs.Answers.{Answer, refused, reply_bytes}
@@ -46,7 +47,7 @@ use Rattle.reversal.specs.declared.Verdict.TheVariants.{Free, Looped, Path}
 use Rattle.reversal.specs.Reversals.{Unresolved, Resolved, step_of}
 use Rattle.reversal.proofs.Decision.{unresolved}
 use Rattle.reversal.proofs.Steps.{Change, resolved_free, resolved_loop, resolved_step}
-use Rattle.adding.specs.Checks.{is_bad_link, check_link, verdict_reply}
+use Rattle.adding.specs.Checks.{is_bad_link, number_check, check_link, verdict_reply}
 
 -- a command that enters a well-formed link under a number of which no link is in force, and that passes its checks
 pub record Entering (p : Panel) (id level covered outputs : ℕ) (cmd : Command) : Type 0 where
@@ -58,13 +59,20 @@ pub record Entering (p : Panel) (id level covered outputs : ℕ) (cmd : Command)
 
 -- ---- replies
 
-replies_differ : {x : Refusal} {m : ℕ} → Refused x ≡ Accepted m → ⊥
+replies_differ : {x : Refusal} {m : ℕ} → ◌≡◌ {A = Reply} (Err x) (Ok m) → ⊥
 replies_differ e = let z : ◌≡◌ {A = ℕ} 0 1 = cc in omega arith
 
-same_refusal : {x y : Refusal} → Refused x ≡ Refused y → x ≡ y
+same_refusal : {x y : Refusal} → ◌≡◌ {A = Reply} (Err x) (Err y) → x ≡ y
 same_refusal e = cc
 
 -- ---- the checks
+
+-- the check of a number, told by the refusal where it applies
+pub number_told : (n id level₁ c o : ℕ) (r a : Bool) (x : Refusal) (number : Option Refusal) → number ≡ then_some a x
+    → check_reply (check_link n id level₁ c o r (number_check number)) ≡ check_reply (check_link n id level₁ c o r (check a x))
+unfolding check_reply
+number_told n id level₁ c o r true x number e = rw e refl
+number_told n id level₁ c o r false x number e = rw e refl
 
 -- a number below 128
 number_small : (id level₁ c o : ℕ) (r : Bool) → is_bad_link id level₁ c o r ≡ false → id < 128
@@ -104,9 +112,13 @@ module _ (p : Panel) (id level₁ : ℕ) (bytes : List ℕ) (c o : ℕ) (r : Boo
       }
 
   module _ (old : Link) (same : old ≡ link_at p.links (id % 128)) (reply : Reply)
-      (checks : reply_bytes reply ≡ check_reply (check_link p.size id level₁ c o r (check old.used LinkTaken))) where
+      (number : Option Refusal) (is : number ≡ then_some old.used LinkTaken)
+      (told : reply_bytes reply ≡ check_reply (check_link p.size id level₁ c o r (number_check number))) where
     abbrev own : List Check
     own = check_link p.size id level₁ c o r (check old.used LinkTaken)
+
+    checks : reply_bytes reply ≡ check_reply own
+    checks = told ∙ number_told p.size id level₁ c o r old.used LinkTaken number is
 
     agree : Agree own (add_checks p id level₁ bytes)
     agree = link_agree old.used (link_at p.links id).used LinkTaken (λ l. ap (λ (x : Link). x.used) (named_link p.links id old same l))
@@ -114,10 +126,10 @@ module _ (p : Panel) (id level₁ : ℕ) (bytes : List ℕ) (c o : ℕ) (r : Boo
     abbrev step : Answer
     step = add_step p id level₁ (covered_in bytes) (outputs_in bytes)
 
-    pub add_refused : (x : Refusal) → reply ≡ Refused x → refused p x ≡ performed p (adding id level₁ bytes)
+    pub add_refused : (x : Refusal) → reply ≡ Err x → refused p x ≡ performed p (adding id level₁ bytes)
     add_refused = reply_refused p own (add_checks p id level₁ bytes) step agree reply checks
 
-    pub add_passes : Legal p → (m : ℕ) → reply ≡ Accepted m → (id % 128 ≡ id) × Entering p (id % 128) level₁ c o (adding id level₁ bytes)
+    pub add_passes : Legal p → (m : ℕ) → reply ≡ Ok m → (id % 128 ≡ id) × Entering p (id % 128) level₁ c o (adding id level₁ bytes)
     add_passes h m e =
         let x = passed_entering h (reply_accepted p own (add_checks p id level₁ bytes) step agree reply checks m e).1 in
         let n : id % 128 ≡ id = mod-eq_of_lt x.number in (n, rw n x)
@@ -203,17 +215,17 @@ module _ {p : Panel} {id level₁ covered outputs : ℕ} {cmd : Command} (x : En
           (new_tabled tab) new_waits level₁ outputs covered new_level new_outputs new_covered e in
           sym (x.step ∙ rw (free, eq-eqb level₁ 0 z, enter_step) refl)
 
-      pub entry_refused : (t : Verdict) → Resolves t → (x : Refusal) → verdict_reply t level₁ ≡ Refused x → (refused p x ≡ performed p cmd) × (length path ≡ 64)
+      pub entry_refused : (t : Verdict) → Resolves t → (x : Refusal) → verdict_reply t level₁ ≡ Err x → (refused p x ≡ performed p cmd) × (length path ≡ 64)
       entry_refused Free e x is = (free (eqb level₁ 0) refl is, e.1)
         where
-          free : (b : Bool) → eqb level₁ 0 ≡ b → cond b (Refused Conflict) (Accepted 0) ≡ Refused x → refused p x ≡ performed p cmd
+          free : (b : Bool) → eqb level₁ 0 ≡ b → cond {A = Reply} b (Err Conflict) (Ok 0) ≡ Err x → refused p x ≡ performed p cmd
           free true z is = rw (← same_refusal is) (conflicts (eqb-true level₁ 0 z) e)
           free false z is = absurd (replies_differ (sym is))
       entry_refused Looped e x is = (rw (← same_refusal is) (loops e), e.1.1.fields.full)
       entry_refused (Path count m) e x is = absurd (replies_differ (sym is))
 
       -- the step, whose parts are the code's
-      pub entry_done : (t : Verdict) → Resolves t → (m : ℕ) → verdict_reply t level₁ ≡ Accepted m → (l : Link) (k : ℕ) (s : Step) → l ≡ new → id ≡ k
+      pub entry_done : (t : Verdict) → Resolves t → (m : ℕ) → verdict_reply t level₁ ≡ Ok m → (l : Link) (k : ℕ) (s : Step) → l ≡ new → id ≡ k
           → s ≡ step_of t p.size p.place l Waiting k → Decides p id cmd path s
       unfolding enter_step
       entry_done t e m is l k s el ek es =
@@ -224,7 +236,7 @@ module _ {p : Panel} {id level₁ covered outputs : ℕ} {cmd : Command} (x : En
           (λ f b. x.step ∙ rw (b, ne_eqb level₁ 0 (weak f), enter_step) refl) reverses)
         where
           no_loop : t ≢ Looped
-          no_loop d = replies_differ (subst (λ (t : Verdict). verdict_reply t level₁ ≡ Accepted m) d is)
+          no_loop d = replies_differ (subst (λ (t : Verdict). verdict_reply t level₁ ≡ Ok m) d is)
 
           weak : t ≡ Free → level₁ ≢ 0
-          weak d z = replies_differ (rw (eq-eqb level₁ 0 z) at (subst (λ (t : Verdict). verdict_reply t level₁ ≡ Accepted m) d is))
+          weak d z = replies_differ (rw (eq-eqb level₁ 0 z) at (subst (λ (t : Verdict). verdict_reply t level₁ ≡ Ok m) d is))

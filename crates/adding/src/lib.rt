@@ -1,72 +1,50 @@
 // Adding a link.
 #![tactic(auto)]
 
-ghost use Rattle.std.specs.Prelude.{◌≡◌, ◌≤◌, ◌%◌, length};
+ghost use Rattle.std.specs.Prelude.{◌≡◌, ◌≤◌, ◌%◌};
 ghost use Rattle.panel.specs.Items.{link_at};
 ghost use Rattle.panel.specs.Panels.{waiting_link};
 ghost use Rattle.panel.specs.Answers.{reply_bytes};
-ghost use Rattle.panel.specs.Commands.{check_reply, check, adding};
+ghost use Rattle.panel.specs.Commands.{check_reply, adding};
 ghost use Rattle.panel.specs.Legal.{Legal};
 ghost use Rattle.panel.specs.Outcomes.{Decides};
-ghost use Rattle.tables.specs.Tables.{Tabled};
-ghost use Rattle.adding.specs.Checks.{is_bad_link, check_link, verdict_reply};
+ghost use Rattle.tables.specs.Tables.{TablesOf};
+ghost use Rattle.adding.specs.Checks.{is_bad_link, number_check, check_link, verdict_reply};
 
 use fieldbytes::{Fields, read_fields};
 use fieldset::{below, size, within};
 use panel::{LAST_LINK, Link, Panel, Refusal, Reply, Standing, Step, unchanged};
 use reversal::{Verdict, resolve, step_of};
+use tables::Tables;
 
 // Whether these numbers and fields are no link's: an id over 127, a level over 15, fields that do not rise, not 1 to 8 fields by count
 // of ones, no output.
 fn is_bad_link(id: u8, level: u8, covered: u64, outputs: u64, rising: bool) -> bool
     ensures { result ≡ is_bad_link id level covered outputs rising }
 {
-    if LAST_LINK < id {
-        return true;
-    }
-    if 15 < level {
-        return true;
-    }
-    if !rising {
-        return true;
-    }
     let k = size(covered);
-    if k == 0 {
-        return true;
-    }
-    if 8 < k {
-        return true;
-    }
-    outputs == 0
+    LAST_LINK < id || 15 < level || !rising || k == 0 || 8 < k || outputs == 0
 }
 
 // The reply of the checks of a link that is added or changed: the refusal of the first that applies, else acceptance. The last one, about the link's
-// number, is told: whether it applies, and its refusal.
-pub fn check_link(
-    n: usize,
-    id: u8,
-    level: u8,
-    fields: Fields,
-    wrong: bool,
-    refusal: Refusal,
-) -> Reply
+// number, is told by its refusal, where it applies.
+pub fn check_link(n: usize, id: u8, level: u8, fields: Fields, number: Option<Refusal>) -> Reply
     requires { n ≤ 64 }
-    ensures { reply_bytes result ≡ check_reply (check_link n id level fields.covered fields.outputs fields.rising (check wrong refusal)) }
+    ensures { reply_bytes result ≡ check_reply (check_link n id level fields.covered fields.outputs fields.rising (number_check number)) }
 {
     if n == 0 {
-        return Reply::Refused(Refusal::NotOpen);
+        return Err(Refusal::NotOpen);
     }
-    let covered = fields.covered;
-    if is_bad_link(id, level, covered, fields.outputs, fields.rising) {
-        return Reply::Refused(Refusal::BadLink);
+    if is_bad_link(id, level, fields.covered, fields.outputs, fields.rising) {
+        return Err(Refusal::BadLink);
     }
-    if !within(covered, below(n)) {
-        return Reply::Refused(Refusal::NoSuchField);
+    if !within(fields.covered, below(n)) {
+        return Err(Refusal::NoSuchField);
     }
-    if wrong {
-        return Reply::Refused(refusal);
+    if let Some(refusal) = number {
+        return Err(refusal);
     }
-    Reply::Accepted(0)
+    Ok(0)
 }
 
 // The reply where a link of this level is entered, by the verdict on it: a loop refuses it, and a required link that is not blocked meets Conflict.
@@ -74,15 +52,15 @@ pub fn check_verdict(verdict: Verdict, level: u8) -> Reply
     ensures { result ≡ verdict_reply verdict level }
 {
     match verdict {
-        Verdict::Looped => Reply::Refused(Refusal::Loop),
+        Verdict::Looped => Err(Refusal::Loop),
         Verdict::Free => {
             if level == 0 {
-                Reply::Refused(Refusal::Conflict)
+                Err(Refusal::Conflict)
             } else {
-                Reply::Accepted(0)
+                Ok(0)
             }
         }
-        Verdict::Path(_, _) => Reply::Accepted(0),
+        Verdict::Path(_, _) => Ok(0),
     }
 }
 
@@ -93,7 +71,7 @@ pub fn waiting_link(level: u8, fields: Fields) -> Link
     Link {
         covered: fields.covered,
         outputs: fields.outputs,
-        level: level,
+        level,
         used: true,
         standing: Standing::Waiting,
     }
@@ -103,30 +81,28 @@ pub fn waiting_link(level: u8, fields: Fields) -> Link
 // The contract rules out, for instance, a link that a field blocks which it only reads and setters that never change (must-fail:
 // blocked_by_a_read_field, setters_never_change).
 pub fn add(
-    p: Panel,
+    p: &Panel,
     old: Link,
-    levels: &[u8; 64],
-    others: &[u64; 64],
-    reads: &[u64; 64],
+    tables: &Tables,
     id: u8,
     level: u8,
     bytes: &[u8],
     path: &mut [u8; 64],
 ) -> Step
-    requires { Legal p × Tabled p levels.now others.now reads.now × (old ≡ link_at p.links (id % 128)) × (length path.old ≡ 64) }
-    ensures { Decides p (id % 128) (adding id level bytes.now) path.new result }
+    requires { Legal p.now × TablesOf p.now tables.now × (old ≡ link_at p.now.links (id % 128)) }
+    ensures { Decides p.now (id % 128) (adding id level bytes.now) path.new result }
 {
     let n = p.size;
-    let place = p.place;
     let fields = read_fields(bytes);
-    let reply = check_link(n, id, level, fields, old.used, Refusal::LinkTaken);
-    if let Reply::Refused(_) = reply {
-        return unchanged(n, &place, old, reply);
+    let taken = old.used.then_some(Refusal::LinkTaken);
+    let reply = check_link(n, id, level, fields, taken);
+    if reply.is_err() {
+        return unchanged(n, &p.place, old, reply);
     }
     let verdict = resolve(
-        levels,
-        others,
-        reads,
+        &tables.levels,
+        &tables.others,
+        &tables.reads,
         n,
         level,
         fields.outputs,
@@ -134,13 +110,13 @@ pub fn add(
         path,
     );
     let reply = check_verdict(verdict, level);
-    if let Reply::Refused(_) = reply {
-        return unchanged(n, &place, old, reply);
+    if reply.is_err() {
+        return unchanged(n, &p.place, old, reply);
     }
     step_of(
         verdict,
         n,
-        &place,
+        &p.place,
         waiting_link(level, fields),
         Standing::Waiting,
         id,

@@ -13,8 +13,9 @@ use lib.ListN.{length}
 use lib.IntN.{ℤ}
 use Rattle.panel.specs.declared.Link.{Link}
 use Rattle.panel.specs.declared.Panel.{Panel}
-use Rattle.panel.specs.declared.Reply.{Reply}
-use Rattle.panel.specs.declared.Reply.TheVariants.{Accepted}
+use Rattle.panel.specs.Answers.{Reply}
+use Rattle.std.specs.Prelude.{Result, Ok, None}
+use Rattle.panel.specs.declared.Refusal.{Refusal}
 use Rattle.panel.specs.declared.Step.{Step}
 use Rattle.panel.specs.Items.{link_at}
 use Rattle.panel.specs.Answers.{is_refusal, reply_bytes, rows_length}
@@ -25,12 +26,11 @@ use Rattle.panel.specs.Commands.{opening, adding, removing, touching, planning, 
 use Rattle.panel.proofs.Checks.{changeable}
 use Rattle.panel.proofs.Performed.{removed_number, changed_passes, legal_performed}
 use Rattle.panel.proofs.Outcomes.{takes_size}
-use Rattle.tables.specs.Tables.{Tabled}
+use Rattle.tables.specs.declared.Tables.{Tables}
+use Rattle.tables.specs.Tables.{TablesOf, Tabled}
 use Rattle.redrawing.proofs.Redrawing.{Sizes}
 use Rattle.values.specs.Words.{value_of}
-use Rattle.formulas.specs.declared.Formula.{Formula}
-use Rattle.formulas.specs.declared.Formula.TheVariants.{None}
-use Rattle.formulas.specs.declared.Formulas.{Formulas}
+use Rattle.formulas.specs.Formulas.{Rule}
 use Rattle.sheet.specs.declared.Sheet.{Sheet}
 use Rattle.sheet.specs.Sheets.{sheet_of, formula_at, with_formula}
 use Rattle.sheet.specs.Commands.{solving, entering, relating}
@@ -46,8 +46,7 @@ use Rattle.replies.proofs.Replies.{reply_short}
 use Rattle.deciding.specs.Lines.{formula_after, sets_formula, AnswerRest, DecidedLine, ChangedLine}
 use Rattle.deciding.proofs.Arms.{OneOf, not_among, formula_kept, given_kept, solved_replied, solved_step}
 use Rattle.removing.specs.Scans.{scan_count}
-use Rattle.changing.specs.declared.Changed.{Changed}
-use Rattle.changing.specs.Changed.{change_count, Changes}
+use Rattle.changing.specs.Changed.{change_count, moved_by, reply_by, Changes}
 use Rattle.frames.specs.contracts.Command.{the_type}
 use denote.Enum.Declared.{tag_of}
 use Rattle.answering.specs.Scans.{command_scan, line_scan}
@@ -184,7 +183,7 @@ step_sizes s tail (Refused x) = answer_sizes s (Refused x) tail
 -- of a line that is no removal and enters no value
 pub decided_stepped : (p : Panel) (k : ℕ) (named : Link) (tail path rows : List ℕ) (step : Step) (c : Command)
     → OneOf (0 ∷ 1 ∷ 3 ∷ 4 ∷ 5 ∷ 6 ∷ 7 ∷ 8 ∷ []) (tag_of the_type c) → OneOf (0 ∷ 1 ∷ 2 ∷ 3 ∷ 4 ∷ 5 ∷ 7 ∷ 8 ∷ []) (tag_of the_type c)
-    → named ≡ link_at p.links k → DecidedLine p k named tail path rows step c → (formulas : Formulas) (values : List ℤ)
+    → named ≡ link_at p.links k → DecidedLine p k named tail path rows step c → (formulas : List Rule) (values : List ℤ)
     → Stepped (sheet_of p formulas values) k c tail path rows values step
 decided_stepped p k named tail path rows step (Open n) h g same d formulas values =
     let l = d formulas values in record { takes = l.takes; rest = l.replied; rows_full = l.rows_full }
@@ -197,7 +196,7 @@ decided_stepped p k named tail path rows step Plan h g same d formulas values =
     let l = d formulas values in record { takes = l.takes; rest = l.replied; rows_full = l.rows_full }
 decided_stepped p k named tail path rows step (Change id level) h g same d formulas values =
     record {
-      takes = rw d.is (takes_size p k named (Accepted 0) same path d.path_full p.size p refl);
+      takes = rw d.is (takes_size p k named (Ok 0) same path d.path_full p.size p refl);
       rest = (refl, ap (λ (s : Step). s.revalued) d.is);
       rows_full = d.rows_full;
     }
@@ -275,30 +274,30 @@ changed_replied s id level fields rows r told =
 
 -- what was carried out on the panel that the step leaves is the rest of the answer, with its scan
 module _ (s : Sheet) (c : Command) (tail path rows : List ℕ) (values : List ℤ) (step : Step) (d : Stepped s (number_of c) c tail path rows values step)
-    (id level : ℕ) (is : c ≡ Change id level) (p : Panel) (same : p ≡ step_panel s tail c) (levels others reads : List ℕ) (before worked : ℕ) (r : Changed)
-    (done : ChangedLine p tail levels others reads before worked r c) where
-  changes : Changes s.panel id level tail levels others reads before worked r
+    (id level : ℕ) (is : c ≡ Change id level) (p : Panel) (same : p ≡ step_panel s tail c) (tables : Tables) (before worked : ℕ) (q : Panel) (r : Result ℕ Refusal)
+    (done : ChangedLine p tail tables before worked q r c) where
+  changes : Changes s.panel id level tail tables before worked q r
   changes =
-      subst (λ (p : Panel). Changes p id level tail levels others reads before worked r) (same ∙ ap (step_panel s tail) is)
-      (subst (ChangedLine p tail levels others reads before worked r) is done)
+      subst (λ (p : Panel). Changes p id level tail tables before worked q r) (same ∙ ap (step_panel s tail) is)
+      (subst (ChangedLine p tail tables before worked q r) is done)
 
-  pub changed_panel : r.panel ≡ (command_answer s c tail).state.panel
+  pub changed_panel : q ≡ (command_answer s c tail).state.panel
   changed_panel = changes.panel ∙ ap (λ (c : Command). (command_answer s c tail).state.panel) (sym is)
 
-  pub changed_turned : r.changed ≡ turned s.panel r.panel
+  pub changed_turned : moved_by r ≡ turned s.panel q
   changed_turned = changes.changed
 
-  pub changed_tabled : Tabled r.panel levels others reads
+  pub changed_tabled : TablesOf q tables
   changed_tabled = changes.tabled
 
-  pub changed_rest : AnswerRest s (number_of c) c tail rows values (counted r.reply (redrawn_by r.changed step.revalued r.panel))
+  pub changed_rest : AnswerRest s (number_of c) c tail rows values (counted (reply_by r) (redrawn_by (moved_by r) step.revalued q))
   changed_rest =
       subst (λ (c : Command). AnswerRest s (number_of c) c tail rows values reply) (sym is)
       (subst (λ (v : List ℤ). AnswerRest s (id % 128) (Change id level) tail rows v reply) (sym rest.0)
       (changed_replied s id level tail rows reply (rw rest.1 changes.reply)))
     where
       reply : Reply
-      reply = counted r.reply (redrawn_by r.changed step.revalued r.panel)
+      reply = counted (reply_by r) (redrawn_by (moved_by r) step.revalued q)
 
       rest : (values ≡ s.values) × (step.revalued ≡ 0)
       rest = (subst (λ (c : Command). Stepped s (number_of c) c tail path rows values step) is d).rest
@@ -314,7 +313,7 @@ pub formulas_same : (s : Sheet) (k : ℕ) (c : Command) (fields : List ℕ) (r :
 formulas_same s k c fields r covered e =
     sym (ap (with_formula s.formulas k) (either (is_refusal (reply_bytes r)) (given_kept c fields covered (formula_at s.formulas k) e)) ∙ formula_kept s.formulas k)
   where
-    either : {old given : Formula} (b : Bool) → old ≡ given → cond b old given ≡ old
+    either : {old given : Rule} (b : Bool) → old ≡ given → cond b old given ≡ old
     either true e = refl
     either false e = sym e
 
@@ -323,12 +322,12 @@ formulas_same s k c fields r covered e =
 -- the formulas with the one that the command leaves, and the panel afterwards, are the answer's
 pub did : (q : Sheet) (line : List ℕ) (c : Command) (fields : List ℕ) → command_bytes c fields ≡ frame_of line → (k : ℕ) (rows : List ℕ) (values : List ℤ) (r : Reply)
     → AnswerRest q k c fields rows values r → (p : Panel) → p ≡ (command_answer q c fields).state.panel
-    → (formulas : Formulas) → formulas ≡ with_formula q.formulas k (formula_after c fields r (link_at q.panel.links k).covered (formula_at q.formulas k)) → LegalSheet q
+    → (formulas : List Rule) → formulas ≡ with_formula q.formulas k (formula_after c fields r (link_at q.panel.links k).covered (formula_at q.formulas k)) → LegalSheet q
     → Did line_answer LegalSheet q line (sheet_of p formulas values) (whole_reply c r rows)
 did q line c fields read k rows values r d p e formulas given h =
     let same : sheet_of p formulas values ≡ (command_answer q c fields).state =
     ap (λ (x : Panel). sheet_of x formulas values) e
-    ∙ ap₂ (λ (x : Formulas) (y : List ℤ). sheet_of (command_answer q c fields).state.panel x y) (given ∙ d.formulas) d.values in
+    ∙ ap₂ (λ (x : List Rule) (y : List ℤ). sheet_of (command_answer q c fields).state.panel x y) (given ∙ d.formulas) d.values in
     record {
       is = ap₂ (λ (x : Sheet) (y : List ℕ). record { state = x; reply = y }) same d.reply ∙ line_answer_lem q line c fields read;
       legal = subst LegalSheet (sym same) (answer_legal q c fields h);

@@ -10,16 +10,15 @@ ghost use Rattle.answering.specs.Scans.{line_scan};
 
 use deciding::{changed, decide_line, rule_after, sets_formula};
 use entering::{enter, setters};
-use fieldset::{below, wide};
-use formulas::Formulas;
+use fieldset::below;
 use frames::{Command, value_of};
-use keeping::refresh;
-use panel::{Panel, ROWS};
+use keeping::{KeptTables, refresh};
+use panel::ROWS;
 use redrawing::count_reply;
 use removing::remove;
 use replies::{LONGEST, put_reply, refusal_of};
 use sheet::Sheet;
-use tables::{fill_tables, stay_levels};
+use tables::{stay_levels, tables_of};
 use taking::reverse;
 use tally::{Tally, tallied_line};
 
@@ -34,36 +33,9 @@ pub struct Progress {
     pub worked: u8,
 }
 
-// Where a run stands, with the parts of the sheet put together.
-fn progress_of(
-    next: usize,
-    panel: Panel,
-    formulas: Formulas,
-    values: [i32; 64],
-    tally: Tally,
-    written: usize,
-    worked: u8,
-) -> Progress
-    ensures { reached result ≡ record { next = next; state = sheet_of panel formulas values; tally = tally; written = written; worked = worked } }
-{
-    let sheet = Sheet {
-        panel: panel,
-        formulas: formulas,
-        values: values,
-    };
-    Progress {
-        next: next,
-        sheet: sheet,
-        tally: tally,
-        written: written,
-        worked: worked,
-    }
-}
-
 // Answers whole lines from a position on while the room has place for a longest reply; what does not fit the buffer is counted, not stored. Past the
 // text's end there is no line. The step of a line is decided, and the panel takes it; a change, whose step leaves the panel as it is, is then carried
-// out. A removal and a change scan all links, and a value that is entered needs all formulas: they stand here, since in decide_line they would have the
-// panel or the formulas copied for every line.
+// out. A removal and a value that is entered are decided here: `decide_line` counts no scan, and knows neither formulas nor values.
 pub fn answer_lines(
     text: &[u8],
     mut at: usize,
@@ -78,67 +50,74 @@ pub fn answer_lines(
     let mut q = s.panel;
     let mut formulas = s.formulas;
     let mut values = s.values;
-    let mut n: usize = 0;
-    let mut worked = 0u8;
-    let mut rows = [0u8; ROWS];
-    let mut path = [0u8; 64];
-    let mut levels = [0u8; 64];
-    let mut others = [0u64; 64];
-    let mut reads = [0u64; 64];
-    let mut after = [0u64; 64];
-    let mut shown = [0u64; 64];
-    let mut readers = [0u64; 64];
-    let mut down = [0u64; 64];
-    fill_tables(q, &mut levels, &mut others, &mut reads);
+    let mut n = 0;
+    let mut worked = 0;
+    let mut rows = [0; ROWS];
+    let mut path = [0; 64];
+    let mut after = [0; 64];
+    let mut tables = tables_of(&q);
+    let mut kept = KeptTables {
+        shown: [0; 64],
+        readers: [0; 64],
+        down: [0; 64],
+    };
     let all = below(q.size);
-    refresh(&reads, q.size, all, &mut shown, &mut readers, &mut down);
+    refresh(&tables.reads, q.size, all, &mut kept);
     while at < text.len() && LONGEST <= room - n {
         let end = lines::line_end(text, at);
         let line = frames::read_line(&text[at..end]);
         let command = line.command;
-        let k = wide(frames::number_of(command));
+        let k = usize::from(frames::number_of(command));
         let old = q.links[k];
         let step = if let Command::Remove(id) = command {
-            remove(q, old, &levels, &others, &reads, id, &mut path, &mut worked)
+            remove(&q, old, &tables, id, &mut path, &mut worked)
         } else {
-            let step = decide_line(q, old, &levels, &others, &reads, line, &mut path, &mut rows);
+            let step = decide_line(&q, old, &tables, &line, &mut path, &mut rows);
             if let Command::Enter(f, b) = command {
-                let setter = setters(q, step, &path, &levels, &others, &reads, &mut after);
-                let v = value_of(line, b);
-                enter(q, old, step, &setter, &after, formulas, f, v, &mut values)
+                let setter = setters(&q, &step, &path, &tables, &mut after);
+                let v = value_of(&line, b);
+                enter(&q, old, step, &setter, &after, &formulas, f, v, &mut values)
             } else {
                 step
             }
         };
-        let place = step.place;
-        let link = step.link;
         let mut reply = step.reply;
         q.size = step.size;
-        q.place = place;
-        q.links[k] = link;
-        stay_levels(&mut levels, &q.setter, &place);
+        q.place = step.place;
+        q.links[k] = step.link;
+        stay_levels(&mut tables.levels, &q.setter, &step.place);
         let mut turned = step.changed;
         let mut stale = turned;
         if turned != 0 {
-            q = reverse(q, step, &path, &mut levels, &mut others, &mut reads);
+            reverse(&mut q, &step, &path, &mut tables);
         }
         if let Command::Change(_, _) = command {
-            let c = changed(q, &mut levels, &mut others, &mut reads, line, &mut worked);
-            q = c.panel;
-            reply = c.reply;
-            turned = c.changed;
+            let c = changed(&mut q, &mut tables, &line, &mut worked);
+            reply = c.and(Ok(0));
+            turned = c.unwrap_or(0);
             stale = below(q.size);
         }
-        refresh(&reads, q.size, stale, &mut shown, &mut readers, &mut down);
-        reply = count_reply(reply, turned, step.revalued, &down);
+        refresh(&tables.reads, q.size, stale, &mut kept);
+        reply = count_reply(reply, turned, step.revalued, &kept.down);
         if sets_formula(command) {
-            formulas.of[k] = rule_after(line, reply, old.covered, formulas.of[k]);
+            formulas[k] = rule_after(&line, reply, old.covered, formulas[k]);
         }
         n = put_reply(out, n, command, reply, &rows[..ROWS]);
         t = tallied_line(t, refusal_of(reply));
         at = lines::behind(text, end);
     }
-    progress_of(at, q, formulas, values, t, n, worked)
+    let sheet = Sheet {
+        panel: q,
+        formulas,
+        values,
+    };
+    Progress {
+        next: at,
+        sheet,
+        tally: t,
+        written: n,
+        worked,
+    }
 }
 
 // Goes on from a position of a text: answers whole lines while a longest reply, with its LF, still fits the buffer.

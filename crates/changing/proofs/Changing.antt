@@ -15,8 +15,9 @@ use Rattle.panel.specs.declared.Link.{Link}
 use Rattle.panel.specs.declared.Panel.{Panel}
 use Rattle.panel.specs.declared.Refusal.{Refusal}
 use Rattle.panel.specs.declared.Refusal.TheVariants.{NoSuchLink}
-use Rattle.panel.specs.declared.Reply.{Reply}
-use Rattle.panel.specs.declared.Reply.TheVariants.{Accepted, Refused}
+use Rattle.panel.specs.Answers.{Reply}
+use Rattle.std.specs.Prelude.{Option, Ok, Err}
+use Rattle.std.specs.Bool.{then_some}
 use Rattle.panel.specs.Items.{link_at}
 use Rattle.panel.specs.Answers.{Answer, is_refusal, refused, reply_bytes}
 use Rattle.panel.specs.Moved.{turned, moved}
@@ -27,19 +28,25 @@ use Rattle.panel.specs.Legal.{Legal}
 use Rattle.panel.proofs.Checks.{Agree, agree_reply, reply_refused, reply_accepted, named_link, changeable, change_adds}
 use Rattle.panel.proofs.Performed.{legal_performed, performed_size, without_unused}
 use Rattle.panel.proofs.Changing.{Alike, Cases, change_cases}
-use Rattle.panel.proofs.Moved.{turned_is, turned_none, redrawn_by_lem, counted_still, counted_none}
+use Rattle.panel.proofs.Moved.{turned_is, turned_none, redrawn_by_lem, counted_none}
+use Rattle.tables.specs.declared.Tables.{Tables}
+use Rattle.tables.specs.Tables.{TablesOf}
 use Rattle.fieldbytes.specs.Bytes.{FieldsOf}
-use Rattle.adding.specs.Checks.{check_link}
-use Rattle.adding.proofs.Adding.{link_agree}
+use Rattle.adding.specs.Checks.{number_check, check_link}
+use Rattle.adding.proofs.Adding.{number_told, link_agree}
 use Rattle.removing.specs.Scans.{scan_count}
-use Rattle.changing.specs.Changed.{changed_fields, change_count}
+use Rattle.changing.specs.Changed.{changed_fields, change_count, Changes}
 
 -- ---- the checks
 
 module _ (p : Panel) (id level : ℕ) (bytes : List ℕ) (c o : ℕ) (r : Bool) (f : FieldsOf bytes c o r) (old : Link) (same : old ≡ link_at p.links (id % 128))
-    (reply : Reply) (checks : reply_bytes reply ≡ check_reply (check_link p.size id level c o r (check (not old.used) NoSuchLink))) where
+    (reply : Reply) (number : Option Refusal) (named : number ≡ then_some (not old.used) NoSuchLink)
+    (told : reply_bytes reply ≡ check_reply (check_link p.size id level c o r (number_check number))) where
   abbrev own : List Check
   own = check_link p.size id level c o r (check (not old.used) NoSuchLink)
+
+  checks : reply_bytes reply ≡ check_reply own
+  checks = told ∙ number_told p.size id level c o r (not old.used) NoSuchLink number named
 
   agree : Agree own (change_checks p id level bytes)
   agree =
@@ -53,26 +60,30 @@ module _ (p : Panel) (id level : ℕ) (bytes : List ℕ) (c o : ℕ) (r : Bool) 
   unfolding change_count
   scan_counted n = ap (λ (b : List ℕ). cond (is_refusal b) n (scan_count n p id)) (checks ∙ agree_reply own (change_checks p id level bytes) agree)
 
-  pub checks_refused : (x : Refusal) → reply ≡ Refused x → refused p x ≡ performed p (changing id level bytes)
+  pub checks_refused : (x : Refusal) → reply ≡ Err x → refused p x ≡ performed p (changing id level bytes)
   checks_refused = reply_refused p own (change_checks p id level bytes) step agree reply checks
 
-  pub count_refused : (x : Refusal) → reply ≡ Refused x → (n : ℕ) → n ≡ change_count n p id level bytes
+  pub count_refused : (x : Refusal) → reply ≡ Err x → (n : ℕ) → n ≡ change_count n p id level bytes
   count_refused x e n = rw e at (scan_counted n)
 
-  pub checks_passed : (m : ℕ) → reply ≡ Accepted m → Passes (change_checks p id level bytes)
+  pub checks_passed : (m : ℕ) → reply ≡ Ok m → Passes (change_checks p id level bytes)
   checks_passed m e = (reply_accepted p own (change_checks p id level bytes) step agree reply checks m e).1
 
-  pub count_passed : (m : ℕ) → reply ≡ Accepted m → (n : ℕ) → scan_count n p id ≡ change_count n p id level bytes
+  pub count_passed : (m : ℕ) → reply ≡ Ok m → (n : ℕ) → scan_count n p id ≡ change_count n p id level bytes
   count_passed m e n = rw e at (scan_counted n)
 
--- the panel of a refusal, no setter of which changed, and its reply
-pub refused_parts : (p : Panel) (a : Answer) (reply : Reply) (x : Refusal) → reply ≡ Refused x → refused p x ≡ a
-    → (p ≡ a.panel) × (0 ≡ turned p p) × (reply_bytes (counted reply (redrawn_by 0 0 p)) ≡ a.reply)
-refused_parts p a reply x e is = (
-  ap (λ (a : Answer). a.panel) is,
-  sym (turned_none p p refl),
-  ap reply_bytes (counted_still reply p ∙ e) ∙ ap (λ (a : Answer). a.reply) is,
-)
+-- a refusal leaves the panel, its tables and every setter
+pub refused_changes : (p : Panel) (id level : ℕ) (bytes : List ℕ) (tables : Tables) (before worked : ℕ) (x : Refusal)
+    → refused p x ≡ performed p (changing id level bytes) → TablesOf p tables → worked ≡ change_count before p id level bytes
+    → Changes p id level bytes tables before worked p (Err x)
+refused_changes p id level bytes tables before worked x is tabled scan = record {
+  panel = ap (λ (a : Answer). a.panel) is;
+  changed = sym (turned_none p p refl);
+  reply = ap (λ (a : Answer). a.reply) is;
+  uncounted = tt;
+  tabled = tabled;
+  scan = scan;
+}
 
 -- ---- the halves
 
@@ -140,6 +151,6 @@ module _ (p : Panel) (h : Legal p) (id level : ℕ) (bytes : List ℕ) (passed :
         (λ f l. rw is (member_setOf_lt (λ f. not (eqb (at p.setter f) (at r.setter f))) 64 f l))
         (λ f a b. h.setter_past f (omega (arith, same)) b ∙ sym (legal.setter_past f a b))
 
-    pub count_is : reply_bytes (counted (Accepted 0) (redrawn_by m 0 r)) ≡ 0x00 ∷ moved p r ∷ []
+    pub count_is : reply_bytes (counted (Ok 0) (redrawn_by m 0 r)) ≡ 0x00 ∷ moved p r ∷ []
     unfolding moved
     count_is = counted_none (redrawn_by m 0 r) ∙ ap (λ (x : ℕ). 0x00 ∷ size x ∷ []) (redrawn_by_lem p r m legal.few changed_is)

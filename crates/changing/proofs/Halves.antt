@@ -5,11 +5,9 @@
 use Prim.Native.Nat.{ℕ, ◌<◌}
 use mathlib.Core.Path.{◌≡◌, refl, sym, ap, ◌∙◌, subst}
 use mathlib.Core.Bool.{Bool, false}
-use mathlib.Core.Logic.{◌≢◌, ◌⊎◌, ⊎_elim}
-use denote.Enum.Declared.{tag_of}
+use mathlib.Core.Logic.{◌≢◌}
 use mathlib.Core.List.{List}
-use native.Mathlib.Omega.{arith}
-use lib.ListN.{length, take}
+use lib.ListN.{length}
 use Rattle.fieldset.specs.Tables.{at}
 use Rattle.panel.specs.declared.Standing.{Standing}
 use Rattle.panel.specs.declared.Standing.TheVariants.{Waiting, Holding}
@@ -17,9 +15,9 @@ use Rattle.panel.specs.declared.Link.{Link}
 use Rattle.panel.specs.declared.Panel.{Panel}
 use Rattle.panel.specs.declared.Refusal.{Refusal}
 use Rattle.panel.specs.declared.Refusal.TheVariants.{Loop}
-use Rattle.panel.specs.declared.Reply.{Reply}
-use Rattle.panel.specs.declared.Reply.TheVariants.{Accepted, Refused}
-use Rattle.panel.specs.Items.{no_link, link_at, item_of}
+use Rattle.panel.specs.Answers.{Reply}
+use Rattle.std.specs.Prelude.{Ok, Err}
+use Rattle.panel.specs.Items.{no_link, link_at}
 use Rattle.panel.specs.Answers.{Answer, is_refusal, refused}
 use Rattle.panel.specs.Panels.{waiting_link, with_link, with_setter, freed, dropped}
 use Rattle.panel.specs.Solution.{reversed}
@@ -32,18 +30,14 @@ use Rattle.panel.proofs.Checks.{checked_step}
 use Rattle.tables.specs.Tables.{Tabled}
 use Rattle.tables.proofs.Settings.{tabled_link}
 use Rattle.reversal.specs.declared.Verdict.{Verdict}
-use Rattle.reversal.specs.contracts.Verdict.{the_type}
 use Rattle.reversal.specs.declared.Verdict.TheVariants.{Free, Looped, Path}
-use Rattle.reversal.specs.Reversals.{Resolved, setter_by, count_by, step_of}
+use Rattle.reversal.specs.Reversals.{Resolved, count_by, step_of}
 use Rattle.fieldbytes.specs.Bytes.{FieldsOf}
 use Rattle.adding.specs.Checks.{verdict_reply}
 use Rattle.adding.proofs.Adding.{Entering, passed_entering, entry_refused, entry_done}
 use Rattle.removing.specs.Settled.{Settles}
+use Rattle.changing.specs.Changed.{reversed_by}
 use Rattle.scanning.proofs.Dropped.{sets_holds}
-
--- the panel with the path of a verdict reversed
-abbrev pub Turned : Panel → Verdict → ℕ → List ℕ → Panel → Type 0
-Turned p t c path r = r ≡ reversed p (item_of (setter_by t c) (at path 0)) (take (count_by t) path)
 
 -- the command c is accepted on the panel p and leaves q; the tables are that panel's, and the path buffer is whole
 pub record Done (p : Panel) (c : Command) (levels others reads path : List ℕ) (q : Panel) : Type 0 where
@@ -54,18 +48,18 @@ pub record Done (p : Panel) (c : Command) (levels others reads path : List ℕ) 
 
 -- by a step that is accepted
 done : (p : Panel) (k : ℕ) (c : Command) (path : List ℕ) (t : Verdict) (l : Link) (held : Standing) (n : ℕ) {levels others reads : List ℕ} {r : Panel}
-    → Decides p k c path (step_of t p.size p.place l held n) → Turned (freed (with_link p k l) held) t n path r → Tabled r levels others reads
+    → Decides p k c path (step_of t p.size p.place l held n) → r ≡ reversed_by (freed (with_link p k l) held) t n path → Tabled r levels others reads
     → Done p c levels others reads path r
 unfolding taken
 done p k c path t l held n d e tab =
     record { accepts = ap is_refusal (sym d.reply); leaves = sym d.takes.panel ∙ sym e; tabled = tab; full = d.takes.path_of.full }
 
 -- where it is no path, nothing is reversed
-pub turned_free : (p : Panel) (t : Verdict) (c : ℕ) (path : List ℕ) → (tag_of the_type t ≡ 0) ⊎ (tag_of the_type t ≡ 1) → Turned p t c path p
+pub turned_free : (p : Panel) (t : Verdict) (c : ℕ) (path : List ℕ) → ((x y : ℕ) → t ≢ Path x y) → p ≡ reversed_by p t c path
 unfolding reversed
-turned_free p Free c path h = refl
-turned_free p Looped c path h = refl
-turned_free p (Path count m) c path h = absurd (⊎_elim (λ e. omega arith) (λ e. omega arith) h)
+turned_free p Free c path ne = refl
+turned_free p Looped c path ne = refl
+turned_free p (Path x y) c path ne = absurd (ne x y refl)
 
 -- ---- a link is dropped
 
@@ -112,7 +106,7 @@ module _ (p : Panel) (h : Legal p) (id : ℕ) (small : id < 128) (passed : Passe
       pub drop_path : t ≢ Looped → PathOf path (count_by t)
       drop_path ne = (decides t own ne).takes.path_of
 
-      pub drop_reversed : t ≢ Looped → {levels others reads : List ℕ} {q : Panel} → q ≡ without → (r : Panel) → Turned q t number path r
+      pub drop_reversed : t ≢ Looped → {levels others reads : List ℕ} {q : Panel} → q ≡ without → (r : Panel) → r ≡ reversed_by q t number path
           → Tabled r levels others reads → Done p (removing id) levels others reads path r
       drop_reversed ne same r e tab = done p id (removing id) path t no_link (Holding v) number (decides t own ne) (rw same at e) tab
 
@@ -126,15 +120,15 @@ module _ (p : Panel) (h : Legal p) (id level : ℕ) (bytes : List ℕ) (c o : �
   -- by the reply of the verdict
   module _ {levels others reads : List ℕ} (tab : Tabled p levels others reads) (path : List ℕ) (t : Verdict)
       (resolved : Resolved levels others p.size level o c reads path t) (reply : Reply) (is : reply ≡ verdict_reply t level) where
-    pub enter_refused : (x : Refusal) → reply ≡ Refused x → performed p (adding id level bytes) ≡ refused p x
+    pub enter_refused : (x : Refusal) → reply ≡ Err x → performed p (adding id level bytes) ≡ refused p x
     enter_refused x e = sym (entry_refused enters tab path t resolved x (sym is ∙ e)).0
 
-    decided : (m : ℕ) → reply ≡ Accepted m → Decides p id (adding id level bytes) path (step_of t p.size p.place (waiting_link level c o) Waiting id)
+    decided : (m : ℕ) → reply ≡ Ok m → Decides p id (adding id level bytes) path (step_of t p.size p.place (waiting_link level c o) Waiting id)
     decided m e = entry_done enters tab path t resolved m (sym is ∙ e) _ id _ refl refl refl
 
-    pub enter_path : (m : ℕ) → reply ≡ Accepted m → PathOf path (count_by t)
+    pub enter_path : (m : ℕ) → reply ≡ Ok m → PathOf path (count_by t)
     enter_path m e = (decided m e).takes.path_of
 
-    pub enter_reversed : (m : ℕ) → reply ≡ Accepted m → {levels others reads : List ℕ} {q : Panel} → q ≡ with_link p id (waiting_link level c o) → (r : Panel)
-        → Turned q t id path r → Tabled r levels others reads → Done p (adding id level bytes) levels others reads path r
+    pub enter_reversed : (m : ℕ) → reply ≡ Ok m → {levels others reads : List ℕ} {q : Panel} → q ≡ with_link p id (waiting_link level c o) → (r : Panel)
+        → r ≡ reversed_by q t id path → Tabled r levels others reads → Done p (adding id level bytes) levels others reads path r
     enter_reversed m e same r turned t' = done p id (adding id level bytes) path t _ Waiting id (decided m e) (rw same at turned) t'

@@ -1,142 +1,100 @@
 // Changing a link: it is dropped and entered anew as one.
 #![tactic(auto)]
 
-ghost use Rattle.std.specs.Prelude.{◌≡◌, ◌%◌, length};
-ghost use Rattle.panel.specs.declared.Standing.TheVariants.{Waiting};
-ghost use Rattle.panel.specs.Items.{no_link, link_at};
+ghost use Rattle.std.specs.Prelude.{◌≡◌, ◌%◌};
+ghost use Rattle.panel.specs.Items.{link_at};
 ghost use Rattle.panel.specs.Legal.{Legal};
-ghost use Rattle.tables.specs.Tables.{Tabled};
-ghost use Rattle.reversal.specs.Reversals.{step_of};
-ghost use Rattle.changing.specs.Changed.{changed_fields, Changes};
+ghost use Rattle.panel.specs.Outcomes.{PathOf};
+ghost use Rattle.tables.specs.Tables.{TablesOf, Places};
+ghost use Rattle.reversal.specs.Reversals.{count_by};
+ghost use Rattle.changing.specs.Changed.{changed_fields, reversed_by, Changes};
 
 use adding::{check_link, check_verdict, waiting_link};
 use fieldbytes::read_fields;
-use fieldset::{wide, with};
-use panel::{Link, Panel, Refusal, Reply, STAY, Standing, Step, no_link};
+use fieldset::with;
+use panel::{Link, Panel, Refusal, STAY, Standing, no_link};
 use removing::settle;
 use reversal::{Verdict, resolve, step_of};
+use tables::Tables;
 use taking::reverse;
 
 // The fields that have another setter after than before.
 fn changed_fields(before: &[u8; 64], after: &[u8; 64]) -> u64
-    requires { (length before.now ≡ 64) × (length after.now ≡ 64) }
     ensures { result ≡ changed_fields before.now after.now }
 {
-    let mut set = 0u64;
-    let mut f: usize = 0;
-    while f < 64 {
+    let mut set = 0;
+    for f in 0..64 {
         if before[f] != after[f] {
             set = with(set, f);
         }
-        f += 1;
     }
     set
 }
 
-// The step that only reverses the path of a verdict, for the item of the number c.
-fn path_step(verdict: Verdict, n: usize, place: &[u8; 64], c: u8) -> Step
-    requires { length place.now ≡ 64 }
-    ensures { result ≡ step_of verdict n place.now no_link Waiting c }
+// Reverses the path of a verdict, for the item of the number c, in the panel and its tables.
+fn turn(p: &mut Panel, verdict: Verdict, c: u8, path: &[u8; 64], tables: &mut Tables)
+    requires { PathOf path.now (count_by verdict) × Places p.old.place × TablesOf p.old tables.old }
+    ensures reversed { p.new ≡ reversed_by p.old verdict c path.now }
+    ensures tabled { TablesOf p.new tables.new }
 {
-    step_of(verdict, n, place, no_link(), Standing::Waiting, c)
-}
-
-// A panel, the reply to what was to be done with it, and the fields that got another setter; the count of the reply is 0.
-#[derive(Clone, Copy)]
-pub struct Changed {
-    pub panel: Panel,
-    pub reply: Reply,
-    pub changed: u64,
-}
-
-// The panel as it is, with a reply.
-fn kept(p: Panel, reply: Reply) -> Changed
-    ensures { result ≡ record { panel = p; reply = reply; changed = 0 } }
-{
-    Changed {
-        panel: p,
-        reply: reply,
-        changed: 0,
+    if let Verdict::Path(_, _) = verdict {
+        let step = step_of(verdict, p.size, &p.place, no_link(), Standing::Waiting, c);
+        reverse(p, &step, path, tables);
     }
 }
 
 // Changes a link; `old` is the link that stands under its number. It is removed and added anew on copies, and the panel and its tables become these
-// only where both are accepted. Where the removal makes a scan, `worked` becomes the number of strengths that were worked out for it.
-// Both halves stand here: a function for each would copy the panel more often.
+// only where both are accepted: the answer is then the fields that got another setter. Where the removal makes a scan, `worked` becomes the number of
+// strengths that were worked out for it.
 // The contract rules out, for instance, a removal that a refused add leaves and a count from after the removal (must-fail: removal_kept,
 // moved_from_after_the_removal).
 pub fn change(
-    p: Panel,
+    p: &mut Panel,
     old: Link,
-    levels: &mut [u8; 64],
-    others: &mut [u64; 64],
-    reads: &mut [u64; 64],
+    tables: &mut Tables,
     id: u8,
     level: u8,
     bytes: &[u8],
     worked: &mut u8,
-) -> Changed
-    requires { Legal p × Tabled p levels.old others.old reads.old × (old ≡ link_at p.links (id % 128)) }
-    ensures { Changes p id level bytes.now levels.new others.new reads.new worked.old worked.new result }
+) -> Result<u64, Refusal>
+    requires { Legal p.old × TablesOf p.old tables.old × (old ≡ link_at p.old.links (id % 128)) }
+    ensures { Changes p.old id level bytes.now tables.new worked.old worked.new p.new result }
 {
     let n = p.size;
     let fields = read_fields(bytes);
-    let checks = check_link(n, id, level, fields, !old.used, Refusal::NoSuchLink);
-    if let Reply::Refused(_) = checks {
-        return kept(p, checks);
-    }
-    let mut fresh = *levels;
-    let mut outs = *others;
-    let mut reading = *reads;
-    let mut path = [0u8; 64];
-    let place = p.place;
+    let missing = (!old.used).then_some(Refusal::NoSuchLink);
+    check_link(n, id, level, fields, missing)?;
+    let mut fresh = *tables;
+    let mut path = [0; 64];
     // the removal; `settle` is given the panel with the link, and leaves the link out by itself
-    let k = wide(id);
-    let mut q = p;
+    let k = usize::from(id);
+    let mut q = *p;
     q.links[k] = no_link();
-    let s = old.standing;
-    if let Standing::Holding(h) = s {
-        let v = wide(h);
-        let settled = settle(p, v, &mut fresh, &mut outs, &mut reading, &mut path, worked);
-        let verdict = settled.verdict;
-        if let Verdict::Looped = verdict {
-            return kept(p, Reply::Refused(Refusal::Loop));
+    if let Standing::Holding(h) = old.standing {
+        let v = usize::from(h);
+        let settled = settle(p, v, &mut fresh, &mut path, worked);
+        if let Verdict::Looped = settled.verdict {
+            return Err(Refusal::Loop);
         }
         q.setter[v] = STAY;
-        if let Verdict::Path(_, _) = verdict {
-            let step = path_step(verdict, n, &place, settled.number);
-            q = reverse(q, step, &path, &mut fresh, &mut outs, &mut reading);
-        }
+        turn(&mut q, settled.verdict, settled.number, &path, &mut fresh);
     }
-    let before = p.setter;
     // the adding
     let verdict = resolve(
-        &fresh,
-        &outs,
-        &reading,
+        &fresh.levels,
+        &fresh.others,
+        &fresh.reads,
         n,
         level,
         fields.outputs,
         fields.covered,
         &mut path,
     );
-    let reply = check_verdict(verdict, level);
-    if let Reply::Refused(_) = reply {
-        return kept(p, reply);
-    }
+    check_verdict(verdict, level)?;
     q.links[k] = waiting_link(level, fields);
-    if let Verdict::Path(_, _) = verdict {
-        let step = path_step(verdict, n, &place, id);
-        q = reverse(q, step, &path, &mut fresh, &mut outs, &mut reading);
-    }
-    *levels = fresh;
-    *others = outs;
-    *reads = reading;
-    let after = q.setter;
-    let changed = changed_fields(&before, &after);
-    Changed {
-        panel: q,
-        reply: Reply::Accepted(0),
-        changed: changed,
-    }
+    turn(&mut q, verdict, id, &path, &mut fresh);
+    let changed = changed_fields(&p.setter, &q.setter);
+    *p = q;
+    *tables = fresh;
+    Ok(changed)
 }

@@ -26,24 +26,18 @@ pub extern "C" fn panel_scans(text: &[u8], counts: &mut [u8]) -> usize
         return 0;
     }
     let mut s = unopened();
-    let mut t = Tally {
-        lines: 0,
-        accepted: 0,
-        refused: 0,
-        last: 0,
-    };
+    let mut t = Tally::default();
     // room for one reply, so that one line is answered at a time
-    let mut out = [0u8; LONGEST];
-    let mut at = 0usize;
-    let mut made = 0usize;
+    let mut out = [0; LONGEST];
+    let mut at = 0;
+    let mut made = 0;
     while at < text.len() {
         let r = lines_from(text, at, s, t, &mut out);
         at = r.next;
         s = r.sheet;
         t = r.tally;
-        let worked = r.worked;
-        if worked != 0 {
-            store(counts, made, worked);
+        if r.worked != 0 {
+            store(counts, made, r.worked);
             made += 1;
         }
     }

@@ -3,62 +3,48 @@ use mathlib.Core.Path.{◌≡◌, refl, sym, ap, ap₂, ◌∙◌, subst}
 use mathlib.Core.Bool.{Bool, true, false, cond}
 use mathlib.Core.Logic.{◌⊎◌, inl, inr, ⊎_elim}
 use mathlib.Core.List.{List, [], ◌∷◌, ◌++◌, append-nil}
-use Prim.Native.Nat.{ℕ, ◌+◌, ◌-◌, ◌%◌, ◌≤◌}
+use Prim.Native.Nat.{ℕ, ◌+◌, ◌%◌, ◌≤◌}
 use native.Mathlib.Nat.{mod-eq_of_lt}
 use native.Mathlib.Omega.{arith}
-use lib.ListN.{length, take, drop, length-drop, take-append-drop}
+use lib.ListN.{length, take, drop, take-append-drop}
 use borrow.Author.Tests.{ltb-false, eq-eqb}
 use lib.Dec.{eqb}
-use lib.Seq.{set-get_or, sets-eq, length-sets, take_at, take_all}
-use denote.Enum.Declared.{tag_of}
+use lib.Seq.{set-get_or, sets-eq, length-sets, take_at}
 use Rattle.fieldset.proofs.Numbers.{clash}
 use Rattle.panel.specs.declared.Link.{Link}
 use Rattle.panel.specs.declared.Panel.{Panel}
 use Rattle.panel.specs.declared.Refusal.{Refusal}
-use Rattle.panel.specs.declared.Reply.{Reply}
-use Rattle.panel.specs.declared.Reply.TheVariants.{Accepted, Refused as Refusing}
+use Rattle.panel.specs.Answers.{Reply}
+use Rattle.std.specs.Prelude.{Err, None}
 use Rattle.panel.specs.declared.Step.{Step}
 use Rattle.panel.specs.Items.{link_at}
 use Rattle.panel.specs.Answers.{reply_bytes, plan_rest, rows_length, is_refusal}
 use Rattle.panel.specs.Commands as panel
-use Rattle.panel.specs.Commands.{touching, planning, check_reply}
+use Rattle.panel.specs.Commands.{planning, check_reply}
 use Rattle.panel.specs.Outcomes.{unchanged, Takes, counted, redrawn_by, step_reply, Decides, Plans}
 use Rattle.panel.proofs.Outcomes.{takes_size}
 use Rattle.panel.proofs.Moved.{counted_still}
 use Rattle.planning.proofs.Replies.{plan_keeps}
-use Rattle.changing.specs.declared.Changed.{Changed}
-use Rattle.formulas.specs.declared.Formula.{Formula}
-use Rattle.formulas.specs.declared.Formula.TheVariants.{None}
-use Rattle.formulas.specs.declared.Formulas.{Formulas}
-use Rattle.formulas.specs.declared.Rule.{Rule}
+use Rattle.formulas.specs.Formulas.{Rule}
 use Rattle.sheet.specs.declared.Sheet.{Sheet}
-use Rattle.sheet.specs.Sheets.{sheet_of, formula_at, with_formula}
+use Rattle.sheet.specs.Sheets.{formula_at, with_formula}
 use Rattle.sheet.specs.Commands.{solving, formulas_after, formula_checks, performed}
 use Rattle.sheet.proofs.Legal.{reply_passes}
 use Rattle.frames.specs.declared.Command.{Command}
 use Rattle.frames.specs.declared.Command.TheVariants.{Open, Add, Remove, Touch, Plan, Change, Enter, Relate, Refused}
 use Rattle.frames.specs.declared.Line.{Line}
-use Rattle.frames.specs.contracts.Command.{the_type}
 use Rattle.frames.specs.Texts.{Answered}
 use Rattle.frames.specs.Frames.{formula_in, command_bytes, number_of, answer_to, command_answer}
 use Rattle.frames.specs.Reading.{tail_of, LineRead}
-use Rattle.frames.proofs.Reading.{long_link, read_full, read_short, tail_reaches}
+use Rattle.frames.proofs.Reading.{long_link, read_short, tail_reaches}
 use Rattle.replies.specs.Replies.{rest_of}
-use Rattle.deciding.specs.Lines.{Framed, formula_given, formula_after, sets_formula, touched_field, AnswerRest, LineStep, TouchStep, DecidedLine, ChangedLine, Unasked}
+use Rattle.deciding.specs.Lines.{Framed, formula_given, sets_formula, AnswerRest, LineStep, TouchStep, DecidedLine}
 
 -- ---- formulas
 
 -- the formula of a number, put where it stands
-pub formula_kept : (formulas : Formulas) (k : ℕ) → with_formula formulas k (formula_at formulas k) ≡ formulas
-formula_kept formulas k = ap (λ (of : List Rule). record { of = of }) (set-get_or formulas.of k (record { formula = None }))
-
--- the formula after a reply, by its case
-pub after_refused : (c : Command) (tail : List ℕ) (r : Reply) (x : Refusal) (covered : ℕ) (old : Formula) → r ≡ Refusing x → old ≡ formula_after c tail r covered old
-after_refused c tail r x covered old e = sym (ap (λ (r : Reply). formula_after c tail r covered old) e)
-
-pub after_accepted : (c : Command) (tail : List ℕ) (r : Reply) (m covered : ℕ) (old : Formula) → r ≡ Accepted m
-    → formula_given c tail covered old ≡ formula_after c tail r covered old
-after_accepted c tail r m covered old e = sym (ap (λ (r : Reply). formula_after c tail r covered old) e)
+pub formula_kept : (formulas : List Rule) (k : ℕ) → with_formula formulas k (formula_at formulas k) ≡ formulas
+formula_kept formulas k = set-get_or formulas k None
 
 -- ---- tags, as the last arm of a match tells them
 
@@ -85,7 +71,7 @@ not_among tag (a ∷ b ∷ cs) e (inr h) = go (eqb tag a) e (not_among tag (b �
 -- ---- what the commands do, by their tags
 
 -- only a removal, a change and a formula that is given change one
-pub given_kept : (c : Command) (tail : List ℕ) (covered : ℕ) (old : Formula) → sets_formula c ≡ false → old ≡ formula_given c tail covered old
+pub given_kept : (c : Command) (tail : List ℕ) (covered : ℕ) (old : Rule) → sets_formula c ≡ false → old ≡ formula_given c tail covered old
 given_kept (Open n) tail covered old h = refl
 given_kept (Add id level) tail covered old h = refl
 given_kept (Remove id) tail covered old h = absurd (clash refl h)
@@ -96,30 +82,8 @@ given_kept (Enter f b) tail covered old h = refl
 given_kept (Relate id form) tail covered old h = absurd (clash refl h)
 given_kept (Refused x) tail covered old h = refl
 
-pub sets_none : (c : Command) → OneOf (0 ∷ 1 ∷ 3 ∷ 4 ∷ 6 ∷ 8 ∷ []) (tag_of the_type c) → false ≡ sets_formula c
-sets_none (Open n) h = refl
-sets_none (Add id level) h = refl
-sets_none (Remove id) h = absurd (not_among 2 (0 ∷ 1 ∷ 3 ∷ 4 ∷ 6 ∷ 8 ∷ []) refl h)
-sets_none (Touch f) h = refl
-sets_none Plan h = refl
-sets_none (Change id level) h = absurd (not_among 5 (0 ∷ 1 ∷ 3 ∷ 4 ∷ 6 ∷ 8 ∷ []) refl h)
-sets_none (Enter f b) h = refl
-sets_none (Relate id form) h = absurd (not_among 7 (0 ∷ 1 ∷ 3 ∷ 4 ∷ 6 ∷ 8 ∷ []) refl h)
-sets_none (Refused x) h = refl
-
-pub touches_none : (c : Command) → OneOf (0 ∷ 1 ∷ 2 ∷ 4 ∷ 5 ∷ 7 ∷ 8 ∷ []) (tag_of the_type c) → 0 ≡ touched_field c
-touches_none (Open n) h = refl
-touches_none (Add id level) h = refl
-touches_none (Remove id) h = refl
-touches_none (Touch f) h = absurd (not_among 3 (0 ∷ 1 ∷ 2 ∷ 4 ∷ 5 ∷ 7 ∷ 8 ∷ []) refl h)
-touches_none Plan h = refl
-touches_none (Change id level) h = refl
-touches_none (Enter f b) h = absurd (not_among 6 (0 ∷ 1 ∷ 2 ∷ 4 ∷ 5 ∷ 7 ∷ 8 ∷ []) refl h)
-touches_none (Relate id form) h = refl
-touches_none (Refused x) h = refl
-
 -- the formulas after a command: a refusal leaves them
-pub formula_after_lem : (formulas : Formulas) (k : ℕ) (given : Formula) (after : Formulas) (b : Bool) → (b ≡ false → with_formula formulas k given ≡ after)
+pub formula_after_lem : (formulas : List Rule) (k : ℕ) (given : Rule) (after : List Rule) (b : Bool) → (b ≡ false → with_formula formulas k given ≡ after)
     → with_formula formulas k (cond b (formula_at formulas k) given) ≡ cond b formulas after
 formula_after_lem formulas k given after true h = formula_kept formulas k
 formula_after_lem formulas k given after false h = h refl
@@ -134,7 +98,7 @@ module _ (s : Sheet) (k : ℕ) (tail path rows : List ℕ) where
       → with_formula s.formulas k (formula_given command tail (link_at s.panel.links k).covered (formula_at s.formulas k)) ≡ formulas_after s c)
       → reply_bytes r ≡ (panel.performed s.panel c).reply → AnswerRest s k command tail rows s.values r
   solved_replied command c r e z given told =
-      let gives : Formula = formula_given command tail (link_at s.panel.links k).covered (formula_at s.formulas k) in
+      let gives : Rule = formula_given command tail (link_at s.panel.links k).covered (formula_at s.formulas k) in
       record {
         formulas =
             ap (λ (b : List ℕ). with_formula s.formulas k (cond (is_refusal b) (formula_at s.formulas k) gives)) told
@@ -165,13 +129,13 @@ module _ (s : Sheet) (k : ℕ) (tail path rows : List ℕ) where
 
   module _ (long : length path ≡ 64) (named : Link) (same : named ≡ link_at s.panel.links k) where
     pub refused_step : length rows ≡ rows_length → (x : Refusal)
-        → LineStep s k (Refused x) tail path rows s.values (unchanged s.panel.size s.panel.place named (Refusing x))
+        → LineStep s k (Refused x) tail path rows s.values (unchanged s.panel.size s.panel.place named (Err x))
     refused_step full x = record {
-      takes = takes_size s.panel k named (Refusing x) same path long s.panel.size s.panel refl;
-      replied = still (Refused x) (Refusing x) (record {
+      takes = takes_size s.panel k named (Err x) same path long s.panel.size s.panel refl;
+      replied = still (Refused x) (Err x) (record {
         formulas = formula_kept s.formulas k;
         values = refl;
-        reply = append-nil (reply_bytes (Refusing x));
+        reply = append-nil (reply_bytes (Err x));
         rest = omega arith;
       });
       rows_full = full;
@@ -181,7 +145,7 @@ module _ (s : Sheet) (k : ℕ) (tail path rows : List ℕ) where
     pub relate_step : length rows ≡ rows_length → (id form : ℕ) (r : Reply) → reply_bytes r ≡ check_reply (formula_checks s.panel id (formula_in (form ∷ tail)))
         → k ≡ id % 128 → LineStep s k (Relate id form) tail path rows s.values (unchanged s.panel.size s.panel.place named r)
     relate_step full id form r told number =
-        let formula : Formula = formula_in (form ∷ tail) in
+        let formula : Rule = formula_in (form ∷ tail) in
         let reply : List ℕ = check_reply (formula_checks s.panel id formula) in
         record {
           takes = takes_size s.panel k named r same path long s.panel.size s.panel refl;
@@ -224,46 +188,13 @@ module _ (s : Sheet) (k : ℕ) (tail path rows : List ℕ) where
         either false true = formula_kept s.formulas k
         either false false = formula_kept s.formulas k
 
--- a tail that goes to the end: the field bytes
-pub tail_whole : (b : List ℕ) → take (length b - 3) (drop 3 b) ≡ drop 3 b
-tail_whole b = take_all (length b - 3) (drop 3 b) (omega (arith, length-drop 3 b))
-
 pub framed : (s : List ℕ) (r : Line) → LineRead s r → Framed r
 framed s r h = record {
   short = read_short s r h;
-  full = read_full s r h;
   reaches = λ id level. ⊎_elim (λ e. tail_reaches s r 0x02 id level (omega arith) h (ap (λ (c : Command). command_bytes c (tail_of r)) e) (long_link 0x02 (inl refl) level))
       (λ e. tail_reaches s r 0x06 id level (omega arith) h (ap (λ (c : Command). command_bytes c (tail_of r)) e) (long_link 0x06 (inr refl) level));
 }
 
--- a touch, or a value that is entered
-pub touched_step : (p : Panel) (k : ℕ) (named : Link) (tail path rows : List ℕ) (s : Step) (c : Command) → OneOf (3 ∷ 6 ∷ []) (tag_of the_type c)
-    → length rows ≡ rows_length → Decides p k (touching (touched_field c)) path s → DecidedLine p k named tail path rows s c
-touched_step p k named tail path rows s (Open n) h full d = absurd (not_among 0 (3 ∷ 6 ∷ []) refl h)
-touched_step p k named tail path rows s (Add id level) h full d = absurd (not_among 1 (3 ∷ 6 ∷ []) refl h)
-touched_step p k named tail path rows s (Remove id) h full d = absurd (not_among 2 (3 ∷ 6 ∷ []) refl h)
-touched_step p k named tail path rows s (Touch f) h full d =
-    λ formulas values. solved_step (sheet_of p formulas values) k tail path rows full (Touch f) (touching f) s refl (λ r. refl) (λ a. formula_kept formulas k) d
-touched_step p k named tail path rows s Plan h full d = absurd (not_among 4 (3 ∷ 6 ∷ []) refl h)
-touched_step p k named tail path rows s (Change id level) h full d = absurd (not_among 5 (3 ∷ 6 ∷ []) refl h)
-touched_step p k named tail path rows s (Enter f b) h full d = record { decides = d; rows_full = full }
-touched_step p k named tail path rows s (Relate id form) h full d = absurd (not_among 7 (3 ∷ 6 ∷ []) refl h)
-touched_step p k named tail path rows s (Refused x) h full d = absurd (not_among 8 (3 ∷ 6 ∷ []) refl h)
-
 pub entered_touch : (p : Panel) (named : Link) (tail path rows : List ℕ) (s : Step) (c : Command) (f b : ℕ) → c ≡ Enter f b
     → DecidedLine p (number_of c) named tail path rows s c → TouchStep p 0 f path rows s
 entered_touch p named tail path rows s c f b e d = subst (λ (x : Command). DecidedLine p (number_of x) named tail path rows s x) e d
-
--- no change is asked
-pub unasked : (p : Panel) (tail levels others reads : List ℕ) (before worked : ℕ) (r : Changed) (c : Command)
-    → OneOf (0 ∷ 1 ∷ 2 ∷ 3 ∷ 4 ∷ 6 ∷ 7 ∷ 8 ∷ []) (tag_of the_type c) → Unasked p levels others reads before worked r
-    → ChangedLine p tail levels others reads before worked r c
-unasked p tail levels others reads before worked r (Open n) h u = u
-unasked p tail levels others reads before worked r (Add id level) h u = u
-unasked p tail levels others reads before worked r (Remove id) h u = u
-unasked p tail levels others reads before worked r (Touch f) h u = u
-unasked p tail levels others reads before worked r Plan h u = u
-unasked p tail levels others reads before worked r (Change id level) h u = absurd (not_among 5 (0 ∷ 1 ∷ 2 ∷ 3 ∷ 4 ∷ 6 ∷ 7 ∷ 8 ∷ []) refl h)
-unasked p tail levels others reads before worked r (Enter f b) h u = u
-unasked p tail levels others reads before worked r (Relate id form) h u = u
-unasked p tail levels others reads before worked r (Refused x) h u = u

@@ -1,20 +1,18 @@
 -- The step of one line.
-use Rattle.std.specs.Prelude.{ℕ, ◌≤◌, ◌≡◌, Bool, true, false, cond, List, ◌∷◌, ◌⊎◌, eqb, ℤ, length}
+use Rattle.std.specs.Prelude.{ℕ, ◌≤◌, ◌≡◌, Bool, true, false, cond, List, ◌∷◌, ◌⊎◌, eqb, ℤ, length, None, Result, Ok}
 use Rattle.panel.specs.declared.Link.{Link}
 use Rattle.panel.specs.declared.Panel.{Panel}
-use Rattle.panel.specs.declared.Reply.{Reply}
-use Rattle.panel.specs.declared.Reply.TheVariants.{Accepted}
+use Rattle.panel.specs.Answers.{Reply}
 use Rattle.panel.specs.declared.Step.{Step}
 use Rattle.panel.specs.Answers.{rows_length, reply_bytes, is_refusal}
 use Rattle.panel.specs.Items.{link_at}
 use Rattle.panel.specs.Commands.{touching, covered_in}
 use Rattle.panel.specs.Outcomes.{unchanged, Takes, step_reply, Decides}
-use Rattle.tables.specs.Tables.{Tabled}
-use Rattle.changing.specs.declared.Changed.{Changed}
+use Rattle.panel.specs.declared.Refusal.{Refusal}
+use Rattle.tables.specs.declared.Tables.{Tables}
+use Rattle.tables.specs.Tables.{TablesOf}
 use Rattle.changing.specs.Changed.{Changes}
-use Rattle.formulas.specs.declared.Formula.{Formula}
-use Rattle.formulas.specs.declared.Formula.TheVariants.{None}
-use Rattle.formulas.specs.declared.Formulas.{Formulas}
+use Rattle.formulas.specs.Formulas.{Rule}
 use Rattle.sheet.specs.declared.Sheet.{Sheet}
 use Rattle.sheet.specs.Sheets.{sheet_of, formula_at, with_formula}
 use Rattle.hexadecimal.specs.Hex.{frame_room}
@@ -27,14 +25,13 @@ use Rattle.replies.specs.Replies.{rest_of, whole_reply}
 -- a line that was read: its frame's bytes, and that the field bytes of an add or a change start behind the third
 pub record Framed (line : Line) : Type 0 where
   pub short : line.len ≤ frame_room
-  pub full : length line.frame ≡ frame_room
   pub reaches : (id level : ℕ) → (line.command ≡ Add id level) ⊎ (line.command ≡ Change id level) → 3 ≤ line.len
 
 -- ---- formulas
 
 -- the formula that a command gives the link that it names, where it is not refused: `tail` stands beside the command, `covered` are the fields that the
 -- link covers before
-abbrev pub formula_given : Command → List ℕ → ℕ → Formula → Formula
+abbrev pub formula_given : Command → List ℕ → ℕ → Rule → Rule
 formula_given (Open n) tail covered old = old
 formula_given (Add id level) tail covered old = old
 formula_given (Remove id) tail covered old = None
@@ -46,7 +43,7 @@ formula_given (Relate id form) tail covered old = formula_in (form ∷ tail)
 formula_given (Refused r) tail covered old = old
 
 -- the formula of that link afterwards
-abbrev pub formula_after : Command → List ℕ → Reply → ℕ → Formula → Formula
+abbrev pub formula_after : Command → List ℕ → Reply → ℕ → Rule → Rule
 formula_after c tail reply covered old = cond (is_refusal (reply_bytes reply)) old (formula_given c tail covered old)
 
 -- commands that may give another
@@ -60,18 +57,6 @@ sets_formula (Change id level) = true
 sets_formula (Enter f b) = false
 sets_formula (Relate id form) = true
 sets_formula (Refused r) = false
-
--- the field that a command touches; 0 where it touches none
-abbrev pub touched_field : Command → ℕ
-touched_field (Open n) = 0
-touched_field (Add id level) = 0
-touched_field (Remove id) = 0
-touched_field (Touch f) = f
-touched_field Plan = 0
-touched_field (Change id level) = 0
-touched_field (Enter f b) = f
-touched_field (Relate id form) = 0
-touched_field (Refused r) = 0
 
 -- ---- the step
 
@@ -94,7 +79,7 @@ pub record LineStep (s : Sheet) (k : ℕ) (command : Command) (tail path rows : 
 -- whatever the formulas and values: no value changes
 abbrev pub PanelStep : Panel → ℕ → Command → List ℕ → List ℕ → List ℕ → Step → Type 0
 PanelStep p k command tail path rows step =
-    (formulas : Formulas) (values : List ℤ) → LineStep (sheet_of p formulas values) k command tail path rows values step
+    (formulas : List Rule) (values : List ℤ) → LineStep (sheet_of p formulas values) k command tail path rows values step
 
 -- the step of a touch
 pub record TouchStep (p : Panel) (k f : ℕ) (path rows : List ℕ) (step : Step) : Type 0 where
@@ -103,7 +88,7 @@ pub record TouchStep (p : Panel) (k f : ℕ) (path rows : List ℕ) (step : Step
 
 -- the step that leaves the panel as it is
 pub record KeptStep (p : Panel) (named : Link) (path rows : List ℕ) (step : Step) : Type 0 where
-  pub is : step ≡ unchanged p.size p.place named (Accepted 0)
+  pub is : step ≡ unchanged p.size p.place named (Ok 0)
   pub path_full : length path ≡ 64
   pub rows_full : length rows ≡ rows_length
 
@@ -119,20 +104,21 @@ DecidedLine p k named tail path rows s Plan = PanelStep p k Plan tail path rows 
 DecidedLine p k named tail path rows s (Relate id form) = PanelStep p k (Relate id form) tail path rows s
 DecidedLine p k named tail path rows s (Refused r) = PanelStep p k (Refused r) tail path rows s
 
--- nothing was asked: the panel and its tables are as they were, and no scan was made; nobody reads the reply
-pub record Unasked (p : Panel) (levels others reads : List ℕ) (before worked : ℕ) (r : Changed) : Type 0 where
-  pub is : r ≡ record { panel = p; reply = Accepted 0; changed = 0 }
-  pub tabled : Tabled p levels others reads
+-- nothing was asked: the panel and its tables are as they were, and no scan was made; nobody reads the answer
+pub record Unasked (p : Panel) (tables : Tables) (before worked : ℕ) (q : Panel) (r : Result ℕ Refusal) : Type 0 where
+  pub is : r ≡ Ok 0
+  pub same : q ≡ p
+  pub tabled : TablesOf p tables
   pub scan : worked ≡ before
 
 -- the change that a line asks was carried out, of another line nothing; `tail` stands beside the command
-abbrev pub ChangedLine : Panel → List ℕ → List ℕ → List ℕ → List ℕ → ℕ → ℕ → Changed → Command → Type 0
-ChangedLine p tail levels others reads before worked r (Change id level) = Changes p id level tail levels others reads before worked r
-ChangedLine p tail levels others reads before worked r (Open n) = Unasked p levels others reads before worked r
-ChangedLine p tail levels others reads before worked r (Add id level) = Unasked p levels others reads before worked r
-ChangedLine p tail levels others reads before worked r (Remove id) = Unasked p levels others reads before worked r
-ChangedLine p tail levels others reads before worked r (Touch f) = Unasked p levels others reads before worked r
-ChangedLine p tail levels others reads before worked r Plan = Unasked p levels others reads before worked r
-ChangedLine p tail levels others reads before worked r (Enter f b) = Unasked p levels others reads before worked r
-ChangedLine p tail levels others reads before worked r (Relate id form) = Unasked p levels others reads before worked r
-ChangedLine p tail levels others reads before worked r (Refused x) = Unasked p levels others reads before worked r
+abbrev pub ChangedLine : Panel → List ℕ → Tables → ℕ → ℕ → Panel → Result ℕ Refusal → Command → Type 0
+ChangedLine p tail tables before worked q r (Change id level) = Changes p id level tail tables before worked q r
+ChangedLine p tail tables before worked q r (Open n) = Unasked p tables before worked q r
+ChangedLine p tail tables before worked q r (Add id level) = Unasked p tables before worked q r
+ChangedLine p tail tables before worked q r (Remove id) = Unasked p tables before worked q r
+ChangedLine p tail tables before worked q r (Touch f) = Unasked p tables before worked q r
+ChangedLine p tail tables before worked q r Plan = Unasked p tables before worked q r
+ChangedLine p tail tables before worked q r (Enter f b) = Unasked p tables before worked q r
+ChangedLine p tail tables before worked q r (Relate id form) = Unasked p tables before worked q r
+ChangedLine p tail tables before worked q r (Refused x) = Unasked p tables before worked q r

@@ -1,183 +1,127 @@
 // The step of one line, by its command; the change that a line asks, and what the line leaves of its link's formula.
 #![tactic(auto)]
 
-ghost use Rattle.std.specs.Prelude.{◌≡◌, ◌≤◌, length};
+ghost use Rattle.std.specs.Prelude.{◌≡◌, ◌≤◌};
 ghost use Rattle.panel.specs.Items.{link_at};
-ghost use Rattle.panel.specs.Answers.{rows_length};
 ghost use Rattle.panel.specs.Commands.{covered_in};
 ghost use Rattle.panel.specs.Outcomes.{unchanged};
 ghost use Rattle.panel.specs.Legal.{Legal};
-ghost use Rattle.tables.specs.Tables.{Tabled};
+ghost use Rattle.tables.specs.Tables.{TablesOf};
+ghost use Rattle.hexadecimal.specs.Hex.{frame_room};
 ghost use Rattle.frames.specs.Frames.{number_of};
 ghost use Rattle.frames.specs.Reading.{tail_of};
-ghost use Rattle.deciding.specs.Lines.{Framed, sets_formula, formula_after, touched_field, DecidedLine, ChangedLine};
+ghost use Rattle.deciding.specs.Lines.{Framed, sets_formula, formula_after, DecidedLine, ChangedLine};
 
-use changing::{Changed, change};
+use changing::change;
 use fieldbytes::read_fields;
-use fieldset::wide;
-use formulas::{Formula, Rule};
+use formulas::Rule;
 use frames::{Command, Line, formula_of};
-use panel::{Link, Panel, ROWS, Reply, Step, unchanged};
+use panel::{Link, Panel, ROWS, Refusal, Reply, Step, unchanged};
 use relating::relate;
+use tables::Tables;
 
 // The step of a line that leaves the panel as it is.
-fn keep(p: Panel, named: Link, reply: Reply) -> Step
-    ensures { result ≡ unchanged p.size p.place named reply }
+fn keep(p: &Panel, named: Link, reply: Reply) -> Step
+    ensures { result ≡ unchanged p.now.size p.now.place named reply }
 {
-    let place = p.place;
-    unchanged(p.size, &place, named, reply)
+    unchanged(p.size, &p.place, named, reply)
 }
 
 // Whether a command may change the formula of the link that it names.
 pub fn sets_formula(command: Command) -> bool
     ensures { result ≡ sets_formula command }
 {
-    match command {
-        Command::Remove(_) => true,
-        Command::Change(_, _) => true,
-        Command::Relate(_, _) => true,
-        _ => false,
-    }
+    matches!(
+        command,
+        Command::Remove(_) | Command::Change(_, _) | Command::Relate(_, _)
+    )
 }
 
-// The fields that a line's link covers, whose field bytes stand behind the third byte of its frame.
-fn covered_by(line: Line) -> u64
-    requires { Framed line × (3 ≤ line.len) }
-    ensures { result ≡ covered_in (tail_of line) }
+// What stands behind the third byte of a line's frame: the field bytes of an add or a change.
+fn tail(line: &Line) -> &[u8]
+    requires { (3 ≤ line.now.len) × (line.now.len ≤ frame_room) }
+    ensures { result.now ≡ tail_of line.now }
 {
-    let bytes = line.frame;
-    let len = line.len;
-    let frame = &bytes[..len];
-    let fields = read_fields(&frame[3..]);
-    fields.covered
+    let frame = &line.frame[..line.len];
+    &frame[3..]
+}
+
+// The fields that a line's link covers, by its field bytes.
+fn covered_by(line: &Line) -> u64
+    requires { (3 ≤ line.now.len) × (line.now.len ≤ frame_room) }
+    ensures { result ≡ covered_in (tail_of line.now) }
+{
+    read_fields(tail(line)).covered
 }
 
 // What a line and its reply leave of the formula of the link that its command names; `covered` are the fields that the link covered before.
-pub fn rule_after(line: Line, reply: Reply, covered: u64, old: Rule) -> Rule
-    requires { Framed line }
-    ensures { result.formula ≡ formula_after line.command (tail_of line) reply covered old.formula }
+pub fn rule_after(line: &Line, reply: Reply, covered: u64, old: Rule) -> Rule
+    requires { Framed line.now }
+    ensures { result ≡ formula_after line.now.command (tail_of line.now) reply covered old }
 {
-    let command = line.command;
     match reply {
-        Reply::Refused(_) => old,
-        Reply::Accepted(_) => match command {
-            Command::Remove(_) => Rule {
-                formula: Formula::None,
-            },
+        Err(_) => old,
+        Ok(_) => match line.command {
+            Command::Remove(_) => None,
             Command::Change(_, _) => {
                 if covered == covered_by(line) {
                     old
                 } else {
-                    Rule {
-                        formula: Formula::None,
-                    }
+                    None
                 }
             }
-            Command::Relate(_, form) => {
-                let formula = formula_of(line, form);
-                Rule { formula: formula }
-            }
+            Command::Relate(_, form) => formula_of(line, form),
             _ => old,
         },
-    }
-}
-
-// The field that a command touches; 0 where it touches none.
-fn touched(command: Command) -> u8
-    ensures { result ≡ touched_field command }
-{
-    match command {
-        Command::Touch(f) => f,
-        Command::Enter(f, _) => f,
-        _ => 0,
     }
 }
 
 // The step of a line by its command, but for a removal and a change, for which it leaves the panel as it is; for a value that is entered, the step of
 // its touch. `named` is the link of the number that the command names.
 pub fn decide_line(
-    p: Panel,
+    p: &Panel,
     named: Link,
-    levels: &[u8; 64],
-    others: &[u64; 64],
-    reads: &[u64; 64],
-    line: Line,
+    tables: &Tables,
+    line: &Line,
     path: &mut [u8; 64],
     rows: &mut [u8; ROWS],
 ) -> Step
-    requires legal { Legal p × Tabled p levels.now others.now reads.now × (named ≡ link_at p.links (number_of line.command)) }
-    requires framed { Framed line × (length path.old ≡ 64) × (length rows.old ≡ rows_length) }
-    ensures { DecidedLine p (number_of line.command) named (tail_of line) path.new rows.new result line.command }
+    requires legal { Legal p.now × TablesOf p.now tables.now × (named ≡ link_at p.now.links (number_of line.now.command)) }
+    requires framed { Framed line.now }
+    ensures { DecidedLine p.now (number_of line.now.command) named (tail_of line.now) path.new rows.new result line.now.command }
 {
-    let command = line.command;
-    match command {
+    match line.command {
         Command::Open(n) => opening::open(p, named, n),
-        Command::Add(id, level) => {
-            let bytes = line.frame;
-            let len = line.len;
-            let frame = &bytes[..len];
-            adding::add(
-                p,
-                named,
-                levels,
-                others,
-                reads,
-                id,
-                level,
-                &frame[3..],
-                path,
-            )
-        }
-        Command::Remove(_) => keep(p, named, Reply::Accepted(0)),
-        Command::Change(_, _) => keep(p, named, Reply::Accepted(0)),
+        Command::Add(id, level) => adding::add(p, named, tables, id, level, tail(line), path),
+        Command::Remove(_) | Command::Change(_, _) => keep(p, named, Ok(0)),
         Command::Plan => {
-            let reply = planning::plan(p, levels, others, reads, rows);
+            let reply = planning::plan(p, tables, rows);
             keep(p, named, reply)
         }
         Command::Relate(id, form) => {
             let reply = relate(p, named, id, formula_of(line, form));
             keep(p, named, reply)
         }
-        Command::Refused(r) => keep(p, named, Reply::Refused(r)),
-        // a touch, or a value that is entered: one call, so that the compiler inlines it
-        _ => touching::touch(p, named, levels, others, reads, touched(command), path),
+        Command::Refused(r) => keep(p, named, Err(r)),
+        // one call, so that the compiler inlines it
+        Command::Touch(f) | Command::Enter(f, _) => touching::touch(p, named, tables, f, path),
     }
 }
 
-// The panel and the reply after the change that a line asks, with the panel's tables. Where the removal makes a scan, `worked` becomes the number of
-// strengths that were worked out for it. A line that asks no change leaves all as it is; its reply is not this one.
+// Carries out the change that a line asks, in the panel and its tables: the fields that got another setter, or the refusal, where both stay as they were.
+// Where the removal makes a scan, `worked` becomes the number of strengths that were worked out for it. A line that asks no change leaves all as it is.
 pub fn changed(
-    p: Panel,
-    levels: &mut [u8; 64],
-    others: &mut [u64; 64],
-    reads: &mut [u64; 64],
-    line: Line,
+    p: &mut Panel,
+    tables: &mut Tables,
+    line: &Line,
     worked: &mut u8,
-) -> Changed
-    requires { Legal p × Tabled p levels.old others.old reads.old × Framed line }
-    ensures { ChangedLine p (tail_of line) levels.new others.new reads.new worked.old worked.new result line.command }
+) -> Result<u64, Refusal>
+    requires { Legal p.old × TablesOf p.old tables.old × Framed line.now }
+    ensures { ChangedLine p.old (tail_of line.now) tables.new worked.old worked.new p.new result line.now.command }
 {
-    let command = line.command;
-    let Command::Change(id, level) = command else {
-        return Changed {
-            panel: p,
-            reply: Reply::Accepted(0),
-            changed: 0,
-        };
+    let Command::Change(id, level) = line.command else {
+        return Ok(0);
     };
-    let named = p.links[wide(id % 128)];
-    let bytes = line.frame;
-    let len = line.len;
-    let frame = &bytes[..len];
-    change(
-        p,
-        named,
-        levels,
-        others,
-        reads,
-        id,
-        level,
-        &frame[3..],
-        worked,
-    )
+    let named = p.links[usize::from(id % 128)];
+    change(p, named, tables, id, level, tail(line), worked)
 }

@@ -1,14 +1,16 @@
 -- The checks of a header: what a number that was read says of its text; each check of BadHeader alone, and all of them together; and what the header then
 -- gives, by the checks in their order. Assumes nothing.
-use mathlib.Core.Path.{◌≡◌, refl, sym, ap}
+use mathlib.Core.Path.{◌≡◌, refl, sym, ap, ap₂, ◌∙◌}
 use mathlib.Core.Bool.{Bool, true, false, not, ◌&&◌, ◌||◌, cond, true≢false, or-true, and-false}
 use mathlib.Core.List.{List, [], ◌∷◌}
-use mathlib.Core.Option.{Option, none, some}
+use mathlib.Core.Option.{Option as Maybe, none, some}
 use mathlib.Core.Logic.{◌≢◌}
 use Prim.Native.Nat.{ℕ, zero, suc, ◌+◌, ◌*◌, ◌≤◌, ◌<◌}
 use native.Mathlib.Omega.{arith}
+use Rattle.std.specs.Prelude.{Option, Some, None}
+use Rattle.std.specs.Option.{option_eq}
 use lib.Dec.{leb, ltb, eqb, eqb-suc-zero}
-use lib.ListN.{length, drop}
+use lib.ListN.{length, take, drop}
 use borrow.Author.Tests.{leb-true, not-false, lt-ltb, le-ltb, le-leb, lt-leb, eq-eqb, ne_eqb, ltb-false}
 use Rattle.edf.specs.Texts.{is_plain, number_of}
 use Rattle.fieldset.proofs.Tests.{and_left, and_right, or_left, or_right}
@@ -17,7 +19,7 @@ use Rattle.panel.specs.declared.Refusal.TheVariants.{BadHeader, UnclearUnit, Flo
 use Rattle.panel.specs.Answers.{refusal_bytes}
 use Rattle.panel.proofs.Answers.{refusals_apart}
 use Rattle.edf.specs.Header.{length_text, count_text, count_of, header_length, flows_of, is_bad_header, has_unclear, is_bad_count, refusal_for}
-use Rattle.edf.specs.Answers.{number_read, signals_read, header_read}
+use Rattle.edf.specs.Answers.{number_values, number_read, signals_read, header_read}
 
 -- ---- numbers
 
@@ -36,14 +38,20 @@ other_read s e = go (is_plain s) e where
   go true h = let z : ◌≡◌ {A = ℕ} 0 1 = cc in absurd (omega arith)
   go false h = refl
 
--- a header field that says a number
-pub says_number : (s : List ℕ) (n m : ℕ) → n ∷ [] ≡ number_read s → eqb n m ≡ (is_plain s && eqb (number_of s) m)
-says_number s n m e =
-    let r = plain_read s n e in
-    rw r.0 (ap (λ (x : ℕ). eqb x m) r.1)
+-- whether a header field says this number
+pub says_number : (s : List ℕ) (r : Option ℕ) (m : ℕ) → number_values r ≡ number_read s → option_eq eqb r (Some m) ≡ (is_plain s && eqb (number_of s) m)
+says_number s None m e = rw (other_read s e) refl
+says_number s (Some n) m e = let r = plain_read s n e in rw r.0 (ap (λ (x : ℕ). eqb x m) r.1)
 
-pub no_number : (s : List ℕ) (m : ℕ) → [] ≡ number_read s → false ≡ (is_plain s && eqb (number_of s) m)
-no_number s m e = rw (other_read s e) refl
+-- where the number of bytes in the header stands, and whether it is this one
+pub length_is : (file : List ℕ) → take 8 (drop 184 file) ≡ length_text file
+unfolding length_text
+length_is file = refl
+
+pub says_length : (file s : List ℕ) (r : Option ℕ) (n : ℕ) → number_values r ≡ number_read s → s ≡ length_text file → n ≡ count_of file
+    → option_eq eqb r (Some (256 * (n + 1))) ≡ (is_plain (length_text file) && eqb (number_of (length_text file)) (256 * (count_of file + 1)))
+says_length file s r n h t e =
+    says_number s r (256 * (n + 1)) h ∙ ap₂ (λ (x : List ℕ) (k : ℕ). is_plain x && eqb (number_of x) (256 * (k + 1))) t e
 
 -- ---- BadHeader
 
@@ -193,10 +201,10 @@ module _ (file : List ℕ) where
 
 -- ---- what was given of a header
 
-pub given_flows : (k n : ℕ) (r : Option Refusal) → 0x00 ∷ k ∷ [] ≡ header_read r n → (r ≡ none) × (k ≡ n)
+pub given_flows : (k n : ℕ) (r : Maybe Refusal) → 0x00 ∷ k ∷ [] ≡ header_read r n → (r ≡ none) × (k ≡ n)
 given_flows k n none e = (refl, cc)
 given_flows k n (some r) e = let z : ◌≡◌ {A = ℕ} 0 255 = cc in absurd (omega arith)
 
-pub given_refusal : (s : Refusal) (n : ℕ) (r : Option Refusal) → 0xFF ∷ refusal_bytes s ≡ header_read r n → r ≡ some s
+pub given_refusal : (s : Refusal) (n : ℕ) (r : Maybe Refusal) → 0xFF ∷ refusal_bytes s ≡ header_read r n → r ≡ some s
 given_refusal s n none e = let z : ◌≡◌ {A = ℕ} 255 0 = cc in absurd (omega arith)
 given_refusal s n (some r) e = ap some (refusals_apart r s (sym (ap (λ (b : List ℕ). drop 1 b) e)))

@@ -9,6 +9,11 @@ unfoldable pub are_spaces : List ℕ → Bool
 are_spaces [] = true
 are_spaces (c ∷ s) = eqb c (code " ") && are_spaces s
 
+-- "trailing spaces dropped"
+unfoldable pub dropped : List ℕ → List ℕ
+dropped [] = []
+dropped (c ∷ s) = cond (are_spaces (c ∷ s)) [] (c ∷ dropped s)
+
 -- ---- plain numbers
 
 unfoldable pub is_decimal : ℕ → Bool

@@ -1,9 +1,9 @@
 // The header of a European Data Format file: how many of its signals are airflow.
 #![tactic(auto)]
 
-ghost use Rattle.std.specs.Prelude.{◌≡◌, ◌&&◌, map, ◌≤◌, eqb, length, drop};
+ghost use Rattle.std.specs.Prelude.{◌≡◌, ◌≤◌, length, true, false, MatchOption};
 ghost use Rattle.fieldset.specs.Numbers.{count, any};
-ghost use Rattle.edf.specs.Texts.{are_spaces, is_decimal, is_plain, number_of, is_text, is_either, is_flow, lower, is_unclear};
+ghost use Rattle.edf.specs.Texts.{dropped, is_flow, is_unclear};
 ghost use Rattle.edf.specs.Header.{header_length, unit_text, flows_of, refusal_for};
 ghost use Rattle.edf.specs.Answers.{number_values, number_read, signals_read, unit_number, unit_read, header_bytes, header_read};
 
@@ -30,13 +30,6 @@ const SIGNAL_LIMIT: usize = 254;
 // The greatest number of flows.
 const FLOW_LIMIT: usize = 32;
 
-// What a header field says: a plain number, or something else.
-#[derive(Clone, Copy)]
-enum Number {
-    Plain(usize),
-    NotPlain,
-}
-
 // What a unit is: one of airflow, one of these but for letter case, or another.
 #[derive(Clone, Copy)]
 enum Unit {
@@ -45,219 +38,95 @@ enum Unit {
     Other,
 }
 
-// What a header gives: how many signals are airflow, or why it is refused.
-#[derive(Clone, Copy)]
-pub enum Header {
-    Flows(u8),
-    Refused(Refusal),
-}
-
-// Whether only spaces stand from a position on.
-fn spaces_from(s: &[u8], from: usize) -> bool
-    ensures { result ≡ are_spaces (drop from s.now) }
+// A header field, trailing spaces dropped.
+fn trimmed(field: &[u8]) -> &[u8]
+    ensures { result.now ≡ dropped field.now }
 {
-    let mut i = from;
-    while i < s.len() {
-        if s[i] != b' ' {
-            return false;
-        }
-        i += 1;
+    let mut text = field;
+    while let [front @ .., b' '] = text {
+        text = front;
     }
-    true
-}
-
-// Whether a character is a decimal digit.
-fn is_decimal(c: u8) -> bool
-    ensures { result ≡ is_decimal c }
-{
-    if c < b'0' { false } else { c <= b'9' }
+    text
 }
 
 // A plain number: one or more digits, then only spaces.
-fn read_number(s: &[u8]) -> Number
-    requires { length s.now ≤ 8 }
-    ensures { number_values result ≡ number_read s.now }
+fn read_number(field: &[u8]) -> Option<usize>
+    requires { length field.now ≤ 8 }
+    ensures { number_values result ≡ number_read field.now }
 {
+    let digits = trimmed(field);
+    if digits.is_empty() {
+        return None;
+    }
     let mut n = 0;
-    let mut i = 0;
-    while i < s.len() && is_decimal(s[i]) {
-        n = 10 * n + ((s[i] - b'0') as usize);
-        i += 1;
-    }
-    if i == 0 {
-        return Number::NotPlain;
-    }
-    if spaces_from(s, i) {
-        Number::Plain(n)
-    } else {
-        Number::NotPlain
-    }
-}
-
-// Whether a text stands at the start, and then only spaces.
-fn is_text(t: &[u8], s: &[u8]) -> bool
-    ensures { result ≡ is_text t.now s.now }
-{
-    let mut i = 0;
-    while i < t.len() {
-        if i >= s.len() {
-            return false;
+    for c in digits {
+        if !c.is_ascii_digit() {
+            return None;
         }
-        if t[i] != s[i] {
-            return false;
-        }
-        i += 1;
+        n = 10 * n + usize::from(*c - b'0');
     }
-    spaces_from(s, i)
-}
-
-// A letter in lower case.
-fn lower(c: u8) -> u8
-    ensures { result ≡ lower c }
-{
-    if c < b'A' {
-        return c;
-    }
-    if c <= b'Z' { c + 32 } else { c }
-}
-
-// A unit with its letters in lower case.
-fn lowered(s: &[u8]) -> [u8; WIDTH]
-    requires { length s.now ≡ 8 }
-    ensures { result ≡ map lower s.now }
-{
-    let mut low = [0u8; WIDTH];
-    let mut i = 0;
-    while i < WIDTH {
-        low[i] = lower(s[i]);
-        i += 1;
-    }
-    low
-}
-
-// Whether one of two texts stands at the start, and then only spaces.
-fn is_either(a: &[u8], b: &[u8], s: &[u8]) -> bool
-    ensures { result ≡ is_either a.now b.now s.now }
-{
-    if is_text(a, s) { true } else { is_text(b, s) }
+    Some(n)
 }
 
 // What a unit is.
-fn read_unit(s: &[u8]) -> Unit
-    requires { length s.now ≡ 8 }
-    ensures { unit_number result ≡ unit_read s.now }
+fn read_unit(field: &[u8]) -> Unit
+    ensures { unit_number result ≡ unit_read field.now }
 {
-    if is_either(b"L/min", b"L/s", s) {
-        return Unit::Flow;
-    }
-    let low = lowered(s);
-    if is_either(b"l/min", b"l/s", &low) {
+    let unit = trimmed(field);
+    if unit == b"L/min".as_slice() || unit == b"L/s".as_slice() {
+        Unit::Flow
+    } else if unit.eq_ignore_ascii_case(b"L/min") || unit.eq_ignore_ascii_case(b"L/s") {
         Unit::Unclear
     } else {
         Unit::Other
     }
 }
 
-// What the units of the signals are: how many are airflow, and whether one is unclear.
-#[derive(Clone, Copy)]
-struct Units {
-    flows: usize,
-    unclear: bool,
-}
-
-// The units of n signals.
-fn read_units(file: &[u8], n: usize) -> Units
+// How many of n signals are airflow; none where a unit is unclear.
+fn read_units(file: &[u8], n: usize) -> Option<usize>
     requires { header_length n ≤ length file.now }
-    ensures flows_value { result.flows ≡ count (λ j. is_flow (unit_text file.now n j)) n }
-    ensures unclear_value { result.unclear ≡ any (λ j. is_unclear (unit_text file.now n j)) n }
+    ensures { MatchOption result (any (λ j. is_unclear (unit_text file.now n j)) n ≡ true)
+        (λ k. (any (λ j. is_unclear (unit_text file.now n j)) n ≡ false) × (k ≡ count (λ j. is_flow (unit_text file.now n j)) n)) }
 {
-    let first = BLOCK + n * BEFORE_UNITS;
+    let start = BLOCK + n * BEFORE_UNITS;
     let mut flows = 0;
-    let mut unclear = false;
-    let mut j = 0;
-    while j < n {
-        let at = first + j * WIDTH;
-        let u = read_unit(&file[at..at + WIDTH]);
-        match u {
-            Unit::Flow => {
-                flows += 1;
-            }
-            Unit::Unclear => {
-                unclear = true;
-            }
+    for unit in file[start..start + n * WIDTH].chunks_exact(WIDTH) {
+        match read_unit(unit) {
+            Unit::Flow => flows += 1,
+            Unit::Unclear => return None,
             Unit::Other => {}
         }
-        j += 1;
     }
-    Units {
-        flows: flows,
-        unclear: unclear,
-    }
-}
-
-// Whether a header field says this plain number.
-fn is_number(s: &[u8], m: usize) -> bool
-    requires { length s.now ≤ 8 }
-    ensures { result ≡ is_plain s.now && eqb (number_of s.now) m }
-{
-    let x = read_number(s);
-    match x {
-        Number::Plain(n) => n == m,
-        Number::NotPlain => false,
-    }
+    Some(flows)
 }
 
 // The number of signals; none where the header is refused with BadHeader.
-fn signals(file: &[u8]) -> Number
+fn signals(file: &[u8]) -> Option<usize>
     ensures { number_values result ≡ signals_read file.now }
 {
     if file.len() < BLOCK {
-        return Number::NotPlain;
+        return None;
     }
-    let count = read_number(&file[COUNT_AT..BLOCK]);
-    match count {
-        Number::Plain(n) => {
-            if n < 1 {
-                return Number::NotPlain;
-            }
-            if SIGNAL_LIMIT < n {
-                return Number::NotPlain;
-            }
-            let length = BLOCK * (n + 1);
-            if file.len() < length {
-                return Number::NotPlain;
-            }
-            if is_number(&file[LENGTH_AT..LENGTH_AT + WIDTH], length) {
-                Number::Plain(n)
-            } else {
-                Number::NotPlain
-            }
-        }
-        Number::NotPlain => Number::NotPlain,
+    let n = read_number(&file[COUNT_AT..BLOCK])?;
+    if !(1..=SIGNAL_LIMIT).contains(&n) {
+        return None;
     }
+    let length = BLOCK * (n + 1);
+    if file.len() < length || read_number(&file[LENGTH_AT..LENGTH_AT + WIDTH]) != Some(length) {
+        return None;
+    }
+    Some(n)
 }
 
 // How many signals of a file are airflow, or why it is refused.
 // The contract rules out, for instance, a 33rd flow and a unit with a space before it (must-fail: flow_33_taken, leading_spaces_dropped).
-pub fn read_header(file: &[u8]) -> Header
+pub fn read_header(file: &[u8]) -> Result<u8, Refusal>
     ensures { header_bytes result ≡ header_read (refusal_for file.now) (flows_of file.now) }
 {
-    let count = signals(file);
-    match count {
-        Number::Plain(n) => {
-            let units = read_units(file, n);
-            if units.unclear {
-                return Header::Refused(Refusal::UnclearUnit);
-            }
-            let k = units.flows;
-            if k == 0 {
-                return Header::Refused(Refusal::FlowCount);
-            }
-            if FLOW_LIMIT < k {
-                return Header::Refused(Refusal::FlowCount);
-            }
-            Header::Flows(k as u8)
-        }
-        Number::NotPlain => Header::Refused(Refusal::BadHeader),
+    let n = signals(file).ok_or(Refusal::BadHeader)?;
+    let flows = read_units(file, n).ok_or(Refusal::UnclearUnit)?;
+    if !(1..=FLOW_LIMIT).contains(&flows) {
+        return Err(Refusal::FlowCount);
     }
+    Ok(flows as u8)
 }

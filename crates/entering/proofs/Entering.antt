@@ -19,8 +19,8 @@ use Rattle.panel.specs.declared.Link.{Link}
 use Rattle.panel.specs.declared.Panel.{Panel}
 use Rattle.panel.specs.declared.Refusal.{Refusal}
 use Rattle.panel.specs.declared.Refusal.TheVariants.{OutOfRange, FieldDriven}
-use Rattle.panel.specs.declared.Reply.{Reply}
-use Rattle.panel.specs.declared.Reply.TheVariants.{Accepted, Refused}
+use Rattle.panel.specs.Answers.{Reply}
+use Rattle.std.specs.Prelude.{Ok, Err}
 use Rattle.panel.specs.declared.Step.{Step}
 use Rattle.panel.specs.Items.{link_at}
 use Rattle.panel.specs.Answers as answers
@@ -35,12 +35,11 @@ use Rattle.panel.proofs.Outcomes.{takes_size}
 use Rattle.panel.proofs.Moved.{counted_none}
 use Rattle.panel.proofs.Performed.{Keeps, legal_performed}
 use Rattle.tables.specs.Tables.{Tabled}
-use Rattle.tables.proofs.Tables.{panel_among, panel_loopless, panel_reads}
+use Rattle.tables.proofs.Agreement.{panel_among, panel_loopless, panel_reads}
 use Rattle.taking.proofs.Taking.{Taken}
 use Rattle.values.specs.Changes.{revalued}
 use Rattle.values.proofs.Changes.{revalued_same}
-use Rattle.formulas.specs.declared.Formulas.{Formulas}
-use Rattle.formulas.specs.Formulas.{formula_of, Usable}
+use Rattle.formulas.specs.Formulas.{Rule, formula_of, Usable}
 use Rattle.evaluation.specs.Runs.{Run, run, Ready, Stored}
 use Rattle.evaluation.proofs.Settled.{held_usable}
 use Rattle.evaluation.proofs.Planned.{run_cong}
@@ -59,18 +58,18 @@ module _ {p : Panel} (h : Legal p) {levels others reads : List ℕ} (t : Tabled 
   reads_same f i l k = ap (λ (m : ℕ). member m i) (panel_reads p h levels others reads t f l)
 
   -- it is the run over the panel's plan
-  table_run : (formulas : Formulas) (v : List ℤ)
-      → run (formula_of formulas.of p.setter) (at reads) (order (at reads) p.size) v ≡ evaluated p formulas v
+  table_run : (formulas : List Rule) (v : List ℤ)
+      → run (formula_of formulas p.setter) (at reads) (order (at reads) p.size) v ≡ evaluated p formulas v
   unfolding plan_of
   table_run formulas v =
-      run_cong (formula_of formulas.of p.setter) (at reads) (setter_reads p) (order (at reads) p.size) v
+      run_cong (formula_of formulas p.setter) (at reads) (setter_reads p) (order (at reads) p.size) v
       (all_map (λ f. f < p.size) (λ f. at reads f ≡ setter_reads p f) (panel_reads p h levels others reads t)
       (order (at reads) p.size) (order_low (at reads) p.size h.few))
-      ∙ ap (λ (fs : List ℕ). run (formula_of formulas.of p.setter) (setter_reads p) fs v) (order_cong (at reads) (setter_reads p) p.size reads_same)
+      ∙ ap (λ (fs : List ℕ). run (formula_of formulas p.setter) (setter_reads p) fs v) (order_cong (at reads) (setter_reads p) p.size reads_same)
 
   -- what it needs
-  ready : (formulas : Formulas) → ((f : ℕ) → f < p.size → Usable (formula_of formulas.of p.setter f) (setter_reads p f))
-      → Ready (formula_of formulas.of p.setter) reads p.size
+  ready : (formulas : List Rule) → ((f : ℕ) → f < p.size → Usable (formula_of formulas p.setter f) (setter_reads p f))
+      → Ready (formula_of formulas p.setter) reads p.size
   ready formulas usable = record {
     few = h.few;
     among = panel_among p h levels others reads t;
@@ -112,10 +111,10 @@ module _ (s : Sheet) (h : LegalSheet s) (f : ℕ) (v : ℤ) where
 
   -- a refusal leaves the sheet
   left : (touch : Step) (named : Link) → named ≡ link_at s.panel.links 0 → (x : Refusal) → performed s (entering f v) ≡ refused s x
-      → Entered s f v touch s.values (unchanged s.panel.size s.panel.place named (Refused x))
+      → Entered s f v touch s.values (unchanged s.panel.size s.panel.place named (Err x))
   left touch named same x e = record {
     takes = λ path d.
-        takes_size s.panel 0 named (Refused x) same path d.takes.path_of.full s.panel.size _ (ap (λ (a : Answer). a.sheet.panel) (sym e));
+        takes_size s.panel 0 named (Err x) same path d.takes.path_of.full s.panel.size _ (ap (λ (a : Answer). a.sheet.panel) (sym e));
     reply = ap (λ (a : Answer). a.reply) (sym e);
     uncounted = tt;
     revalued_are = sym (revalued_same s.panel.size s.values);
@@ -126,7 +125,7 @@ module _ (s : Sheet) (h : LegalSheet s) (f : ℕ) (v : ℤ) where
     abbrev shown : Reply → List ℕ
     shown r = reply_bytes (counted r (redrawn_by step.changed step.revalued gave.panel))
 
-    pub enter_refused : (x : Refusal) → step.reply ≡ Refused x → Entered s f v step s.values step
+    pub enter_refused : (x : Refusal) → step.reply ≡ Err x → Entered s f v step s.values step
     unfolding entered
     enter_refused x e =
         let told : 0xFF ∷ refusal_bytes x ≡ gave.reply = ap shown (sym e) ∙ touches.reply in
@@ -145,7 +144,7 @@ module _ (s : Sheet) (h : LegalSheet s) (f : ℕ) (v : ℤ) where
         same r (inl (e, q)) = q
         same r (inr (e, k)) = absurd (clash r e)
 
-    module _ (m : ℕ) (ok : step.reply ≡ Accepted m) where
+    module _ (m : ℕ) (ok : step.reply ≡ Ok m) where
       accepts : is_refusal gave.reply ≡ false
       accepts = ap is_refusal (sym (ap shown (sym ok) ∙ touches.reply))
 
@@ -166,37 +165,37 @@ module _ (s : Sheet) (h : LegalSheet s) (f : ℕ) (v : ℤ) where
         driven_is : is_driven q f ≡ ltb (at setter f) 128
         driven_is = ap (λ (l : List ℕ). ltb (at l f) 128) (sym t.sets)
 
-        pub enter_driven : ltb (at setter f) 128 ≡ true → Entered s f v step s.values (unchanged s.panel.size s.panel.place named (Refused FieldDriven))
+        pub enter_driven : ltb (at setter f) 128 ≡ true → Entered s f v step s.values (unchanged s.panel.size s.panel.place named (Err FieldDriven))
         unfolding entered
         enter_driven e = left step named same FieldDriven (rw (accepts, driven_is ∙ e) refl)
 
         -- every formula can be computed with
-        pub enter_ready : Ready (formula_of s.formulas.of setter) reads s.panel.size
+        pub enter_ready : Ready (formula_of s.formulas setter) reads s.panel.size
         enter_ready =
             rw t.sets
-            (subst (Ready (formula_of s.formulas.of q.setter) reads) kept.size
+            (subst (Ready (formula_of s.formulas q.setter) reads) kept.size
             (ready legal t.tabled s.formulas
-            (λ g l. held_usable (formula_of s.formulas.of q.setter g) (setter_held q s.formulas legal kept.fits g l))))
+            (λ g l. held_usable (formula_of s.formulas q.setter g) (setter_held q s.formulas legal kept.fits g l))))
 
         module _ (free : ltb (at setter f) 128 ≡ false) {fits : Bool} {after : List ℤ}
-            (st : Stored (run (formula_of s.formulas.of setter) (at reads) (order (at reads) s.panel.size) (set s.values f v)) s.values fits after) where
+            (st : Stored (run (formula_of s.formulas setter) (at reads) (order (at reads) s.panel.size) (set s.values f v)) s.values fits after) where
           abbrev result : Run
           result = evaluated q s.formulas (set s.values f v)
 
-          ran : run (formula_of s.formulas.of setter) (at reads) (order (at reads) s.panel.size) (set s.values f v) ≡ result
+          ran : run (formula_of s.formulas setter) (at reads) (order (at reads) s.panel.size) (set s.values f v) ≡ result
           ran =
-              ap₂ (λ (l : List ℕ) (n : ℕ). run (formula_of s.formulas.of l) (at reads) (order (at reads) n) (set s.values f v)) t.sets (sym kept.size)
+              ap₂ (λ (l : List ℕ) (n : ℕ). run (formula_of s.formulas l) (at reads) (order (at reads) n) (set s.values f v)) t.sets (sym kept.size)
               ∙ table_run legal t.tabled s.formulas (set s.values f v)
 
           answer : performed s (entering f v) ≡ valued s gave.panel result
           unfolding entered
           answer = rw (accepts, driven_is ∙ free) refl
 
-          pub enter_out : fits ≡ false → Entered s f v step after (unchanged s.panel.size s.panel.place named (Refused OutOfRange))
+          pub enter_out : fits ≡ false → Entered s f v step after (unchanged s.panel.size s.panel.place named (Err OutOfRange))
           enter_out e =
               let not_fits : result.fits ≡ false = ap (λ (r : Run). r.fits) (sym ran) ∙ sym st.answer ∙ e in
               let was : after ≡ s.values = st.left ∙ rw (sym st.answer ∙ e) refl in
-              subst (λ (w : List ℤ). Entered s f v step w (unchanged s.panel.size s.panel.place named (Refused OutOfRange))) (sym was)
+              subst (λ (w : List ℤ). Entered s f v step w (unchanged s.panel.size s.panel.place named (Err OutOfRange))) (sym was)
               (left step named same OutOfRange (answer ∙ rw not_fits refl))
 
           pub enter_done : fits ≡ true → (m : ℕ) → m ≡ revalued s.panel.size s.values after → Entered s f v step after (valued_step step m)

@@ -1,7 +1,7 @@
 -- What entering a value promises.
 use Rattle.std.specs.Prelude.{ℕ, ◌≡◌, List, ℤ}
 use Rattle.panel.specs.declared.Panel.{Panel}
-use Rattle.panel.specs.declared.Reply.TheVariants.{Accepted}
+use Rattle.std.specs.Prelude.{Ok}
 use Rattle.panel.specs.declared.Step.{Step}
 use Rattle.panel.specs.Answers.{reply_bytes}
 use Rattle.panel.specs.Commands.{touching}
@@ -22,7 +22,7 @@ pub record SettersOf (p : Panel) (setter reads : List ℕ) : Type 0 where
 abbrev pub valued_step : Step → ℕ → Step
 valued_step s set =
     record {
-      reply = Accepted 0;
+      reply = Ok 0;
       size = s.size;
       place = s.place;
       link = s.link;

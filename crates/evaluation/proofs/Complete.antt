@@ -9,19 +9,18 @@ use native.Mathlib.Decide.{ℕ_discrete}
 use lib.IntN.{ℤ, pos}
 use lib.ListN.{length, set, length-set}
 use lib.Seq.{get_or-set_same, get_or-set_other}
+use Rattle.std.specs.Prelude.{None}
 use Rattle.fieldset.specs.Lists.{In, All}
 use Rattle.fieldset.specs.Fields.{member, with}
 use Rattle.fieldset.proofs.Fields.{member_with_same, member_with_other, within_member}
 use Rattle.values.specs.Limits.{outside, value_at}
-use Rattle.formulas.specs.declared.Formula.{Formula}
-use Rattle.formulas.specs.declared.Formula.TheVariants.{None}
-use Rattle.formulas.specs.Formulas.{computed}
+use Rattle.formulas.specs.Formulas.{Rule, computed}
 use Rattle.evaluation.specs.Runs.{Run, run, Ordered}
 use Rattle.evaluation.proofs.Running.{run_value}
 use Rattle.evaluation.proofs.Settled.{HeldAt, computed_cong}
 
 -- the values w, as a run is to give them: of each of these fields
-pub record Target (formula : ℕ → Formula) (reads : ℕ → ℕ) (w : ℕ → ℤ) (f : ℕ) : Type 0 where
+pub record Target (formula : ℕ → Rule) (reads : ℕ → ℕ) (w : ℕ → ℤ) (f : ℕ) : Type 0 where
   pub computes : w f ≡ computed (formula f) (reads f) f w
   pub within : outside (w f) ≡ false
 
@@ -30,7 +29,7 @@ pub record Meets (w : ℕ → ℤ) (L : ℕ) (fs : List ℕ) (r : Run) : Type 0 
   pub fits : r.fits ≡ true
   pub values : (g : ℕ) → g < 64 → (member L g ≡ true) ⊎ In g fs → value_at r.values g ≡ w g
 
-module _ (formula : ℕ → Formula) (reads covered : ℕ → ℕ) (w : ℕ → ℤ) where
+module _ (formula : ℕ → Rule) (reads covered : ℕ → ℕ) (w : ℕ → ℤ) where
   -- the fields that are listed have their values already, and so has what has no formula
   pub complete : (L : ℕ) (fs : List ℕ) (v : List ℤ) → length v ≡ 64 → Ordered reads L fs → All (HeldAt formula reads covered) fs → All (Target formula reads w) fs
       → ((g : ℕ) → g < 64 → member L g ≡ true → value_at v g ≡ w g) → ((g : ℕ) → In g fs → formula g ≡ None → value_at v g ≡ w g)

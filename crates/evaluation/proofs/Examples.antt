@@ -5,18 +5,18 @@ use mathlib.Core.Bool.{true, false}
 use mathlib.Core.List.{[], ◌∷◌}
 use lib.IntN.{pos, negsuc}
 use lib.ListN.{get_or}
+use Rattle.std.specs.Prelude.{Some, None}
 use Rattle.fieldset.specs.Tables.{at}
 use Rattle.fieldset.specs.Numbers.{lowest}
 use Rattle.fieldset.specs.Fields.{member, without, lowest_of, set_of}
 use Rattle.values.specs.Ratios.{scaled, rounded}
 use Rattle.values.specs.Sums.{sumℤ, total}
-use Rattle.formulas.specs.declared.Formula.{Formula}
-use Rattle.formulas.specs.declared.Formula.TheVariants.{None, Ratio, Sum}
-use Rattle.formulas.specs.Formulas.{computed}
+use Rattle.formulas.specs.declared.Formula.TheVariants.{Ratio, Sum}
+use Rattle.formulas.specs.Formulas.{Rule, computed}
 use Rattle.evaluation.specs.Runs.{run}
 
-formula : ℕ → Formula
-formula f = get_or (None ∷ Ratio 60 1 ∷ Sum 2 ∷ []) f None
+formula : ℕ → Rule
+formula f = get_or (None ∷ Some (Ratio 60 1) ∷ Some (Sum 2) ∷ []) f None
 
 -- field 1 reads field 0, field 2 reads both
 reads : ℕ → ℕ

@@ -9,6 +9,7 @@ use native.Mathlib.Omega.{arith}
 use lib.IntN.{ℤ, pos}
 use lib.ListN.{length, set, take, drop, length-set, length-append}
 use lib.Seq.{get_or-set_same, get_or-set_other, get_or-take, take_at}
+use Rattle.std.specs.Prelude.{None}
 use Rattle.fieldset.specs.Fields.{with}
 use Rattle.fieldset.specs.Tables.{at}
 use Rattle.fieldset.specs.Lists.{All}
@@ -16,9 +17,7 @@ use Rattle.fieldset.proofs.Lists.{all_at, all_map, whole_in}
 use Rattle.values.specs.Limits.{value_at}
 use Rattle.ordering.specs.Order.{following, order, has_loop}
 use Rattle.ordering.proofs.Plan.{Lists, Stops, step, order_low, order_whole, no_loop_length}
-use Rattle.formulas.specs.declared.Formula.{Formula}
-use Rattle.formulas.specs.declared.Formula.TheVariants.{None}
-use Rattle.formulas.specs.Formulas.{computed}
+use Rattle.formulas.specs.Formulas.{Rule, computed}
 use Rattle.evaluation.specs.Runs.{Run, run, Ran, Runnable, Ready, Stored, Ordered, Settled}
 use Rattle.evaluation.proofs.Settled.{HeldAt, run_right, run_keeps}
 
@@ -38,7 +37,7 @@ module _ (reads : ℕ → ℕ) (n : ℕ) (few : n ≤ 64) where
   order_ordered = following_ordered reads n few n 0
 
   -- what holds after x was stored in f, whose setter has no formula, and the plan was run to its end
-  pub plan_settled : (formula : ℕ → Formula) (covered : ℕ → ℕ) (f : ℕ) (x : ℤ) (v : List ℤ) → has_loop reads n ≡ false → length v ≡ 64
+  pub plan_settled : (formula : ℕ → Rule) (covered : ℕ → ℕ) (f : ℕ) (x : ℤ) (v : List ℤ) → has_loop reads n ≡ false → length v ≡ 64
       → ((g : ℕ) → g < n → HeldAt formula reads covered g) → f < 64 → formula f ≡ None
       → (run formula reads (order reads n) (set v f x)).fits ≡ true
       → Settled formula covered n f x v (run formula reads (order reads n) (set v f x)).values
@@ -58,14 +57,14 @@ module _ (reads : ℕ → ℕ) (n : ℕ) (few : n ≤ 64) where
           }
 
 -- a run goes by what the setters of its fields read
-pub run_cong : (formula : ℕ → Formula) (r s : ℕ → ℕ) (fs : List ℕ) (v : List ℤ) → All (λ f. r f ≡ s f) fs → run formula r fs v ≡ run formula s fs v
+pub run_cong : (formula : ℕ → Rule) (r s : ℕ → ℕ) (fs : List ℕ) (v : List ℤ) → All (λ f. r f ≡ s f) fs → run formula r fs v ≡ run formula s fs v
 unfolding run
 run_cong formula r s [] v same = refl
 run_cong formula r s (f ∷ fs) v same = rw (same.0, run_cong formula r s fs (set v f (computed (formula f) (s f) f (value_at v))) same.1) refl
 
 -- ---- the plan in a buffer
 
-module _ {formula : ℕ → Formula} {reads : List ℕ} {n : ℕ} (ready : Ready formula reads n) (listed before : List ℕ) (count : ℕ)
+module _ {formula : ℕ → Rule} {reads : List ℕ} {n : ℕ} (ready : Ready formula reads n) (listed before : List ℕ) (count : ℕ)
     (counted : count ≡ length (order (at reads) n)) (stands : listed ≡ order (at reads) n ++ drop count before) where
   all_listed : count ≡ n
   all_listed = counted ∙ no_loop_length (at reads) n ready.loopless

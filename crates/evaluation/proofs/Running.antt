@@ -9,16 +9,14 @@ use native.Mathlib.Omega.{arith}
 use lib.IntN.{ℤ}
 use lib.ListN.{take, set}
 use lib.Seq.{slice, slice_empty, slice-cons}
+use Rattle.std.specs.Prelude.{Option, Some, None}
 use Rattle.fieldset.specs.Tables.{at}
 use Rattle.values.specs.Limits.{outside, limited_values, limited, value_at}
-use Rattle.values.specs.declared.Limited.{Limited}
-use Rattle.values.specs.declared.Limited.TheVariants.{Value, OutOfRange}
 use Rattle.values.proofs.Limits.{limited_same, limited_none}
-use Rattle.formulas.specs.declared.Formula.{Formula}
-use Rattle.formulas.specs.Formulas.{computed}
+use Rattle.formulas.specs.Formulas.{Rule, computed}
 use Rattle.evaluation.specs.Runs.{Run, run, Runnable, Ran}
 
-module _ (formula : ℕ → Formula) (reads : ℕ → ℕ) where
+module _ (formula : ℕ → Rule) (reads : ℕ → ℕ) where
   pub run_value : (f : ℕ) (fs : List ℕ) (v : List ℤ) → outside (computed (formula f) (reads f) f (value_at v)) ≡ false
       → run formula reads (f ∷ fs) v ≡ run formula reads fs (set v f (computed (formula f) (reads f) f (value_at v)))
   unfolding run
@@ -50,7 +48,7 @@ module _ (formula : ℕ → Formula) (reads : ℕ → ℕ) where
       here : run formula reads (f ∷ slice (suc i) n order) v ≡ run formula reads (take n order) v₀
       here = rw field (rw (slice-cons i n order 0 l ready.long) at inv.whole)
 
-      pub running_step : {o : Limited} {x : ℤ} → limited_values o ≡ limited (computed (formula f) (reads f) f (value_at v)) → o ≡ Value x → Running (set v f x) (i + 1)
+      pub running_step : {o : Option ℤ} {x : ℤ} → limited_values o ≡ limited (computed (formula f) (reads f) f (value_at v)) → o ≡ Some x → Running (set v f x) (i + 1)
       running_step e d =
           let (same, within) = limited_same (computed (formula f) (reads f) f (value_at v)) (ap limited_values (sym d) ∙ e) in
           record {
@@ -58,7 +56,7 @@ module _ (formula : ℕ → Formula) (reads : ℕ → ℕ) where
             whole = rw (add-one i, same) (sym (run_value f (slice (suc i) n order) v within) ∙ here);
           }
 
-      pub running_out : {o : Limited} → limited_values o ≡ limited (computed (formula f) (reads f) f (value_at v)) → o ≡ OutOfRange
+      pub running_out : {o : Option ℤ} → limited_values o ≡ limited (computed (formula f) (reads f) f (value_at v)) → o ≡ None
           → Ran (run formula reads (take n order) v₀) false v
       running_out e d =
           let out = limited_none (computed (formula f) (reads f) f (value_at v)) (ap limited_values (sym d) ∙ e) in

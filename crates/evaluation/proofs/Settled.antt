@@ -11,6 +11,7 @@ use lib.Dec.{eqb, ltb}
 use lib.IntN.{ℤ, pos, ◌+ℤ◌, ◌-ℤ◌, +ℤ_comm, -ℤ-+ℤ_cancel, +ℤ-neg_ℤ_cancel}
 use lib.ListN.{length, set, length-set, get_or-eq_default}
 use lib.Seq.{get_or-set_same, get_or-set_other, set-get_or, set_out}
+use Rattle.std.specs.Prelude.{Some, None}
 use Rattle.fieldset.specs.Lists.{In, All}
 use Rattle.fieldset.proofs.Lists.{all_in}
 use Rattle.fieldset.specs.Fields.{member, with, without, lowest_of, size}
@@ -22,9 +23,8 @@ use Rattle.values.specs.Ratios.{scaled, Nearest}
 use Rattle.values.specs.Sums.{total}
 use Rattle.values.proofs.Ratios.{scaled_nearest, nearest_scaled}
 use Rattle.values.proofs.Sums.{total_cong, total_without, total_members}
-use Rattle.formulas.specs.declared.Formula.{Formula}
-use Rattle.formulas.specs.declared.Formula.TheVariants.{None, Ratio, Sum}
-use Rattle.formulas.specs.Formulas.{computed, Usable, Right, Held}
+use Rattle.formulas.specs.declared.Formula.TheVariants.{Ratio, Sum}
+use Rattle.formulas.specs.Formulas.{Rule, computed, Usable, Right, Held}
 use Rattle.evaluation.specs.Runs.{Run, run, Ordered}
 use Rattle.formulas.proofs.Accepting.{ratio_accepted, sum_accepted}
 use Rattle.evaluation.proofs.Running.{run_value, run_out}
@@ -69,7 +69,7 @@ without_swap m f g i l =
     swap true false c = sym (and-false c)
     swap false b c = refl
 
-module _ {formula : Formula} {covered reads f : ℕ} (held : Held formula covered reads f) where
+module _ {formula : Rule} {covered reads f : ℕ} (held : Held formula covered reads f) where
   field_low : f < 64
   field_low = member_lt covered held.small f held.covers
 
@@ -92,21 +92,21 @@ module _ {formula : Formula} {covered reads f : ℕ} (held : Held formula covere
 
 -- ---- what is computed depends on the read fields alone, and is right
 
-pub ratio_some : {p q : ℕ} → Ratio p q ≢ None
+pub ratio_some : {p q : ℕ} → Some (Ratio p q) ≢ None
 ratio_some e = let z : ◌≡◌ {A = ℕ} 0 1 = cc in omega arith
 
-pub sum_some : {g : ℕ} → Sum g ≢ None
+pub sum_some : {g : ℕ} → Some (Sum g) ≢ None
 sum_some e = let z : ◌≡◌ {A = ℕ} 0 1 = cc in omega arith
 
 -- what is held can be computed
-pub held_usable : {covered reads f : ℕ} (formula : Formula) → (formula ≢ None → Held formula covered reads f) → Usable formula reads
+pub held_usable : {covered reads f : ℕ} (formula : Rule) → (formula ≢ None → Held formula covered reads f) → Usable formula reads
 unfolding Usable
 held_usable None held = tt
-held_usable {covered} {reads} (Ratio p q) held =
+held_usable {covered} {reads} (Some (Ratio p q)) held =
     let h = held ratio_some in
     let a = ratio_accepted p q covered h.fitting in
     (a.0, (a.1.0, not_empty reads (omega (arith, reads_size h, a.1.1))))
-held_usable {covered} (Sum g) held = (sum_accepted g covered (held sum_some).fitting).0
+held_usable {covered} (Some (Sum g)) held = (sum_accepted g covered (held sum_some).fitting).0
 
 -- a sum less what is left
 take_back : (a b : ℤ) → b +ℤ (a -ℤ b) ≡ a
@@ -114,19 +114,19 @@ take_back a b = +ℤ_comm b (a -ℤ b) ∙ -ℤ-+ℤ_cancel a b
 
 module _ {covered reads f : ℕ} (v w : ℕ → ℤ) (agree : (g : ℕ) → g < 64 → member reads g ≡ true → v g ≡ w g) where
   -- values that agree on them, and on f where there is no formula, give the same
-  pub computed_cong : (formula : Formula) → (formula ≢ None → Held formula covered reads f) → (formula ≡ None → v f ≡ w f)
+  pub computed_cong : (formula : Rule) → (formula ≢ None → Held formula covered reads f) → (formula ≡ None → v f ≡ w f)
       → computed formula reads f v ≡ computed formula reads f w
   unfolding computed
   computed_cong None held e = e refl
-  computed_cong (Ratio p q) held' e =
+  computed_cong (Some (Ratio p q)) held' e =
       let held = held' ratio_some in
       let some : 0 < reads = not_empty reads (omega (arith, reads_size held, (ratio_accepted p q covered held.fitting).1.1)) in
       let same : v (lowest_of reads) ≡ w (lowest_of reads) =
       agree (lowest_of reads) (lowest_of_lt reads (reads_small held) some) (lowest_of_member reads (reads_small held) some) in
       rw same
-  computed_cong (Sum g) held' e = go (held' sum_some) (ℕ_discrete f g)
+  computed_cong (Some (Sum g)) held' e = go (held' sum_some) (ℕ_discrete f g)
     where
-      go : Held (Sum g) covered reads f → Dec (f ≡ g)
+      go : Held (Some (Sum g)) covered reads f → Dec (f ≡ g)
           → cond (eqb f g) (total v reads) (v g -ℤ total v (without reads g)) ≡ cond (eqb f g) (total w reads) (w g -ℤ total w (without reads g))
       go held (yes d) = rw (eq-eqb f g d) (total_cong v w reads agree)
       go held (no d) =
@@ -135,26 +135,26 @@ module _ {covered reads f : ℕ} (v w : ℕ → ℤ) (agree : (g : ℕ) → g < 
           (ap (λ (x : ℤ). w g -ℤ x) (total_cong v w (without reads g) (λ i l t. agree i l (part reads g i l t))))
 
   -- computed before the run ends, right for the values at its end
-  computed_agrees : (formula : Formula) → (formula ≢ None → Held formula covered reads f) → w f ≡ computed formula reads f v → w f ≡ computed formula reads f w
+  computed_agrees : (formula : Rule) → (formula ≢ None → Held formula covered reads f) → w f ≡ computed formula reads f v → w f ≡ computed formula reads f w
   unfolding computed
   computed_agrees None held e = refl
-  computed_agrees (Ratio p q) held e = e ∙ computed_cong (Ratio p q) held (λ n. absurd (ratio_some n))
-  computed_agrees (Sum g) held e = e ∙ computed_cong (Sum g) held (λ n. absurd (sum_some n))
+  computed_agrees (Some (Ratio p q)) held e = e ∙ computed_cong (Some (Ratio p q)) held (λ n. absurd (ratio_some n))
+  computed_agrees (Some (Sum g)) held e = e ∙ computed_cong (Some (Sum g)) held (λ n. absurd (sum_some n))
 
 module _ {covered reads f : ℕ} (w : ℕ → ℤ) where
-  computed_right : (formula : Formula) → (formula ≢ None → Held formula covered reads f) → w f ≡ computed formula reads f w → Right formula covered f w
+  computed_right : (formula : Rule) → (formula ≢ None → Held formula covered reads f) → w f ≡ computed formula reads f w → Right formula covered f w
   unfolding computed Right
   computed_right None held e = tt
-  computed_right (Ratio p q) held' e =
+  computed_right (Some (Ratio p q)) held' e =
       λ g l m d.
       let held = held' ratio_some in
       let o : lowest_of reads ≡ g = the_other held (ratio_accepted p q covered held.fitting).1.1 g l m d in (
         λ b. subst (Nearest (w g) p q) (sym (e ∙ rw (o, lt-ltb g f b))) (scaled_nearest (w g) p q (ratio_accepted p q covered held.fitting).1.0),
         λ b. subst (Nearest (w g) q p) (sym (e ∙ rw (o, le-ltb g f (omega arith)))) (scaled_nearest (w g) q p (ratio_accepted p q covered held.fitting).0),
       )
-  computed_right (Sum g) held' e = go (held' sum_some) (ℕ_discrete f g)
+  computed_right (Some (Sum g)) held' e = go (held' sum_some) (ℕ_discrete f g)
     where
-      go : Held (Sum g) covered reads f → Dec (f ≡ g) → w g ≡ total w (without covered g)
+      go : Held (Some (Sum g)) covered reads f → Dec (f ≡ g) → w g ≡ total w (without covered g)
       go held (yes d) = rw (← d) (e ∙ rw (eq-eqb f g d, held.rest))
       go held (no d) =
           let t : total w (without covered g) ≡ total w (without (without covered g) f) +ℤ w f =
@@ -165,12 +165,12 @@ module _ {covered reads f : ℕ} (w : ℕ → ℤ) where
           sym (t ∙ rw (same, here) (take_back (w g) (total w (without reads g))))
 
   -- and what is right is what would be computed
-  pub right_computed : (formula : Formula) → (formula ≢ None → Held formula covered reads f) → Right formula covered f w → w f ≡ computed formula reads f w
+  pub right_computed : (formula : Rule) → (formula ≢ None → Held formula covered reads f) → Right formula covered f w → w f ≡ computed formula reads f w
   unfolding computed Right
   right_computed None held r = refl
-  right_computed (Ratio p q) held' r = go (ltb g f) refl
+  right_computed (Some (Ratio p q)) held' r = go (ltb g f) refl
     where
-      held : Held (Ratio p q) covered reads f
+      held : Held (Some (Ratio p q)) covered reads f
       held = held' ratio_some
 
       some : 0 < reads
@@ -196,9 +196,9 @@ module _ {covered reads f : ℕ} (w : ℕ → ℤ) where
       go false t =
           let over : f < g = below (ltb-false g f t) inside.1 in
           rw t (nearest_scaled (w g) q p (ratio_accepted p q covered held.fitting).0 (w f) (near.1 over))
-  right_computed (Sum g) held' r = go (held' sum_some) (ℕ_discrete f g)
+  right_computed (Some (Sum g)) held' r = go (held' sum_some) (ℕ_discrete f g)
     where
-      go : Held (Sum g) covered reads f → Dec (f ≡ g) → w f ≡ cond (eqb f g) (total w reads) (w g -ℤ total w (without reads g))
+      go : Held (Some (Sum g)) covered reads f → Dec (f ≡ g) → w f ≡ cond (eqb f g) (total w reads) (w g -ℤ total w (without reads g))
       go held (yes d) = rw (eq-eqb f g d, held.rest, d) r
       go held (no d) =
           let t : total w (without covered g) ≡ total w (without (without covered g) f) +ℤ w f =
@@ -220,17 +220,17 @@ set_inside v f g x i d = go (dec_lt f (length v))
     go (no l) = rw d (ap (λ (w : List ℤ). outside (value_at w f)) (set_out v f x (omega arith)) ∙ ap outside (get_or-eq_default v (pos 0) {n = f} (omega arith)))
 
 -- a run to the end, all of whose results are within the limits
-abbrev Ends : (ℕ → Formula) → (ℕ → ℕ) → List ℕ → List ℤ → List ℤ → Type 0
+abbrev Ends : (ℕ → Rule) → (ℕ → ℕ) → List ℕ → List ℤ → List ℤ → Type 0
 Ends formula reads fs v w = run formula reads fs v ≡ record { fits = true; values = w }
 
 -- its first step
-record First (formula : ℕ → Formula) (reads : ℕ → ℕ) (f : ℕ) (fs : List ℕ) (v w : List ℤ) : Type 0 where
+record First (formula : ℕ → Rule) (reads : ℕ → ℕ) (f : ℕ) (fs : List ℕ) (v w : List ℤ) : Type 0 where
   value : ℤ
   is : computed (formula f) (reads f) f (value_at v) ≡ value
   within : outside value ≡ false
   onwards : Ends formula reads fs (set v f value) w
 
-module _ (formula : ℕ → Formula) (reads : ℕ → ℕ) where
+module _ (formula : ℕ → Rule) (reads : ℕ → ℕ) where
   first_step : (f : ℕ) (fs : List ℕ) (v w : List ℤ) → Ends formula reads (f ∷ fs) v w → First formula reads f fs v w
   first_step f fs v w e = go (outside (computed (formula f) (reads f) f (value_at v))) refl
     where

@@ -1,13 +1,11 @@
 -- One run over the whole plan.
-use Rattle.std.specs.Prelude.{ℕ, ◌≤◌, ◌<◌, ◌≡◌, Bool, true, false, cond, ◌≢◌, List, [], ◌∷◌, ℤ, length, set}
+use Rattle.std.specs.Prelude.{ℕ, ◌≤◌, ◌<◌, ◌≡◌, Bool, true, false, cond, ◌≢◌, List, [], ◌∷◌, ℤ, length, set, None}
 use Rattle.fieldset.specs.Tables.{at}
 use Rattle.fieldset.specs.Fields.{member, with, within}
 use Rattle.ordering.specs.Order.{has_loop}
 use Rattle.ordering.specs.Walks.{Among}
 use Rattle.values.specs.Limits.{value_at, outside}
-use Rattle.formulas.specs.declared.Formula.{Formula}
-use Rattle.formulas.specs.declared.Formula.TheVariants.{None}
-use Rattle.formulas.specs.Formulas.{computed, Usable, Right}
+use Rattle.formulas.specs.Formulas.{Rule, computed, Usable, Right}
 
 -- whether every result was within the limits, and the values at the end, or where the run stopped
 pub record Run : Type 0 where
@@ -15,7 +13,7 @@ pub record Run : Type 0 where
   pub values : List ℤ
 
 -- "runs the whole plan once": each field of the list gets what its setter computes; the first result outside the limits ends the run
-unfoldable pub run : (ℕ → Formula) → (ℕ → ℕ) → List ℕ → List ℤ → Run
+unfoldable pub run : (ℕ → Rule) → (ℕ → ℕ) → List ℕ → List ℤ → Run
 run formula reads [] v = record { fits = true; values = v }
 run formula reads (f ∷ fs) v =
     let x = computed (formula f) (reads f) f (value_at v) in
@@ -27,14 +25,14 @@ pub record Ran (result : Run) (fits : Bool) (values : List ℤ) : Type 0 where
   pub left : values ≡ result.values
 
 -- what a run over the first n fields of a buffer needs
-pub record Runnable (formula : ℕ → Formula) (reads : ℕ → ℕ) (order : List ℕ) (n : ℕ) : Type 0 where
+pub record Runnable (formula : ℕ → Rule) (reads : ℕ → ℕ) (order : List ℕ) (n : ℕ) : Type 0 where
   pub few : n ≤ 64
   pub long : n ≤ length order
   pub fields : (i : ℕ) → i < n → at order i < 64
   pub usable : (i : ℕ) → i < n → Usable (formula (at order i)) (reads (at order i))
 
 -- what a run over the plan of n fields needs
-pub record Ready (formula : ℕ → Formula) (reads : List ℕ) (n : ℕ) : Type 0 where
+pub record Ready (formula : ℕ → Rule) (reads : List ℕ) (n : ℕ) : Type 0 where
   pub few : n ≤ 64
   pub among : Among reads n
   pub loopless : has_loop (at reads) n ≡ false
@@ -52,7 +50,7 @@ Ordered reads L (f ∷ fs) = (f < 64) × ((member L f ≡ false) × ((within (re
 
 -- What holds of the values after x was stored in f and the plan was run, over n fields: f has x, every held formula is right for the
 -- field it sets, and every other field whose setter has no formula keeps its value.
-pub record Settled (formula : ℕ → Formula) (covered : ℕ → ℕ) (n f : ℕ) (x : ℤ) (before after : List ℤ) : Type 0 where
+pub record Settled (formula : ℕ → Rule) (covered : ℕ → ℕ) (n f : ℕ) (x : ℤ) (before after : List ℤ) : Type 0 where
   pub has : value_at after f ≡ x
   pub right : (g : ℕ) → g < n → Right (formula g) (covered g) g (value_at after)
   pub kept : (g : ℕ) → g ≢ f → formula g ≡ None → value_at after g ≡ value_at before g

@@ -1,16 +1,14 @@
 // The evaluation of a whole plan.
 #![tactic(auto)]
 
-ghost use Rattle.std.specs.Prelude.{◌<◌, ◌≡◌, length, take, set};
+ghost use Rattle.std.specs.Prelude.{◌<◌, ◌≡◌, take, set};
 ghost use Rattle.fieldset.specs.Tables.{at};
 ghost use Rattle.formulas.specs.Formulas.{formula_of};
 ghost use Rattle.ordering.specs.Order.{order};
 ghost use Rattle.evaluation.specs.Runs.{Runnable, run, Ran, Ready, Stored};
 
-use fieldset::wide;
-use formulas::{Formula, Formulas, compute};
+use formulas::{Rule, compute};
 use ordering::order;
-use values::Limited;
 
 // Runs the plan once: the first n fields of the order, each set by its setter (128: its stay) from the fields that this one reads.
 // Answers whether every result was within the limits; the first one outside ends the run.
@@ -21,30 +19,20 @@ pub fn evaluate(
     n: usize,
     setter: &[u8; 64],
     reads: &[u64; 64],
-    formulas: Formulas,
+    formulas: &[Rule; 128],
     values: &mut [i32; 64],
 ) -> bool
-    requires { Runnable (formula_of formulas.of setter.now) (at reads.now) order.now n }
-    ensures { Ran (run (formula_of formulas.of setter.now) (at reads.now) (take n order.now) values.old) result values.new }
+    requires { Runnable (formula_of formulas.now setter.now) (at reads.now) order.now n }
+    ensures { Ran (run (formula_of formulas.now setter.now) (at reads.now) (take n order.now) values.old) result values.new }
 {
-    let mut i: usize = 0;
-    while i < n {
-        let f = wide(order[i]);
-        let c = wide(setter[f]);
-        let mut formula = Formula::None;
-        if c < 128 {
-            let rule = formulas.of[c];
-            formula = rule.formula;
-        }
+    for i in 0..n {
+        let f = usize::from(order[i]);
+        let c = usize::from(setter[f]);
+        let formula = if c < 128 { formulas[c] } else { None };
         match compute(formula, f, reads[f], values) {
-            Limited::Value(x) => {
-                values[f] = x;
-            }
-            Limited::OutOfRange => {
-                return false;
-            }
+            Some(x) => values[f] = x,
+            None => return false,
         }
-        i += 1;
     }
     true
 }
@@ -57,15 +45,15 @@ pub fn store(
     n: usize,
     setter: &[u8; 64],
     reads: &[u64; 64],
-    formulas: Formulas,
+    formulas: &[Rule; 128],
     f: usize,
     value: i32,
     values: &mut [i32; 64],
 ) -> bool
-    requires { Ready (formula_of formulas.of setter.now) reads.now n × (f < 64) × (length values.old ≡ 64) }
-    ensures { Stored (run (formula_of formulas.of setter.now) (at reads.now) (order (at reads.now) n) (set values.old f value)) values.old result values.new }
+    requires { Ready (formula_of formulas.now setter.now) reads.now n × (f < 64) }
+    ensures { Stored (run (formula_of formulas.now setter.now) (at reads.now) (order (at reads.now) n) (set values.old f value)) values.old result values.new }
 {
-    let mut listed = [0u8; 64];
+    let mut listed = [0; 64];
     let count = order(reads, n, &mut listed);
     let mut next = *values;
     next[f] = value;

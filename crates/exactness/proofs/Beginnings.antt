@@ -11,6 +11,7 @@ use native.Mathlib.Omega.{arith}
 use borrow.Author.Tests.{lt-ltb, le-ltb, eq-eqb, ne_eqb, eqb-true}
 use lib.Dec.{eqb, ltb}
 use lib.ListN.{length, get_or, get_or-eq_default}
+use Rattle.std.specs.Prelude.{Some, None}
 use Rattle.fieldset.specs.Tables.{at, tabulate}
 use Rattle.fieldset.specs.Lists.{In, All, place}
 use Rattle.fieldset.proofs.Tables.{length_tabulate, get_d_tabulate}
@@ -27,9 +28,8 @@ use Rattle.panel.proofs.Changes.{legal_opened}
 use Rattle.panel.proofs.Least.{LeastBlocked, least_blocked_lem}
 use Rattle.values.specs.Limits.{value_at}
 use Rattle.values.specs.Words.{bits_of}
-use Rattle.formulas.specs.declared.Formula.{Formula}
-use Rattle.formulas.specs.declared.Formula.TheVariants.{None, Ratio, Sum}
-use Rattle.formulas.specs.declared.Rule.{Rule}
+use Rattle.formulas.specs.Formulas.{Rule}
+use Rattle.formulas.specs.declared.Formula.TheVariants.{Ratio, Sum}
 use Rattle.sheet.specs.declared.Sheet.{Sheet}
 use Rattle.sheet.specs.Sheets.{unopened, formula_at}
 use Rattle.sheet.specs.Legal.{LegalSheet}
@@ -95,7 +95,7 @@ module _ (s : Sheet) (F : Facts s) where
   abbrev entries : ℕ → Option Entry
   entries k = entry_of (link_at p.links k)
 
-  abbrev formulas : ℕ → Formula
+  abbrev formulas : ℕ → Rule
   formulas k = formula_at s.formulas k
 
   -- the store after the links below i
@@ -127,10 +127,10 @@ module _ (s : Sheet) (F : Facts s) where
   formula_stored : (P : Store → Type 0) (i : ℕ) (b : Store) → P b → P (folded line_store b (formula_piece s.formulas i))
   formula_stored P i b h = go (formulas i)
     where
-      go : (r : Formula) → P (folded line_store b (formula_frames i r))
+      go : (r : Rule) → P (folded line_store b (formula_frames i r))
       go None = h
-      go (Ratio x y) = h
-      go (Sum f) = h
+      go (Some (Ratio x y)) = h
+      go (Some (Sum f)) = h
 
   value_stored : (P : Store → Type 0) (f : ℕ) (b : Store) → P b → P (folded line_store b (value_piece s.values f))
   value_stored P f b h = go (eqb (bits_of (value_at s.values f)) 0)
@@ -153,22 +153,22 @@ module _ (s : Sheet) (F : Facts s) where
 
   -- ---- the formulas
 
-  link_gives : (P : (ℕ → Formula) → Type 0) (i : ℕ) (given : ℕ → Formula) → P given → P (folded line_gives given (link_piece p.links i))
+  link_gives : (P : (ℕ → Rule) → Type 0) (i : ℕ) (given : ℕ → Rule) → P given → P (folded line_gives given (link_piece p.links i))
   link_gives P i given h = go (link_at p.links i).used
     where
       go : (u : Bool) → P (folded line_gives given (cond u (link_frame i (link_at p.links i) ∷ []) []))
       go true = h
       go false = h
 
-  formula_gives : (i : ℕ) → i < 128 → (given : ℕ → Formula) → UpTo None formulas i given → UpTo None formulas (suc i) (folded line_gives given (formula_piece s.formulas i))
+  formula_gives : (i : ℕ) → i < 128 → (given : ℕ → Rule) → UpTo None formulas i given → UpTo None formulas (suc i) (folded line_gives given (formula_piece s.formulas i))
   formula_gives i l given h = go (formulas i) refl
     where
-      go : (r : Formula) → formulas i ≡ r → UpTo None formulas (suc i) (folded line_gives given (formula_frames i r))
+      go : (r : Rule) → formulas i ≡ r → UpTo None formulas (suc i) (folded line_gives given (formula_frames i r))
       go None e = up_keep None formulas given i e h
-      go (Ratio x y) e = up_more None formulas given i _ (formula_back (Ratio x y) ∙ sym e) h
-      go (Sum f) e = up_more None formulas given i _ (formula_back (Sum f) ∙ sym e) h
+      go (Some (Ratio x y)) e = up_more None formulas given i _ (formula_back (Some (Ratio x y)) ∙ sym e) h
+      go (Some (Sum f)) e = up_more None formulas given i _ (formula_back (Some (Sum f)) ∙ sym e) h
 
-  value_gives : (P : (ℕ → Formula) → Type 0) (f : ℕ) (given : ℕ → Formula) → P given → P (folded line_gives given (value_piece s.values f))
+  value_gives : (P : (ℕ → Rule) → Type 0) (f : ℕ) (given : ℕ → Rule) → P given → P (folded line_gives given (value_piece s.values f))
   value_gives P f given h = go (eqb (bits_of (value_at s.values f)) 0)
     where
       go : (t : Bool) → P (folded line_gives given (cond t [] ((0x0D ∷ f ∷ four_bytes (bits_of (value_at s.values f))) ∷ [])))
@@ -244,7 +244,7 @@ module _ (s : Sheet) (F : Facts s) where
       past k h = rw (get_or-eq_default p.links no_link {n = k} (omega (arith, F.links_long))) (unused_entry no_link refl)
 
   formulas_past : (k : ℕ) → 128 ≤ k → formulas k ≡ None
-  formulas_past k h = ap (λ (r : Rule). r.formula) (get_or-eq_default s.formulas.of (record { formula = None }) {n = k} (omega (arith, F.rules_long)))
+  formulas_past k h = get_or-eq_default s.formulas None {n = k} (omega (arith, F.rules_long))
 
 -- ---- the lines of a text are those of the formed sheet that has it
 

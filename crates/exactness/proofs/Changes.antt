@@ -10,6 +10,7 @@ use native.Mathlib.Omega.{arith}
 use borrow.Author.Tests.{eqb-true, eq-eqb}
 use lib.Dec.{eqb}
 use lib.Seq.{get_or-set_same, get_or-set_other}
+use Rattle.std.specs.Prelude.{None}
 use Rattle.fieldset.specs.Fields.{member}
 use Rattle.fieldset.proofs.Numbers.{clash}
 use Rattle.fieldset.proofs.Fields.{ext_member}
@@ -26,8 +27,7 @@ use Rattle.panel.proofs.Checks.{checked_refusal, removable, changeable, change_r
 use Rattle.panel.proofs.Performed.{changed_passes, without_unused}
 use Rattle.panel.proofs.Changing as panels
 use Rattle.panel.proofs.Changing.{Cases, change_cases}
-use Rattle.formulas.specs.declared.Formula.TheVariants.{None}
-use Rattle.formulas.specs.declared.Rule.{Rule}
+use Rattle.formulas.specs.Formulas.{Rule}
 use Rattle.sheet.specs.declared.Sheet.{Sheet}
 use Rattle.sheet.specs.Sheets.{formula_at, with_formula}
 use Rattle.sheet.specs.Commands.{solving, performed}
@@ -120,9 +120,7 @@ module _ (s : Sheet) (h : LegalSheet s) (id level : ℕ) (bytes : List ℕ) wher
       where
         go : (b : Bool) → eqb old (covered_in bytes) ≡ b → formula_at (cond b s.formulas (with_formula s.formulas id None)) id ≡ None
         go true e = absurd (differ (ap (λ (m : ℕ). member m f) (eqb-true old (covered_in bytes) e)))
-        go false e =
-            ap (λ (r : Rule). r.formula)
-            (get_or-set_same s.formulas.of id (record { formula = None }) (record { formula = None }) (omega (arith, h.formulas_length, number_small)))
+        go false e = get_or-set_same s.formulas id None None (omega (arith, h.formulas_length, number_small))
 
   leaves : (k : ℕ) → k ≢ id → formula_at (performed s (solving (changing id level bytes))).sheet.formulas k ≡ formula_at s.formulas k
   leaves k d = go (is_refusal (panel.performed s.panel (changing id level bytes)).reply) (eqb old (covered_in bytes))
@@ -130,7 +128,7 @@ module _ (s : Sheet) (h : LegalSheet s) (id level : ℕ) (bytes : List ℕ) wher
       go : (r b : Bool) → formula_at (cond r s.formulas (cond b s.formulas (with_formula s.formulas id None))) k ≡ formula_at s.formulas k
       go true b = refl
       go false true = refl
-      go false false = ap (λ (r : Rule). r.formula) (get_or-set_other s.formulas.of id k (record { formula = None }) (record { formula = None }) d)
+      go false false = get_or-set_other s.formulas id k None None d
 
   exactly : ChangeExactly s id level bytes
   exactly =

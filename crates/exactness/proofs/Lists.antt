@@ -11,6 +11,7 @@ use borrow.Author.Tests.{ltb-false, eq-eqb, ne_eqb}
 use lib.Dec.{eqb}
 use lib.Seq.{get_or-set_same, get_or-set_other}
 use native.Mathlib.Omega.{arith}
+use Rattle.std.specs.Prelude.{None}
 use Rattle.fieldset.specs.Tables.{at}
 use Rattle.fieldset.specs.Lists.{In}
 use Rattle.fieldset.proofs.Lists.{all_in}
@@ -28,10 +29,7 @@ use Rattle.panel.proofs.Reversed.{setter_number, setter_own}
 use Rattle.panel.proofs.InForce.{used_force}
 use Rattle.panel.proofs.Checks.{removable, changeable, change_removes}
 use Rattle.panel.proofs.Performed.{removed_number, changed_passes, opened_unopened}
-use Rattle.formulas.specs.declared.Formula.{Formula}
-use Rattle.formulas.specs.declared.Formula.TheVariants.{None}
-use Rattle.formulas.specs.declared.Formulas.{Formulas}
-use Rattle.formulas.specs.declared.Rule.{Rule}
+use Rattle.formulas.specs.Formulas.{Rule}
 use Rattle.optimality.specs.Condition3 as store
 use Rattle.optimality.specs.Condition3.{Entry, Store, held, Run, stepped}
 use Rattle.optimality.specs.Agreement.{entry_for, entry_of, Agrees, Sound}
@@ -133,18 +131,18 @@ out_of_range_where_none x commands = let h = legal_after x commands in (out_of_r
 
 -- ---- formulas, as the commands gave them
 
-module _ (s : Sheet) (h : LegalSheet s) (given : ℕ → Formula) (same : (k : ℕ) → formula_at s.formulas k ≡ given k) where
+module _ (s : Sheet) (h : LegalSheet s) (given : ℕ → Rule) (same : (k : ℕ) → formula_at s.formulas k ≡ given k) where
   -- another formula at a number, read there and elsewhere
-  put : (id : ℕ) (formula : Formula) → id < 128 → (k : ℕ) → formula_at (with_formula s.formulas id formula) k ≡ cond (eqb k id) formula (given k)
+  put : (id : ℕ) (formula : Rule) → id < 128 → (k : ℕ) → formula_at (with_formula s.formulas id formula) k ≡ cond (eqb k id) formula (given k)
   put id formula l k = go (ℕ_discrete k id)
     where
       go : Dec (k ≡ id) → formula_at (with_formula s.formulas id formula) k ≡ cond (eqb k id) formula (given k)
       go (yes d) =
           ap (λ (i : ℕ). formula_at (with_formula s.formulas id formula) i) d
-          ∙ ap (λ (r : Rule). r.formula) (get_or-set_same s.formulas.of id (record { formula = formula }) (record { formula = None }) (omega (arith, h.formulas_length)))
+          ∙ get_or-set_same s.formulas id formula None (omega (arith, h.formulas_length))
           ∙ sym (rw (eq-eqb k id d) refl)
       go (no d) =
-          ap (λ (r : Rule). r.formula) (get_or-set_other s.formulas.of id k (record { formula = formula }) (record { formula = None }) d)
+          get_or-set_other s.formulas id k formula None d
           ∙ same k ∙ sym (rw (ne_eqb k id d) refl)
 
   module _ (b : Store) (agrees : Agrees b s.panel) where
@@ -175,7 +173,7 @@ module _ (s : Sheet) (h : LegalSheet s) (given : ℕ → Formula) (same : (k : �
             either_covers : id < 128 → (t : Bool) → formula_at (cond t s.formulas (with_formula s.formulas id None)) k ≡ cond t given (giving given id None) k
             either_covers l true = same k
             either_covers l false = put id None l k
-    given_step (entering f v) k = ap (λ (x : Formulas). formula_at x k) (entered_formulas s f v) ∙ same k ∙ sym (always (is_refusal (performed s (entering f v)).reply))
+    given_step (entering f v) k = ap (λ (x : List Rule). formula_at x k) (entered_formulas s f v) ∙ same k ∙ sym (always (is_refusal (performed s (entering f v)).reply))
       where
         always : (t : Bool) → cond t given given k ≡ given k
         always true = refl
@@ -190,7 +188,7 @@ module _ (s : Sheet) (h : LegalSheet s) (given : ℕ → Formula) (same : (k : �
         go reply e true t = rw t (same k)
         go reply e false t = rw t (put id formula (omega (arith, ltb-false 127 id (reply_passes cs (rw e t)).1.0)) k)
 
-given_after_lem : (commands : List Command) (r : Run sheets) → LegalRun r → SoundRun r → (given : ℕ → Formula) → ((k : ℕ) → formula_at r.state.formulas k ≡ given k)
+given_after_lem : (commands : List Command) (r : Run sheets) → LegalRun r → SoundRun r → (given : ℕ → Rule) → ((k : ℕ) → formula_at r.state.formulas k ≡ given k)
     → (k : ℕ) → formula_at (store.after sheets r commands).state.formulas k ≡ given_after r given commands k
 unfolding store.after given_after stepped
 given_after_lem [] r h x given same k = same k
@@ -235,7 +233,7 @@ held_right b commands f v ok =
     let k = (legal_sheet r.state h (entering f v)).panel in
     let x = entered_exactly r.state h f v ok in
     let given : (i : ℕ) → formula_at a.sheet.formulas i ≡ given_after (start_of b) (given_of b) commands i =
-    λ i. ap (λ (y : Formulas). formula_at y i) (entered_formulas r.state f v) ∙ formulas_given b commands i in
+    λ i. ap (λ (y : List Rule). formula_at y i) (entered_formulas r.state f v) ∙ formulas_given b commands i in
     let agrees : Agrees (store.entered r.store (touching f)) a.sheet.panel = (rw ok at (sheet_sound r.store r.state (entering f v) (sound_after b commands))).agrees in
     record {
       stored = x.stored;

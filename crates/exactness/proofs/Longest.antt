@@ -5,6 +5,7 @@ use mathlib.Core.Bool.{true, false, cond}
 use lib.Dec.{eqb}
 use lib.IntN.{pos}
 use lib.ListN.{length}
+use Rattle.std.specs.Prelude.{Some}
 use Rattle.fieldset.specs.Numbers.{count, any, lowest}
 use Rattle.fieldset.specs.Tables.{tabulate}
 use Rattle.fieldset.specs.Fields.{member, size, within, below, set_of, only, with, without}
@@ -32,7 +33,7 @@ long_sheet = record {
     place = tabulate (λ f. f) 64;
     setter = tabulate (λ f. cond (eqb f 0) 0 128) 64;
   };
-  formulas = record { of = tabulate (λ i. record { formula = Sum 0 }) 128 };
+  formulas = tabulate (λ i. Some (Sum 0)) 128;
   values = tabulate (λ f. pos 1) 64;
 }
 

@@ -12,6 +12,7 @@ use lib.Dec.{ltb}
 use lib.IntN.{ℤ, pos}
 use lib.ListN.{set, length-set}
 use lib.Seq.{get_or-set_same, get_or-set_other}
+use Rattle.std.specs.Prelude.{None}
 use Rattle.fieldset.specs.Tables.{at}
 use Rattle.fieldset.specs.Lists.{All}
 use Rattle.fieldset.proofs.Numbers.{clash}
@@ -25,9 +26,7 @@ use Rattle.panel.specs.Commands.{touching}
 use Rattle.panel.specs.Legal.{Legal}
 use Rattle.panel.proofs.Performed.{legal_performed, Keeps}
 use Rattle.values.specs.Limits.{value_at, outside}
-use Rattle.formulas.specs.declared.Formula.{Formula}
-use Rattle.formulas.specs.declared.Formula.TheVariants.{None}
-use Rattle.formulas.specs.Formulas.{formula_of, Right}
+use Rattle.formulas.specs.Formulas.{Rule, formula_of, Right}
 use Rattle.evaluation.specs.Runs.{Run}
 use Rattle.evaluation.proofs.Settled.{HeldAt, right_computed}
 use Rattle.evaluation.proofs.Complete.{Target, Meets, complete}
@@ -56,8 +55,8 @@ module _ (s : Sheet) (h : LegalSheet s) (f : ℕ) (v : ℤ) (ok : is_refusal (to
       go (inl (r, d)) = absurd (clash r ok)
       go (inr (r, t)) = t
 
-  abbrev formula : ℕ → Formula
-  formula = formula_of s.formulas.of q.setter
+  abbrev formula : ℕ → Rule
+  formula = formula_of s.formulas q.setter
 
   held : (g : ℕ) → g < q.size → HeldAt formula (setter_reads q) (setter_covered q) g
   held = setter_held q s.formulas legal kept.fits

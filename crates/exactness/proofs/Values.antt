@@ -48,13 +48,13 @@ every_ratio v p q some = record { nearest = scaled_nearest v p q some; only = ne
 
 -- what is settled of the setters' formulas, said of the links
 module _ (before after : Sheet) (f : ℕ) (v : ℤ) (h : Legal after.panel)
-    (t : Settled (formula_of after.formulas.of after.panel.setter) (setter_covered after.panel) after.panel.size f v before.values after.values)
+    (t : Settled (formula_of after.formulas after.panel.setter) (setter_covered after.panel) after.panel.size f v before.values after.values)
     (free : is_driven after.panel f ≡ false) where
   module _ (i g : ℕ) (small : i < 128) (holds : (link_at after.panel.links i).standing ≡ Holding g) where
     sets : at after.panel.setter g ≡ i
     sets = h.holding_sets i g small holds
 
-    formula_is : formula_of after.formulas.of after.panel.setter g ≡ formula_at after.formulas i
+    formula_is : formula_of after.formulas after.panel.setter g ≡ formula_at after.formulas i
     formula_is = rw sets (rw (lt-ltb i 128 small) refl)
 
     covered_is : setter_covered after.panel g ≡ (link_at after.panel.links i).covered
@@ -91,7 +91,7 @@ entered_exactly s h f v ok = go (entering_cases s f v)
         → Exact s (sheet_of touch.panel s.formulas (evaluated touch.panel s.formulas (set s.values f v)).values) f v
     exact a t =
         settled_exact s (sheet_of touch.panel s.formulas (evaluated touch.panel s.formulas (set s.values f v)).values) f v legal
-        (plan_settled (setter_reads touch.panel) touch.panel.size legal.few (formula_of s.formulas.of touch.panel.setter)
+        (plan_settled (setter_reads touch.panel) touch.panel.size legal.few (formula_of s.formulas touch.panel.setter)
         (setter_covered touch.panel) f v s.values legal.loopless h.values_length (setter_held touch.panel s.formulas legal t.fits)
         (omega (arith, t.low, h.panel.few)) (rw a.free refl) a.fits)
         a.free

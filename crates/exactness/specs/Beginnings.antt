@@ -1,11 +1,10 @@
 -- Where runs begin: at an unopened panel, or at a saved text that was taken in. Quotations are of document 02, request 7, or of document 01 where that
 -- is said.
-use Rattle.std.specs.Prelude.{ℕ, ◌≡◌, false, cond, List, map, eqb, drop}
+use Rattle.std.specs.Prelude.{ℕ, ◌≡◌, false, cond, List, map, eqb, drop, None}
 use Rattle.std.proofs.Math.Option.{some}
 use Rattle.fieldset.specs.Tables.{at}
 use Rattle.panel.specs.Answers.{is_refusal}
-use Rattle.formulas.specs.declared.Formula.{Formula}
-use Rattle.formulas.specs.declared.Formula.TheVariants.{None}
+use Rattle.formulas.specs.Formulas.{Rule}
 use Rattle.sheet.specs.Sheets.{unopened}
 use Rattle.sheet.specs.Commands.{Command}
 use Rattle.optimality.specs.Condition3.{Store, empty, entry, new_entry, Run, after, AfterEveryList}
@@ -29,10 +28,10 @@ unfoldable pub store_of : List ℕ → Store
 store_of text = folded line_store empty (map line_bytes (lines_of text))
 
 -- "formulas as 08 frames": 08 id and the formula
-abbrev pub line_gives : (ℕ → Formula) → List ℕ → ℕ → Formula
+abbrev pub line_gives : (ℕ → Rule) → List ℕ → ℕ → Rule
 line_gives given line = cond (eqb (at line 0) 0x08) (giving given (at line 1) (formula_in (drop 2 line))) given
 
-unfoldable pub formulas_of : List ℕ → ℕ → Formula
+unfoldable pub formulas_of : List ℕ → ℕ → Rule
 formulas_of text = folded line_gives (λ i. None) (map line_bytes (lines_of text))
 
 -- ---- beginnings
@@ -49,7 +48,7 @@ start_of from_unopened = start
 start_of (from_text text taken) = record { state = (read unopened text).sheet; store = store_of text }
 
 -- the formulas given there
-abbrev pub given_of : Beginning → ℕ → Formula
+abbrev pub given_of : Beginning → ℕ → Rule
 given_of from_unopened = λ i. None
 given_of (from_text text taken) = formulas_of text
 
@@ -59,6 +58,6 @@ abbrev pub AfterEveryRun : (Run sheets → Type 0) → Type 0
 AfterEveryRun P = (x : Beginning) → AfterEveryList sheets (start_of x) P
 
 -- the same with the formulas given until then
-abbrev pub AfterEveryGiven : (Run sheets → (ℕ → Formula) → Type 0) → Type 0
+abbrev pub AfterEveryGiven : (Run sheets → (ℕ → Rule) → Type 0) → Type 0
 AfterEveryGiven P =
     (x : Beginning) (commands : List Command) → P (after sheets (start_of x) commands) (given_after (start_of x) (given_of x) commands)

@@ -1,11 +1,10 @@
 -- Kind 06, which "removes the link and adds it anew as one" (document 02, request 5), by kinds 03 and 02: statements. Quotations are of that request.
-use Rattle.std.specs.Prelude.{ℕ, ◌<◌, ◌≡◌, true, false, cond, List, [], ◌∷◌, ◌≢◌, ◌⊎◌}
+use Rattle.std.specs.Prelude.{ℕ, ◌<◌, ◌≡◌, true, false, cond, List, [], ◌∷◌, ◌≢◌, ◌⊎◌, None}
 use Rattle.fieldset.specs.Fields.{member}
 use Rattle.panel.specs.Items.{link_at}
 use Rattle.panel.specs.Answers.{is_refusal}
 use Rattle.panel.specs.Moved.{moved}
 use Rattle.panel.specs.Commands.{adding, removing, changing, change_checks, check_reply, covered_in}
-use Rattle.formulas.specs.declared.Formula.TheVariants.{None}
 use Rattle.sheet.specs.declared.Sheet.{Sheet}
 use Rattle.sheet.specs.Sheets.{formula_at}
 use Rattle.sheet.specs.Commands.{Answer, solving, performed}

@@ -1,6 +1,6 @@
 -- What holds after every list of commands, kinds 06 to 08 among them (document 02, requests 2 and 5), from an unopened panel and from a saved text that
 -- was taken in (request 7): statements.
-use Rattle.std.specs.Prelude.{ℕ, ◌≡◌, false, List, ◌∷◌, ◌≢◌, ℤ, pos}
+use Rattle.std.specs.Prelude.{ℕ, ◌≡◌, false, List, ◌∷◌, ◌≢◌, ℤ, pos, None}
 use Rattle.std.proofs.Math.Option.{some}
 use Rattle.panel.specs.declared.Refusal.TheVariants.{Conflict}
 use Rattle.fieldset.specs.Lists.{In}
@@ -9,9 +9,7 @@ use Rattle.panel.specs.Answers.{refusal_bytes, is_refusal}
 use Rattle.panel.specs.Commands as panel
 use Rattle.panel.specs.Commands.{opening}
 use Rattle.values.specs.Limits.{value_at, outside}
-use Rattle.formulas.specs.declared.Formula.{Formula}
-use Rattle.formulas.specs.declared.Formula.TheVariants.{None}
-use Rattle.formulas.specs.Formulas.{Right}
+use Rattle.formulas.specs.Formulas.{Rule, Right}
 use Rattle.sheet.specs.declared.Sheet.{Sheet}
 use Rattle.sheet.specs.Sheets.{formula_at}
 use Rattle.sheet.specs.Commands.{solving, entering, relating, performed}
@@ -65,7 +63,7 @@ ZeroAtOpening =
 abbrev pub OthersKeepValues : Type 0
 OthersKeepValues =
     (s : Sheet) → ((c : panel.Command) → (performed s (solving c)).sheet.values ≡ s.values)
-    × ((id : ℕ) (formula : Formula) → (performed s (relating id formula)).sheet.values ≡ s.values)
+    × ((id : ℕ) (formula : Rule) → (performed s (relating id formula)).sheet.values ≡ s.values)
 
 -- a formula fits its link
 abbrev pub FormulasFit : Type 0
@@ -81,7 +79,7 @@ ValuesRight = AfterEveryRun (λ r. EnteredExactly r.state)
 
 -- The same of what Plan then answers, of the covered fields in the store b, and of the formulas given: v was entered in f, and the values
 -- before and after are these
-pub record HeldExactly (b : Store) (given : ℕ → Formula) (plan : List ℕ) (f : ℕ) (v : ℤ) (before after : ℕ → ℤ) : Type 0 where
+pub record HeldExactly (b : Store) (given : ℕ → Rule) (plan : List ℕ) (f : ℕ) (v : ℤ) (before after : ℕ → ℤ) : Type 0 where
   pub stored : after f ≡ v
   -- "each held formula is right, only for the field it sets"
   pub right : (i g : ℕ) (e : Entry) → In (record { item = link i; field = g }) (held plan) → b.links i ≡ some e → Right (given i) e.covered g after

@@ -1,10 +1,9 @@
 -- Sheets as a system of lists of commands, kinds 06 to 08 among them (document 02, requests 2 and 5), and the formulas that commands give.
-use Rattle.std.specs.Prelude.{ℕ, cond, List, [], ◌∷◌, eqb}
+use Rattle.std.specs.Prelude.{ℕ, cond, List, [], ◌∷◌, eqb, None}
 use Rattle.std.proofs.Math.Option.{Option, none, some}
 use Rattle.panel.specs.Answers.{is_refusal}
 use Rattle.panel.specs.Commands.{opening, adding, removing, touching, planning, changing, covered_in}
-use Rattle.formulas.specs.declared.Formula.{Formula}
-use Rattle.formulas.specs.declared.Formula.TheVariants.{None}
+use Rattle.formulas.specs.Formulas.{Rule}
 use Rattle.sheet.specs.declared.Sheet.{Sheet}
 use Rattle.sheet.specs.Sheets.{unopened}
 use Rattle.sheet.specs.Commands.{Command, solving, entering, relating, performed}
@@ -39,12 +38,12 @@ covered_of none = 0
 covered_of (some e) = e.covered
 
 -- another formula at a number
-abbrev pub giving : (ℕ → Formula) → ℕ → Formula → ℕ → Formula
+abbrev pub giving : (ℕ → Rule) → ℕ → Rule → ℕ → Rule
 giving given id formula = λ k. cond (eqb k id) formula (given k)
 
 -- the formula of each number, as the commands that were not refused gave it: "A new formula replaces the old, and removal drops it"; of a change, "its
 -- formula kept if the covered fields are the same, else dropped" (document 02, request 5)
-abbrev pub gives : Store → (ℕ → Formula) → Command → ℕ → Formula
+abbrev pub gives : Store → (ℕ → Rule) → Command → ℕ → Rule
 gives b given (solving (opening n)) = given
 gives b given (solving (adding id level bytes)) = given
 gives b given (solving (removing id)) = giving given id None
@@ -55,7 +54,7 @@ gives b given (entering f v) = given
 gives b given (relating id formula) = giving given id formula
 
 -- from a run on: a refused command gives nothing
-unfoldable pub given_after : Run sheets → (ℕ → Formula) → List Command → ℕ → Formula
+unfoldable pub given_after : Run sheets → (ℕ → Rule) → List Command → ℕ → Rule
 given_after r given [] = given
 given_after r given (c ∷ cs) =
     given_after (stepped sheets r c) (cond (is_refusal (sheets.reply r.state c)) given (gives r.store given c)) cs

@@ -1,5 +1,5 @@
 -- What holds of values (document 02, request 2): statements. Quotations are of that request.
-use Rattle.std.specs.Prelude.{ℕ, ◌≤◌, ◌<◌, ◌≡◌, true, false, List, [], ◌∷◌, ◌≢◌, ◌↔◌, ℤ, set}
+use Rattle.std.specs.Prelude.{ℕ, ◌≤◌, ◌<◌, ◌≡◌, true, false, List, [], ◌∷◌, ◌≢◌, ◌↔◌, ℤ, set, None}
 use Rattle.fieldset.specs.Tables.{at}
 use Rattle.fieldset.specs.Fields.{size}
 use Rattle.panel.specs.declared.Link.{Link}
@@ -13,9 +13,7 @@ use Rattle.panel.specs.Commands as panel
 use Rattle.panel.specs.Commands.{touching}
 use Rattle.values.specs.Limits.{value_at, outside}
 use Rattle.values.specs.Ratios.{scaled, Nearest}
-use Rattle.formulas.specs.declared.Formula.{Formula}
-use Rattle.formulas.specs.declared.Formula.TheVariants.{None}
-use Rattle.formulas.specs.Formulas.{accepted, Right}
+use Rattle.formulas.specs.Formulas.{Rule, accepted, Right}
 use Rattle.sheet.specs.declared.Sheet.{Sheet}
 use Rattle.sheet.specs.Sheets.{sheet_of, formula_at, evaluated}
 use Rattle.sheet.specs.Commands.{Command, entering, relating, is_driven, redrawn, sum_past, performed}
@@ -102,7 +100,7 @@ ValuesOnly s =
 
 -- the reply to kind 08 at a panel of n fields, where l is the link of the number: "the link, open and field checks precede", then "15 BadFormula (p or
 -- q 0, wrong number of covered fields, f not covered)". No two of these cases can meet, so each reply is given in its case and in no other
-pub data Relating (n id : ℕ) (l : Link) (formula : Formula) : List ℕ → Type 0 where
+pub data Relating (n id : ℕ) (l : Link) (formula : Rule) : List ℕ → Type 0 where
   not_open : n ≡ 0 → Relating n id l formula (0xFF ∷ refusal_bytes NotOpen)
   bad_link : 0 < n → 127 < id → Relating n id l formula (0xFF ∷ refusal_bytes BadLink)
   no_such_field : 0 < n → id ≤ 127 → sum_past n formula ≡ true → Relating n id l formula (0xFF ∷ refusal_bytes NoSuchField)
@@ -114,7 +112,7 @@ pub data Relating (n id : ℕ) (l : Link) (formula : Formula) : List ℕ → Typ
 
 abbrev pub RelatingExactly : Type 0
 RelatingExactly =
-    (s : Sheet) (id : ℕ) (formula : Formula)
+    (s : Sheet) (id : ℕ) (formula : Rule)
     → Relating s.panel.size id (link_at s.panel.links id) formula (performed s (relating id formula)).reply
 
 -- ---- refusals

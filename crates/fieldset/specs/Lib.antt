@@ -3,3 +3,4 @@ pub mod Lists
 pub mod Tables
 pub mod Fields
 pub mod Ranks
+pub mod Rounds

@@ -2,14 +2,9 @@
 #![tactic(auto)]
 
 ghost use Rattle.std.specs.Prelude.{◌≡◌, ◌≤◌, ◌<◌};
+ghost use Rattle.std.specs.Iterator.{at_most};
+ghost use Rattle.fieldset.specs.Rounds.{Takes};
 ghost use Rattle.fieldset.specs.Fields.{member, with, without, union, meets, within, only, below, lowest_of, First, minus, size};
-
-// The same number, wider.
-pub fn wide(x: u8) -> usize
-    ensures { result ≡ x }
-{
-    x as usize
-}
 
 // Whether the field i is in the set m.
 pub fn member(m: u64, i: usize) -> bool
@@ -107,4 +102,36 @@ pub fn size(m: u64) -> usize
     ensures { result ≡ size m }
 {
     u64::count_ones(m) as usize
+}
+
+// The fields of a set, one after the other, from the lowest-numbered on.
+#[derive(Clone, Copy)]
+pub struct Members {
+    pub rest: u64,
+}
+
+// The fields of the set m, for a `for`.
+// The contract rules out, for instance, the fields that are not in it and a field that comes again (must-fail: fields_of_the_others,
+// next_leaves_the_field).
+pub fn fields_of(m: u64) -> Members
+    ensures { result.rest ≡ m }
+{
+    Members { rest: m }
+}
+
+impl Iterator for Members {
+    type Item = usize;
+
+    ghost next_gives = { λ old r new. Takes old.rest r new.rest };
+
+    ghost remaining = { λ s. at_most s.rest };
+
+    fn next(&mut self) -> Option<usize> {
+        if self.rest == 0 {
+            return None;
+        }
+        let f = first(self.rest);
+        self.rest = without_lowest(self.rest);
+        Some(f)
+    }
 }

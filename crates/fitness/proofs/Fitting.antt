@@ -1,26 +1,24 @@
--- What each way through the test says: of a link, of the links so far, of the plan over the tables, and of the scan. Assumes nothing.
-use Prim.Native.Nat.{ℕ, ◌+◌, ◌<◌}
+-- What each way through the test says: of a link, of the links so far, of the plan over the tables, and of the scan.
+use Prim.Native.Nat.{ℕ, ◌<◌}
 use mathlib.Core.Path.{◌≡◌, refl, sym, ap, fun_ext, ◌∙◌}
 use mathlib.Core.Bool.{Bool, true, false, not, ◌&&◌, ◌||◌, and-false, or-true, or-false}
 use mathlib.Core.List.{List}
 use mathlib.Core.Logic.{◌≢◌}
-use native.Mathlib.Numerals.{add-one}
 use native.Mathlib.Decide.{dec_lt}
 use native.Mathlib.Omega.{arith}
 use lib.Dec.{eqb}
 use lib.ListN.{length}
 use borrow.Author.Tests.{eq-eqb, ne_eqb}
-use Rattle.fieldset.specs.Numbers.{any}
 use Rattle.fieldset.specs.Tables.{at}
 use Rattle.fieldset.specs.Fields.{member}
-use Rattle.fieldset.proofs.Numbers.{clash, any_here}
+use Rattle.fieldset.proofs.Numbers.{clash, any_here, any_none}
 use Rattle.fieldset.proofs.Fields.{member_empty, without_cases}
 use Rattle.fieldset.proofs.Maps.{table_of}
 use Rattle.ordering.specs.Order.{order, has_loop}
 use Rattle.ordering.specs.Walks.{Among}
 use Rattle.ordering.proofs.Plan.{has_loop_cong}
 use Rattle.strength.specs.Strength.{strength}
-use Rattle.panel.specs.declared.Standing.TheVariants.{Waiting, Holding}
+use Rattle.panel.specs.declared.Standing.TheVariants.{Waiting}
 use Rattle.panel.specs.declared.Link.{Link}
 use Rattle.panel.specs.declared.Panel.{Panel}
 use Rattle.panel.specs.Items.{Item, link_at, is_in_force, is_waiting, items_of}
@@ -29,9 +27,10 @@ use Rattle.panel.specs.Legal.{Legal}
 use Rattle.panel.proofs.Reversed.{setter_link, setter_stay}
 use Rattle.panel.proofs.InForce.{waiting_force, unused_off}
 use Rattle.tables.specs.Tables.{Tabled, Places}
-use Rattle.tables.proofs.Tables.{panel_table, table_strengths}
+use Rattle.tables.proofs.Agreement.{panel_table, table_strengths}
+use Rattle.std.specs.Prelude.{Option as Answer, Some, None, is_some as found_is_some}
 use Rattle.scanning.specs.declared.Blocked.{Blocked}
-use Rattle.scanning.specs.declared.Blocked.TheVariants.{Nothing}
+use Rattle.scanning.specs.declared.Blocked.TheVariants.{Link as ALink, Stay as AStay}
 use Rattle.scanning.specs.Scan.{least_blocked_by, found_of, Names}
 use Rattle.scanning.proofs.Over.{strengths_block}
 use Rattle.sheet.specs.declared.Sheet.{Sheet}
@@ -56,34 +55,18 @@ module _ (l : Link) where
   pub unused_lacks : l.used ≡ false → false ≡ lacking l
   unused_lacks u = rw (unused_off l u) (sym (and-false (eqb l.level 0)))
 
-  pub holding_lacks : (f : ℕ) → l.standing ≡ Holding f → false ≡ lacking l
-  holding_lacks f s = sym (ap (λ (b : Bool). eqb l.level 0 && (is_in_force l && b)) (ap is_waiting s) ∙ none (eqb l.level 0) (is_in_force l))
-    where
-      none : (a b : Bool) → (a && (b && false)) ≡ false
-      none true true = refl
-      none true false = refl
-      none false b = refl
-
 -- ---- all links
 
 abbrev pub lacking_at : List Link → ℕ → Bool
 lacking_at links i = lacking (link_at links i)
 
-pub lacks_none : (links : List Link) → any (lacking_at links) 0 ≡ false
-unfolding any
-lacks_none links = refl
-
-pub lacks_more : (links : List Link) (i : ℕ) → any (lacking_at links) i ≡ false → lacking_at links i ≡ false → any (lacking_at links) (i + 1) ≡ false
-unfolding any
-lacks_more links i e f = rw (add-one i, e) f
-
 pub short_found : (p : Panel) (i : ℕ) → i < 128 → lacking_at p.links i ≡ true → true ≡ is_short p
 unfolding is_short
 short_found p i l e = sym (any_here (lacking_at p.links) 128 i l e)
 
-pub short_none : (p : Panel) → any (lacking_at p.links) 128 ≡ false → false ≡ is_short p
+pub short_none : (p : Panel) → ((i : ℕ) → i < 128 → lacking_at p.links i ≡ false) → false ≡ is_short p
 unfolding is_short
-short_none p e = sym e
+short_none p h = sym (any_none (lacking_at p.links) 128 h)
 
 -- ---- a well-formed sheet's tables
 
@@ -134,7 +117,7 @@ module _ (s : Sheet) (e : is_formed s ≡ true) where
 -- ---- the scan
 
 module _ (p : Panel) (h : Legal p) (levels others reads : List ℕ) (t : Tabled p levels others reads) where
-  module _ (table before : List ℕ) (is : table ≡ table_of (strength (at levels) (at others) p.size) p.size before) (found : Blocked) (names : Names p.links (least_blocked_by table p) found) where
+  module _ (table before : List ℕ) (is : table ≡ table_of (strength (at levels) (at others) p.size) p.size before) (found : Answer Blocked) (names : Names p.links (least_blocked_by table p) found) where
     found_is : least_blocked p ≡ found_of found
     unfolding least_blocked least_blocked_by
     found_is =
@@ -142,11 +125,13 @@ module _ (p : Panel) (h : Legal p) (levels others reads : List ℕ) (t : Tabled 
         (fun_ext (λ c. sym (strengths_block p table h (table_strengths p table before (is ∙ panel_table p h levels others reads t before)) c)))
         ∙ names.0
 
-    pub found_none : found ≡ Nothing → false ≡ is_some (least_blocked p)
-    found_none e = ap is_some (sym (found_is ∙ ap found_of e))
-
-    pub found_some : is_some (found_of found) ≡ true → true ≡ is_some (least_blocked p)
-    found_some e = sym (ap is_some found_is ∙ e)
+    pub found_some : found_is_some found ≡ is_some (least_blocked p)
+    found_some = go found ∙ sym (ap is_some found_is)
+      where
+        go : (x : Answer Blocked) → found_is_some x ≡ is_some (found_of x)
+        go None = refl
+        go (Some (ALink i l)) = refl
+        go (Some (AStay f)) = refl
 
 -- ---- all three
 

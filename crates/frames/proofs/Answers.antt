@@ -8,13 +8,14 @@ use native.Mathlib.Omega.{arith}
 use borrow.Author.Tests.{eqb-true}
 use lib.Dec.{eqb}
 use lib.ListN.{length, drop}
+use Rattle.std.specs.Prelude.{Some, None}
 use Rattle.fieldset.specs.Tables.{at}
 use Rattle.fieldset.specs.Lists.{All}
 use Rattle.panel.proofs.Answers.{refusal_at, refusal_at_lem}
 use Rattle.frames.specs.declared.Command.{Command}
 use Rattle.frames.specs.declared.Command.TheVariants.{Open, Add, Remove, Touch, Plan, Change, Enter, Relate, Refused}
-use Rattle.formulas.specs.declared.Formula.{Formula}
-use Rattle.formulas.specs.declared.Formula.TheVariants.{None, Ratio, Sum}
+use Rattle.formulas.specs.Formulas.{Rule}
+use Rattle.formulas.specs.declared.Formula.TheVariants.{Ratio, Sum}
 use Rattle.frames.specs.Frames.{fits_formula, formula_in, formula_bytes, command_bytes}
 
 -- the command of a number and values
@@ -45,12 +46,12 @@ commands_apart c d fields others e = sym (command_at_lem c fields) ∙ ap comman
 
 -- ---- formulas
 
-formula_in_lem : (formula : Formula) → formula_in (formula_bytes formula) ≡ formula
+formula_in_lem : (formula : Rule) → formula_in (formula_bytes formula) ≡ formula
 formula_in_lem None = refl
-formula_in_lem (Ratio p q) = ap₂ Ratio (omega arith) (omega arith)
-formula_in_lem (Sum f) = refl
+formula_in_lem (Some (Ratio p q)) = ap₂ (λ (p q : ℕ). Some (Ratio p q)) (omega arith) (omega arith)
+formula_in_lem (Some (Sum f)) = refl
 
-pub formulas_apart : (a b : Formula) → formula_bytes a ≡ formula_bytes b → a ≡ b
+pub formulas_apart : (a b : Rule) → formula_bytes a ≡ formula_bytes b → a ≡ b
 formulas_apart a b e = sym (formula_in_lem a) ∙ ap formula_in e ∙ formula_in_lem b
 
 -- what a frame of kind 08 has behind the link's number is the formula's own bytes

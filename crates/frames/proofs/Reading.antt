@@ -1,53 +1,46 @@
 -- What reading a frame and a line answers. No kind fits no bytes or as many as the buffer has, so a buffer's first bytes decide as the whole frame
 -- does (`fits_taken`, `known`); then one law for each way that `read_frame` and `read_line` answer. Assumes nothing.
 use mathlib.Core.Path.{◌≡◌, refl, sym, ap, ap₂, ◌∙◌}
-use mathlib.Core.Logic.{◌⊎◌, ⊎_elim}
-use mathlib.Core.Bool.{Bool, true, false, not, cond, ◌&&◌, and-false, true≢false}
+use mathlib.Core.Logic.{◌⊎◌, inl, inr, ⊎_elim}
+use mathlib.Core.Bool.{Bool, true, false, not, cond, ◌&&◌, ◌||◌, and-false, true≢false}
 use mathlib.Core.List.{List, [], ◌∷◌}
-use Prim.Native.Nat.{ℕ, zero, suc, ◌+◌, ◌*◌, ◌/◌, ◌%◌, ◌≤◌, ◌<◌, min}
-use native.Mathlib.Numerals.{add-one}
+use Prim.Native.Nat.{ℕ, zero, suc, ◌+◌, ◌-◌, ◌≤◌, ◌<◌, min}
 use native.Mathlib.Decide.{dec_lt}
 use native.Mathlib.Omega.{arith}
 use lib.Dec.{ltb, leb, eqb}
-use lib.ListN.{length, get_or, take, drop, replicate, length-take, length-drop, drop_of_length-le, get_or-eq_default}
-use lib.Seq.{drop-cons, get_or-take, get_or-drop, length-take-le, take_all, take_at, sets, sets-eq, length-sets}
-use borrow.Author.Tests.{ltb-true, ltb-false, leb-true, leb-false, lt-leb, eqb-true, eq-eqb, ne_eqb}
+use lib.ListN.{length, take, drop, replicate, length-take, length-drop}
+use lib.Seq.{get_or-take, length-take-le, take_all, take_at, sets, sets-eq, length-sets}
+use borrow.Author.Tests.{ltb-true, ltb-false, leb-true, leb-false, lt-leb, eqb-true, ne_eqb}
+use Rattle.std.specs.Prelude.{Ok, Err}
+use Rattle.std.specs.List.{list_any}
+use Rattle.std.proofs.lemmas.List.{drop-take}
 use Rattle.fieldset.specs.Tables.{at}
 use Rattle.fieldset.proofs.Tests.{and_left}
 use Rattle.panel.specs.declared.Refusal.TheVariants.{BadHex, BadFrame}
 use Rattle.panel.specs.Answers.{refusal_bytes}
 use Rattle.panel.specs.Commands.{has_bit6, any_of}
-use Rattle.formulas.specs.declared.Formula.TheVariants.{None, Ratio, Sum}
 use Rattle.hexadecimal.specs.Hex.{is_hex, offset_of, bytes_of, frame_room}
 use Rattle.hexadecimal.specs.Answers.{decoded_values, decoded, frame_after}
-use Rattle.hexadecimal.specs.declared.Decoded.{Decoded}
-use Rattle.hexadecimal.specs.declared.Decoded.TheVariants.{BadHex as NoHex, Frame}
+use Rattle.hexadecimal.specs.declared.BadHex.{BadHex as NoHex}
 use Rattle.hexadecimal.proofs.Stores.{sets_fit}
 use Rattle.frames.specs.declared.Command.{Command}
 use Rattle.frames.specs.declared.Command.TheVariants.{Refused}
 use Rattle.frames.specs.declared.Line.{Line}
-use Rattle.frames.specs.Frames.{fits_formula, fits_kind, has_fields, is_frame, checked_frame, bad_hex, frame_of, pair_of, word_of, formula_in, command_bytes}
+use Rattle.frames.specs.Frames.{fits_formula, fits_kind, has_fields, is_frame, checked_frame, bad_hex, frame_of, command_bytes}
 use Rattle.frames.specs.Reading.{tail_of, kept_bytes, LineRead}
 
--- ---- bit 6 of the field bytes, from a position of a frame on
+-- ---- bit 6 of the field bytes
 
-module _ (f : List ℕ) (n : ℕ) (size : length f ≡ frame_room) (short : n ≤ frame_room) where
-  byte_and_rest : (i : ℕ) → i < n → drop i (take n f) ≡ get_or f i 0 ∷ drop (i + 1) (take n f)
-  byte_and_rest i h =
-      drop-cons (take n f) i 0 (omega (arith, length-take n f))
-      ∙ ap₂ (λ (x : ℕ) (k : ℕ). x ∷ drop k (take n f)) (get_or-take n f i 0 h) (sym (add-one i))
+any_same : (b : List ℕ) → list_any has_bit6 b ≡ any_of has_bit6 b
+unfolding any_of
+any_same [] = refl
+any_same (x ∷ b) = ap (λ (r : Bool). has_bit6 x || r) (any_same b)
 
-  pub bit6_found : (i : ℕ) → i < n → get_or f i 0 / 64 % 2 ≡ 1 → true ≡ any_of has_bit6 (drop i (take n f))
-  unfolding any_of
-  bit6_found i h e = rw (byte_and_rest i h) (simp (eq-eqb (get_or f i 0 / 64 % 2) 1 e))
-
-  pub bit6_on : (i : ℕ) → i < n → (get_or f i 0 / 64 % 2 ≡ 1 → ⊥) → any_of has_bit6 (drop (i + 1) (take n f)) ≡ any_of has_bit6 (drop i (take n f))
-  unfolding any_of
-  bit6_on i h e = rw (byte_and_rest i h) (simp (ne_eqb (get_or f i 0 / 64 % 2) 1 e))
-
-  pub bit6_none : (i : ℕ) → n ≤ i → false ≡ any_of has_bit6 (drop i (take n f))
-  unfolding any_of
-  bit6_none i h = rw (drop_of_length-le (take n f) {i = i} (omega (arith, length-take n f)))
+-- the field bytes, as a range of the frame and as its rest
+pub field_bytes_any : (f : List ℕ) (n : ℕ) → 3 ≤ n → list_any has_bit6 (take (n - 3) (drop 3 f)) ≡ any_of has_bit6 (drop 3 (take n f))
+field_bytes_any f n h =
+    let end : 3 + (n - 3) ≡ n = omega arith in
+    any_same (take (n - 3) (drop 3 f)) ∙ ap (any_of has_bit6) (sym (drop-take 3 (n - 3) f) ∙ ap (λ (m : ℕ). drop 3 (take m f)) end)
 
 -- ---- lengths that fit a kind
 
@@ -64,13 +57,6 @@ fits_other k form n o =
 
 pub fits_at : (k' k form n : ℕ) → k ≡ k' → fits_kind k' form n ≡ fits_kind k form n
 fits_at k' k form n e = ap (λ (x : ℕ). fits_kind x form n) (sym e)
-
-pub formula_at_lem : (form' form n : ℕ) → form ≡ form' → fits_formula form' n ≡ fits_formula form n
-formula_at_lem form' form n e = ap (λ (x : ℕ). fits_formula x n) (sym e)
-
-pub formula_other : (form n : ℕ) → (Unit {0} × (form ≡ 0x01 → ⊥)) × (form ≡ 0x02 → ⊥) → false ≡ fits_formula form n
-unfolding fits_formula
-formula_other form n o = simp (ne_eqb form 1 o.0.1, ne_eqb form 2 o.1)
 
 either_false : (b : Bool) → cond b false false ≡ false
 either_false true = refl
@@ -102,6 +88,13 @@ fits_short k form n e = go (ltb n frame_room) refl where
 pub long_link : (k : ℕ) → (k ≡ 0x02) ⊎ (k ≡ 0x06) → (form n : ℕ) → fits_kind k form n ≡ true → 4 ≤ n
 unfolding fits_kind
 long_link k kind form n e = leb-true 4 n (and_left (leb 4 n) (leb n 11) (⊎_elim (λ a. rw a at e) (λ a. rw a at e) kind))
+
+-- so have the kinds with field bytes
+pub fields_reach : (k form n : ℕ) → fits_kind k form n ≡ true → has_fields k ≡ true → 4 ≤ n
+fields_reach k form n e h = go (eqb k 0x02) refl h where
+  go : (b : Bool) → eqb k 0x02 ≡ b → b || eqb k 0x06 ≡ true → 4 ≤ n
+  go true t h = long_link k (inl (eqb-true k 0x02 t)) form n e
+  go false t h = long_link k (inr (eqb-true k 0x06 h)) form n e
 
 pub long_value : (form n : ℕ) → fits_kind 0x07 form n ≡ true → 4 ≤ n
 unfolding fits_kind
@@ -136,9 +129,13 @@ fits_taken f (suc n) size = go (ltb (suc n) frame_room) refl where
 
 -- ---- which bytes are a frame
 
-unfit : (b : List ℕ) → fits_kind (at b 0) (at b 2) (length b) ≡ false → checked_frame b ≡ 0xFF ∷ refusal_bytes BadFrame
-unfolding is_frame checked_frame
+unfit : (b : List ℕ) → fits_kind (at b 0) (at b 2) (length b) ≡ false → is_frame b ≡ false
+unfolding is_frame
 unfit b e = simp e
+
+pub refused_frame : (b : List ℕ) → is_frame b ≡ false → 0xFF ∷ refusal_bytes BadFrame ≡ checked_frame b
+unfolding checked_frame
+refused_frame b e = sym (simp e)
 
 -- a frame is known by as many bytes as the buffer has
 known : (b : List ℕ) → checked_frame (take frame_room b) ≡ checked_frame b
@@ -147,7 +144,8 @@ known b = go (leb (length b) frame_room) refl where
   go true e = ap checked_frame (take_all frame_room b (leb-true (length b) frame_room e))
   go false e =
       let h : frame_room < length b = leb-false (length b) frame_room e in
-      unfit (take frame_room b) (fits_many _ _ _ (omega (arith, length-take frame_room b))) ∙ sym (unfit b (fits_many _ _ _ (omega arith)))
+      sym (refused_frame (take frame_room b) (unfit (take frame_room b) (fits_many _ _ _ (omega (arith, length-take frame_room b)))))
+      ∙ refused_frame b (unfit b (fits_many _ _ _ (omega arith)))
 
 parts : (f : List ℕ) → 3 ≤ length f → at f 0 ∷ at f 1 ∷ at f 2 ∷ drop 3 f ≡ f
 parts [] h = absurd (omega arith)
@@ -158,84 +156,70 @@ parts (x ∷ y ∷ z ∷ s) h = refl
 -- ---- the first n bytes of a buffer
 
 module _ (f : List ℕ) (n : ℕ) (size : length f ≡ frame_room) where
-  pub unfit_read : fits_kind (at f 0) (at f 2) n ≡ false → 0xFF ∷ refusal_bytes BadFrame ≡ checked_frame (take n f)
-  unfit_read e = sym (unfit (take n f) (fits_taken f n size ∙ e))
+  pub unfit_taken : fits_kind (at f 0) (at f 2) n ≡ false → false ≡ is_frame (take n f)
+  unfit_taken e = sym (unfit (take n f) (fits_taken f n size ∙ e))
 
-  module _ (k : ℕ) (kind : at f 0 ≡ k) (fits : fits_kind (at f 0) (at f 2) n ≡ true) where
-    kind_taken : at (take n f) 0 ≡ k
-    kind_taken = go n refl where
-      go : (m : ℕ) → n ≡ m → at (take n f) 0 ≡ k
-      go zero e = absurd (true≢false (sym fits ∙ ap (fits_kind (at f 0) (at f 2)) e ∙ fits_none (at f 0) (at f 2)))
-      go (suc m) e = get_or-take n f 0 0 (omega arith) ∙ kind
+  -- bytes that fit their kind have one
+  kind_taken : fits_kind (at f 0) (at f 2) n ≡ true → at (take n f) 0 ≡ at f 0
+  kind_taken fits = go n refl where
+    go : (m : ℕ) → n ≡ m → at (take n f) 0 ≡ at f 0
+    go zero e = absurd (true≢false (sym fits ∙ ap (fits_kind (at f 0) (at f 2)) e ∙ fits_none (at f 0) (at f 2)))
+    go (suc m) e = get_or-take n f 0 0 (omega arith)
 
-    taken_fits : fits_kind k (at (take n f) 2) (length (take n f)) ≡ true
-    taken_fits = ap (λ (x : ℕ). fits_kind x (at (take n f) 2) (length (take n f))) (sym kind_taken) ∙ fits_taken f n size ∙ fits
+  -- they are a frame where no field byte has bit 6 set
+  pub fit_taken : fits_kind (at f 0) (at f 2) n ≡ true → (b : Bool) → has_fields (at f 0) && any_of has_bit6 (drop 3 (take n f)) ≡ b
+      → not b ≡ is_frame (take n f)
+  unfolding is_frame
+  fit_taken fits b e =
+      let low : has_fields (at (take n f) 0) && any_of has_bit6 (drop 3 (take n f)) ≡ b = ap (λ (k : ℕ). has_fields k && any_of has_bit6 (drop 3 (take n f))) (kind_taken fits) ∙ e in
+      sym (ap₂ (λ (x : Bool) (y : Bool). x && not y) (fits_taken f n size ∙ fits) low)
 
-    pub kind_read : has_fields k && any_of has_bit6 (drop 3 (take n f)) ≡ false → take n f ≡ checked_frame (take n f)
-    unfolding is_frame checked_frame
-    kind_read low = sym (simp (kind_taken, taken_fits, low))
+  module _ (frame : is_frame (take n f) ≡ true) where
+    taken_fits : fits_kind (at (take n f) 0) (at (take n f) 2) (length (take n f)) ≡ true
+    unfolding is_frame
+    taken_fits = and_left _ (not (has_fields (at (take n f) 0) && any_of has_bit6 (drop 3 (take n f)))) frame
 
-    pub bit6_read : has_fields k && any_of has_bit6 (drop 3 (take n f)) ≡ true → 0xFF ∷ refusal_bytes BadFrame ≡ checked_frame (take n f)
-    unfolding is_frame checked_frame
-    bit6_read high = sym (simp (kind_taken, high, and-false))
+    pub frame_fits : fits_kind (at f 0) (at f 2) n ≡ true
+    frame_fits = sym (fits_taken f n size) ∙ taken_fits
 
-    -- a kind with one length m: its first m bytes
-    pub exact_read : (m : ℕ) → fits_kind k (at f 2) n ≡ eqb n m → has_fields k && any_of has_bit6 (drop 3 (take n f)) ≡ false
-        → take m (k ∷ at f 1 ∷ at f 2 ∷ drop 3 f) ≡ checked_frame (take n f)
-    exact_read m one low =
-        let e : n ≡ m = eqb-true n m (sym one ∙ fits_at k (at f 0) (at f 2) n kind ∙ fits) in
-        ap₂ (λ (i : ℕ) (x : ℕ). take i (x ∷ at f 1 ∷ at f 2 ∷ drop 3 f)) (sym e) (sym kind) ∙ ap (take n) (parts f (omega arith)) ∙ kind_read low
+    frame_read : take n f ≡ checked_frame (take n f)
+    unfolding checked_frame
+    frame_read = sym (simp frame)
 
-    -- a kind with two values and further bytes
-    pub long_read : 4 ≤ n → has_fields k && any_of has_bit6 (drop 3 (take n f)) ≡ false
-        → k ∷ at f 1 ∷ at f 2 ∷ drop 3 (take n f) ≡ checked_frame (take n f)
-    long_read h low =
-        let b : List ℕ = take n f in
-        ap₂ (λ (x : ℕ) (y : ℕ). x ∷ y ∷ at f 2 ∷ drop 3 b) (sym kind_taken) (sym (get_or-take n f 1 0 (omega arith)))
-        ∙ ap (λ (z : ℕ). at b 0 ∷ at b 1 ∷ z ∷ drop 3 b) (sym (get_or-take n f 2 0 (omega arith)))
-        ∙ parts b (omega (arith, length-take n f)) ∙ kind_read low
+    module _ (k : ℕ) (kind : at f 0 ≡ k) where
+      kind_fits : fits_kind k (at f 2) n ≡ true
+      kind_fits = fits_at k (at f 0) (at f 2) n kind ∙ frame_fits
 
--- ---- what stands behind the third byte
+      -- a kind with one length m: its first m bytes
+      pub exact_read : (m : ℕ) → fits_kind k (at f 2) n ≡ eqb n m → take m (k ∷ at f 1 ∷ at f 2 ∷ drop 3 f) ≡ checked_frame (take n f)
+      exact_read m one =
+          let e : n ≡ m = eqb-true n m (sym one ∙ kind_fits) in
+          ap₂ (λ (i : ℕ) (x : ℕ). take i (x ∷ at f 1 ∷ at f 2 ∷ drop 3 f)) (sym e) (sym kind) ∙ ap (take n) (parts f (omega arith)) ∙ frame_read
 
-module _ (f : List ℕ) (n i : ℕ) (size : length f ≡ frame_room) (short : n ≤ frame_room) where
-  pub tail_there : 3 + i < n → get_or f (3 + i) 0 ≡ at (drop 3 (take n f)) i
-  tail_there l = sym (get_or-drop 3 (take n f) i 0 ∙ get_or-take n f (3 + i) 0 l)
-
-  pub tail_none : n ≤ 3 + i → 0 ≡ at (drop 3 (take n f)) i
-  tail_none l = sym (get_or-eq_default (drop 3 (take n f)) 0 {n = i} (omega (arith, length-drop 3 (take n f), length-take n f)))
-
--- numbers and formulas whose later bytes stand there
-module _ (t : List ℕ) {x y z : ℕ} (ex : x ≡ at t 0) (ey : y ≡ at t 1) (ez : z ≡ at t 2) where
-  pub word_tail : (first : ℕ) → word_of (first ∷ x ∷ y ∷ z ∷ []) ≡ word_of (first ∷ t)
-  word_tail first = rw (ex, ey, ez) refl
-
-  pub ratio_tail : {u : ℕ} → u ≡ at t 3 → (form p q : ℕ) → form ≡ 0x01 → p ≡ pair_of (x ∷ y ∷ []) → q ≡ pair_of (z ∷ u ∷ []) → Ratio p q ≡ formula_in (form ∷ t)
-  ratio_tail {u} eu form p q e ep eq =
-      let first : p ≡ pair_of t = ep ∙ ap₂ (λ (a : ℕ) (b : ℕ). a * 256 + b) ex ey in
-      let second : q ≡ pair_of (drop 2 t) = eq ∙ ap₂ (λ (a : ℕ) (b : ℕ). a * 256 + b) (ez ∙ sym (get_or-drop 2 t 0 0)) (eu ∙ sym (get_or-drop 2 t 1 0)) in
-      ap₂ Ratio first second ∙ sym (rw e refl)
-
-pub sum_tail : (t : List ℕ) {x : ℕ} → x ≡ at t 0 → (form : ℕ) → form ≡ 0x02 → Sum x ≡ formula_in (form ∷ t)
-sum_tail t ex form e = ap Sum ex ∙ sym (rw e refl)
-
-pub no_tail : (t : List ℕ) (form : ℕ) → (Unit {0} × (form ≡ 0x01 → ⊥)) × (form ≡ 0x02 → ⊥) → None ≡ formula_in (form ∷ t)
-no_tail t form o = sym (rw (ne_eqb form 1 o.0.1, ne_eqb form 2 o.1) refl)
+      -- a kind with two values and further bytes
+      pub long_read : ((form n : ℕ) → fits_kind k form n ≡ true → 4 ≤ n) → k ∷ at f 1 ∷ at f 2 ∷ drop 3 (take n f) ≡ checked_frame (take n f)
+      long_read long =
+          let b : List ℕ = take n f in
+          let h : 4 ≤ n = long (at f 2) n kind_fits in
+          ap₂ (λ (x : ℕ) (y : ℕ). x ∷ y ∷ at f 2 ∷ drop 3 b) (sym (kind_taken frame_fits ∙ kind)) (sym (get_or-take n f 1 0 (omega arith)))
+          ∙ ap (λ (z : ℕ). at b 0 ∷ at b 1 ∷ z ∷ drop 3 b) (sym (get_or-take n f 2 0 (omega arith)))
+          ∙ parts b (omega (arith, length-take n f)) ∙ frame_read
 
 -- ---- a line
 
 -- what decoding tells
-pub bad_told : (s : List ℕ) (n : ℕ) → decoded_values (NoHex n) ≡ decoded s → (is_hex s ≡ false) × (n ≡ offset_of s)
+pub bad_told : (s : List ℕ) (e : NoHex) → decoded_values (Err e) ≡ decoded s → (is_hex s ≡ false) × (e.offset ≡ offset_of s)
 unfolding decoded
-bad_told s n e = go (is_hex s) refl e where
-  go : (b : Bool) → is_hex s ≡ b → decoded_values (NoHex n) ≡ cond b (0x00 ∷ length (bytes_of s) ∷ []) (0xFF ∷ offset_of s ∷ [])
-      → (is_hex s ≡ false) × (n ≡ offset_of s)
+bad_told s e told = go (is_hex s) refl told where
+  go : (b : Bool) → is_hex s ≡ b → decoded_values (Err e) ≡ cond b (0x00 ∷ length (bytes_of s) ∷ []) (0xFF ∷ offset_of s ∷ [])
+      → (is_hex s ≡ false) × (e.offset ≡ offset_of s)
   go true t told = let z : ◌≡◌ {A = ℕ} 255 0 = ap (λ (l : List ℕ). at l 0) told in absurd (omega arith)
   go false t told = (t, ap (λ (l : List ℕ). at l 1) told)
 
-pub frame_told : (s : List ℕ) (n : ℕ) → decoded_values (Frame n) ≡ decoded s → (is_hex s ≡ true) × (n ≡ length (bytes_of s))
+pub frame_told : (s : List ℕ) (n : ℕ) → decoded_values (Ok n) ≡ decoded s → (is_hex s ≡ true) × (n ≡ length (bytes_of s))
 unfolding decoded
-frame_told s n e = go (is_hex s) refl e where
-  go : (b : Bool) → is_hex s ≡ b → decoded_values (Frame n) ≡ cond b (0x00 ∷ length (bytes_of s) ∷ []) (0xFF ∷ offset_of s ∷ [])
+frame_told s n told = go (is_hex s) refl told where
+  go : (b : Bool) → is_hex s ≡ b → decoded_values (Ok n) ≡ cond b (0x00 ∷ length (bytes_of s) ∷ []) (0xFF ∷ offset_of s ∷ [])
       → (is_hex s ≡ true) × (n ≡ length (bytes_of s))
   go true t told = (t, ap (λ (l : List ℕ). at l 1) told)
   go false t told = let z : ◌≡◌ {A = ℕ} 0 255 = ap (λ (l : List ℕ). at l 0) told in absurd (omega arith)
@@ -256,23 +240,20 @@ after_full s f size = go (is_hex s) where
   go true = length-sets f 0 (bytes_of s) ∙ size
   go false = size
 
-module _ (s g : List ℕ) (d : Decoded) (told : decoded_values d ≡ decoded s) (left : g ≡ frame_after s (replicate frame_room 0)) where
-  pub full : length g ≡ frame_room
-  full = ap length left ∙ after_full s (replicate frame_room 0) refl
-
-  pub read_bad : (n : ℕ) → d ≡ NoHex n → (offset : ℕ) → offset ≡ min n 0xFFFF
+module _ (s g : List ℕ) (left : g ≡ frame_after s (replicate frame_room 0)) where
+  pub read_bad : (e : NoHex) → decoded_values (Err e) ≡ decoded s → (offset : ℕ) → offset ≡ min e.offset 0xFFFF
       → LineRead s (record { command = Refused (BadHex offset); frame = g; len = 0 })
   unfolding frame_of kept_bytes
-  read_bad n e offset is =
-      let t = bad_told s n (ap decoded_values (sym e) ∙ told) in
+  read_bad e told offset is =
+      let t = bad_told s e told in
       let same : offset ≡ min (offset_of s) 0xFFFF = is ∙ ap (λ (k : ℕ). min k 0xFFFF) t.1 in
       record { bytes = ap (λ (k : ℕ). 0xFF ∷ refusal_bytes (BadHex k)) same ∙ sym (simp t.0); frame = left; len = sym (simp t.0) }
 
-  pub read_good : (n : ℕ) → d ≡ Frame n → (len : ℕ) → len ≡ min n frame_room → (c : Command) → command_bytes c (drop 3 (take len g)) ≡ checked_frame (take len g)
-      → LineRead s (record { command = c; frame = g; len = len })
+  pub read_good : (n : ℕ) → decoded_values (Ok n) ≡ decoded s → (len : ℕ) → len ≡ min n frame_room → (c : Command)
+      → command_bytes c (drop 3 (take len g)) ≡ checked_frame (take len g) → LineRead s (record { command = c; frame = g; len = len })
   unfolding frame_of frame_after kept_bytes
-  read_good n e len is c read =
-      let t = frame_told s n (ap decoded_values (sym e) ∙ told) in
+  read_good n told len is c read =
+      let t = frame_told s n told in
       let kept : g ≡ sets (replicate frame_room 0) 0 (bytes_of s) = left ∙ simp t.0 in
       let short : len ≡ min (length (bytes_of s)) frame_room = is ∙ ap (λ (k : ℕ). min k frame_room) t.1 in
       let front : take len g ≡ take frame_room (bytes_of s) = ap₂ take short kept ∙ sets_front (replicate frame_room 0) (bytes_of s) refl in
@@ -302,9 +283,9 @@ checked_fits b = go (fits_kind (at b 0) (at b 2) (length b)) (not (has_fields (a
   go true false e h = absurd (h refl)
   go false y e h = absurd (h refl)
 
-frame_fits : (s : List ℕ) → Fits (frame_of s)
+line_fits : (s : List ℕ) → Fits (frame_of s)
 unfolding frame_of
-frame_fits s = go (is_hex s) where
+line_fits s = go (is_hex s) where
   go : (x : Bool) → Fits (cond x (checked_frame (bytes_of s)) (0xFF ∷ refusal_bytes (bad_hex s)))
   go true = checked_fits (bytes_of s)
   go false = λ h. absurd (h refl)
@@ -314,7 +295,7 @@ module _ (s : List ℕ) (r : Line) (k a b : ℕ) (known : k < 0xFF) (l : LineRea
   tail_fits : fits_kind k b (length (k ∷ a ∷ b ∷ tail_of r)) ≡ true
   tail_fits =
       let e : k ∷ a ∷ b ∷ tail_of r ≡ frame_of s = sym is ∙ l.bytes in
-      ap (λ (f : List ℕ). fits_kind (at f 0) (at f 2) (length f)) e ∙ frame_fits s (λ z. let q : k ≡ 255 = ap (λ (f : List ℕ). at f 0) e ∙ z in omega arith)
+      ap (λ (f : List ℕ). fits_kind (at f 0) (at f 2) (length f)) e ∙ line_fits s (λ z. let q : k ≡ 255 = ap (λ (f : List ℕ). at f 0) e ∙ z in omega arith)
 
   pub tail_reaches : ((n : ℕ) → fits_kind k b n ≡ true → 4 ≤ n) → 3 ≤ r.len
   tail_reaches long =

@@ -1,5 +1,5 @@
 -- A line's frame, its command, and what it is answered. Quotations are of document 01, or of document 02 where that is said.
-use Rattle.std.specs.Prelude.{ℕ, ◌+◌, ◌*◌, ◌/◌, ◌%◌, min, Bool, false, not, ◌&&◌, ◌||◌, cond, List, [], ◌∷◌, eqb, leb, length, drop}
+use Rattle.std.specs.Prelude.{ℕ, ◌+◌, ◌*◌, ◌/◌, ◌%◌, min, Bool, false, not, ◌&&◌, ◌||◌, cond, List, [], ◌∷◌, eqb, leb, length, drop, Some, None}
 use Rattle.std.proofs.Math.Option.{Option, none, some}
 use Rattle.panel.specs.declared.Refusal.{Refusal}
 use Rattle.panel.specs.declared.Refusal.TheVariants.{BadHex, BadFrame}
@@ -7,8 +7,8 @@ use Rattle.fieldset.specs.Tables.{at}
 use Rattle.panel.specs.Answers.{refusal_bytes}
 use Rattle.panel.specs.Commands.{has_bit6, any_of, opening, adding, removing, touching, planning, changing}
 use Rattle.values.specs.Words.{value_of}
-use Rattle.formulas.specs.declared.Formula.{Formula}
-use Rattle.formulas.specs.declared.Formula.TheVariants.{None, Ratio, Sum}
+use Rattle.formulas.specs.Formulas.{Rule}
+use Rattle.formulas.specs.declared.Formula.TheVariants.{Ratio, Sum}
 use Rattle.sheet.specs.declared.Sheet.{Sheet}
 use Rattle.sheet.specs.Sheets.{unopened}
 use Rattle.sheet.specs.Commands as sheet
@@ -75,17 +75,17 @@ word_of b = at b 0 * 16777216 + at b 1 * 65536 + at b 2 * 256 + at b 3
 -- ---- commands
 
 -- "01 pppp qqqq": a ratio; "02 f": a sum (document 02, request 2); a frame has no other kind of formula
-abbrev pub formula_in : List ℕ → Formula
+abbrev pub formula_in : List ℕ → Rule
 formula_in b =
-    cond (eqb (at b 0) 0x01) (Ratio (pair_of (drop 1 b)) (pair_of (drop 3 b)))
-    (cond (eqb (at b 0) 0x02) (Sum (at b 1))
+    cond (eqb (at b 0) 0x01) (Some (Ratio (pair_of (drop 1 b)) (pair_of (drop 3 b))))
+    (cond (eqb (at b 0) 0x02) (Some (Sum (at b 1)))
     None)
 
 -- a formula by these numbers and values; no frame gives none
-abbrev pub formula_bytes : Formula → List ℕ
+abbrev pub formula_bytes : Rule → List ℕ
 formula_bytes None = []
-formula_bytes (Ratio p q) = 0x01 ∷ p / 256 ∷ p % 256 ∷ q / 256 ∷ q % 256 ∷ []
-formula_bytes (Sum f) = 0x02 ∷ f ∷ []
+formula_bytes (Some (Ratio p q)) = 0x01 ∷ p / 256 ∷ p % 256 ∷ q / 256 ∷ q % 256 ∷ []
+formula_bytes (Some (Sum f)) = 0x02 ∷ f ∷ []
 
 -- the command of a frame, by its kind; "A line refused with 1 or 2 gives no command"
 unfoldable pub command_of : List ℕ → Option sheet.Command

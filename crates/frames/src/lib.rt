@@ -6,11 +6,12 @@ ghost use Rattle.panel.specs.Commands.{has_bit6, any_of};
 ghost use Rattle.hexadecimal.specs.Hex.{frame_room};
 ghost use Rattle.fieldset.specs.Tables.{at};
 ghost use Rattle.values.specs.Words.{value_of};
-ghost use Rattle.frames.specs.Frames.{fits_formula, fits_link, fits_kind, has_fields, checked_frame, pair_of, word_of, formula_in, formula_bytes, command_bytes, number_of};
+ghost use Rattle.frames.specs.Frames.{fits_formula, fits_link, fits_kind, has_fields, is_frame, checked_frame, pair_of, word_of, formula_in, formula_bytes, command_bytes, number_of};
 ghost use Rattle.frames.specs.Texts.{is_too_long};
 ghost use Rattle.frames.specs.Reading.{tail_of, LineRead};
 
-use formulas::Formula;
+use formulas::{Formula, Rule};
+use hexadecimal::BadHex;
 use panel::Refusal;
 use values::of_bits;
 
@@ -38,6 +39,7 @@ pub enum Command {
     Enter(u8, u8),
     // a link's number, and the kind of the formula
     Relate(u8, u8),
+    // a case, and no Err: each function that goes by a line's command takes a refused line as one that leaves all as it is, and would first match Ok
     Refused(Refusal),
 }
 
@@ -49,7 +51,11 @@ pub struct Line {
     pub len: usize,
 }
 
+// The kinds of frames and formulas are bytes here and in `read_frame`, which makes the enum of them: a byte that is no kind is refused with a length that
+// does not fit, in one test.
+
 // Whether n bytes fit a kind of formula.
+#[tactic(auto, unfolding(crate::specs::Frames::fits_formula))]
 fn fits_formula(form: u8, n: usize) -> bool
     ensures { result ≡ fits_formula form n }
 {
@@ -68,6 +74,7 @@ fn fits_link(n: usize) -> bool
 }
 
 // Whether n bytes fit the kind of a frame, whose third byte is `form`.
+#[tactic(auto, unfolding(crate::specs::Frames::fits_kind))]
 fn fits_kind(kind: u8, form: u8, n: usize) -> bool
     ensures { result ≡ fits_kind kind form n }
 {
@@ -93,34 +100,28 @@ fn has_fields(kind: u8) -> bool
 
 // Whether bit 6 is set in a field byte of a frame of n bytes.
 fn has_bit6(frame: &[u8; hexadecimal::FRAME_ROOM], n: usize) -> bool
-    requires { (n ≤ frame_room) × (length frame.now ≡ frame_room) }
+    requires { (3 ≤ n) × (n ≤ frame_room) }
     ensures { result ≡ any_of has_bit6 (drop 3 (take n frame.now)) }
 {
-    let mut i = 3;
-    while i < n {
-        if frame[i] / 64 % 2 == 1 {
-            return true;
-        }
-        i += 1;
-    }
-    false
+    frame[3..n].iter().any(|b| b / 64 % 2 == 1)
 }
 
-// The command of the first n bytes of a buffer. A frame is shorter than the buffer: where n is its whole length, they are no frame.
-pub fn read_frame(frame: &[u8; hexadecimal::FRAME_ROOM], n: usize) -> Command
-    requires { length frame.now ≡ frame_room }
-    ensures { command_bytes result (drop 3 (take n frame.now)) ≡ checked_frame (take n frame.now) }
+// Whether the first n bytes of a buffer are a frame. A frame is shorter than the buffer: where n is its whole length, they are none.
+fn is_frame(frame: &[u8; hexadecimal::FRAME_ROOM], n: usize) -> bool
+    ensures { result ≡ is_frame (take n frame.now) }
 {
     let kind = frame[0];
-    if !fits_kind(kind, frame[2], n) {
+    fits_kind(kind, frame[2], n) && !(has_fields(kind) && has_bit6(frame, n))
+}
+
+// The command of the first n bytes of a buffer.
+pub fn read_frame(frame: &[u8; hexadecimal::FRAME_ROOM], n: usize) -> Command
+    ensures { command_bytes result (drop 3 (take n frame.now)) ≡ checked_frame (take n frame.now) }
+{
+    if !is_frame(frame, n) {
         return Command::Refused(Refusal::BadFrame);
     }
-    if has_fields(kind) {
-        if has_bit6(frame, n) {
-            return Command::Refused(Refusal::BadFrame);
-        }
-    }
-    match kind {
+    match frame[0] {
         0x01 => Command::Open(frame[1]),
         0x02 => Command::Add(frame[1], frame[2]),
         0x03 => Command::Remove(frame[1]),
@@ -133,22 +134,11 @@ pub fn read_frame(frame: &[u8; hexadecimal::FRAME_ROOM], n: usize) -> Command
     }
 }
 
-// How many bytes of a frame of n the buffer has.
-fn kept(n: usize) -> usize
-    ensures { result ≡ min n frame_room }
-{
-    if n < hexadecimal::FRAME_ROOM {
-        n
-    } else {
-        hexadecimal::FRAME_ROOM
-    }
-}
-
 // An offset as two bytes tell it: 65,535 for a larger one, which only a line longer than any text has.
 fn two_byte_offset(n: usize) -> u16
     ensures { result ≡ min n 0xFFFF }
 {
-    if n < 0xFFFF { n as u16 } else { 0xFFFF }
+    u16::try_from(n).unwrap_or(u16::MAX)
 }
 
 // The command of a line, with the bytes of its frame.
@@ -156,23 +146,19 @@ pub fn read_line(line: &[u8]) -> Line
     ensures { LineRead line.now result }
 {
     let mut frame = [0u8; hexadecimal::FRAME_ROOM];
-    let d = hexadecimal::decode(line, &mut frame);
-    match d {
-        hexadecimal::Decoded::BadHex(offset) => {
-            let c = Command::Refused(Refusal::BadHex(two_byte_offset(offset)));
+    match hexadecimal::decode(line, &mut frame) {
+        Err(BadHex { offset }) => Line {
+            command: Command::Refused(Refusal::BadHex(two_byte_offset(offset))),
+            frame,
+            len: 0,
+        },
+        Ok(n) => {
+            // as many bytes as the buffer has
+            let len = n.min(hexadecimal::FRAME_ROOM);
             Line {
-                command: c,
-                frame: frame,
-                len: 0,
-            }
-        }
-        hexadecimal::Decoded::Frame(n) => {
-            let len = kept(n);
-            let c = read_frame(&frame, len);
-            Line {
-                command: c,
-                frame: frame,
-                len: len,
+                command: read_frame(&frame, len),
+                frame,
+                len,
             }
         }
     }
@@ -180,59 +166,55 @@ pub fn read_line(line: &[u8]) -> Line
 
 // A byte of what stands behind the third byte of a frame; 0 where it has none there.
 fn tail_byte(frame: &[u8; hexadecimal::FRAME_ROOM], len: usize, i: usize) -> u8
-    requires { (length frame.now ≡ frame_room) × (len ≤ frame_room) × (i < 9) }
+    requires { (len ≤ frame_room) × (i < 9) }
     ensures { result ≡ at (drop 3 (take len frame.now)) i }
 {
-    let j = 3 + i;
-    if j < len { frame[j] } else { 0 }
+    frame[..len].get(3 + i).copied().unwrap_or(0)
 }
 
 // The number of two bytes, most significant first.
 pub fn pair(a: u8, b: u8) -> u16
     ensures { result ≡ pair_of (a ∷ b ∷ []) }
 {
-    (a as u16) * 256 + (b as u16)
+    u16::from_be_bytes([a, b])
 }
 
 // The number of four bytes, most significant first.
 pub fn word(a: u8, b: u8, c: u8, d: u8) -> u32
     ensures { result ≡ word_of (a ∷ b ∷ c ∷ d ∷ []) }
 {
-    (a as u32) * 16777216 + (b as u32) * 65536 + (c as u32) * 256 + (d as u32)
+    u32::from_be_bytes([a, b, c, d])
 }
 
 // The value that a line enters, whose first byte its command has.
-pub fn value_of(line: Line, first: u8) -> i32
-    requires { (length line.frame ≡ frame_room) × (line.len ≤ frame_room) }
-    ensures { result ≡ value_of (word_of (first ∷ tail_of line)) }
+pub fn value_of(line: &Line, first: u8) -> i32
+    requires { line.now.len ≤ frame_room }
+    ensures { result ≡ value_of (word_of (first ∷ tail_of line.now)) }
 {
-    let frame = line.frame;
-    let len = line.len;
     let n = word(
         first,
-        tail_byte(&frame, len, 0),
-        tail_byte(&frame, len, 1),
-        tail_byte(&frame, len, 2),
+        tail_byte(&line.frame, line.len, 0),
+        tail_byte(&line.frame, line.len, 1),
+        tail_byte(&line.frame, line.len, 2),
     );
     of_bits(n)
 }
 
 // The formula that a line gives, whose kind its command has.
-pub fn formula_of(line: Line, form: u8) -> Formula
-    requires { (length line.frame ≡ frame_room) × (line.len ≤ frame_room) }
-    ensures { formula_bytes result ≡ formula_bytes (formula_in (form ∷ tail_of line)) }
+pub fn formula_of(line: &Line, form: u8) -> Rule
+    requires { line.now.len ≤ frame_room }
+    ensures { formula_bytes result ≡ formula_bytes (formula_in (form ∷ tail_of line.now)) }
 {
-    let frame = line.frame;
-    let len = line.len;
-    let a = tail_byte(&frame, len, 0);
+    let frame = &line.frame;
+    let a = tail_byte(frame, line.len, 0);
     match form {
         0x01 => {
-            let p = pair(a, tail_byte(&frame, len, 1));
-            let q = pair(tail_byte(&frame, len, 2), tail_byte(&frame, len, 3));
-            Formula::Ratio(p, q)
+            let p = pair(a, tail_byte(frame, line.len, 1));
+            let q = pair(tail_byte(frame, line.len, 2), tail_byte(frame, line.len, 3));
+            Some(Formula::Ratio(p, q))
         }
-        0x02 => Formula::Sum(a),
-        _ => Formula::None,
+        0x02 => Some(Formula::Sum(a)),
+        _ => None,
     }
 }
 

@@ -9,9 +9,10 @@ use native.Mathlib.Omega.{arith}
 use lib.Dec.{leb, ltb, eqb}
 use lib.ListN.{length, get_or}
 use borrow.Author.Tests.{lt-ltb, le-ltb, le-leb, lt-leb, leb-true, ne_eqb}
+use Rattle.std.specs.Prelude.{Option, Some, None, is_some}
 use Rattle.fieldset.proofs.Tests.{and_left, and_right}
 use Rattle.hexadecimal.specs.Hex.{is_digit, digit_of, char_of, are_digits, lf}
-use Rattle.hexadecimal.specs.Answers.{digit_read}
+use Rattle.hexadecimal.specs.Answers.{digit_values, digit_read}
 
 -- what each character is
 pub below_0 : (c : ℕ) → c < 48 → [] ≡ digit_read c
@@ -49,11 +50,10 @@ other_read c e = go (is_digit c) e where
   go true h = let z : ◌≡◌ {A = ℕ} 0 1 = cc in absurd (omega arith)
   go false h = refl
 
-pub not_other : (c : ℕ) → is_digit c ≡ true → [] ≡ digit_read c → ⊥
-not_other c e h =
-    let f = other_read c h in
-    let z : ◌≡◌ {A = ℕ} 0 1 = cc in
-    omega arith
+-- only a digit has a value
+pub is_some_read : (c : ℕ) (d : Option ℕ) → digit_values d ≡ digit_read c → is_some d ≡ is_digit c
+is_some_read c (Some x) e = sym (value_read c x e).0
+is_some_read c None e = sym (other_read c e)
 
 -- the value of a digit is below 16
 pub digit_below : (c : ℕ) → is_digit c ≡ true → digit_of c < 16

@@ -1,18 +1,19 @@
 -- Decoding a line: which lines are hexadecimal, by the three tests that `decode` makes; what it answers then; and `Filled`, what the loop of `fill`
 -- keeps, where one more store is the run of stores one byte longer (`sets_more`). Assumes nothing.
-use mathlib.Core.Path.{◌≡◌, refl, sym, ap, ap₂, ◌∙◌}
+use mathlib.Core.Path.{◌≡◌, sym, ap, ap₂, ◌∙◌}
 use mathlib.Core.Bool.{Bool, true, false, ◌&&◌, and-false}
 use mathlib.Core.List.{List}
 use Prim.Native.Nat.{ℕ, ◌+◌, ◌*◌, ◌/◌, ◌%◌, ◌≤◌, ◌<◌}
+use native.Mathlib.Decide.{dec_lt}
 use native.Mathlib.Omega.{arith}
 use lib.Dec.{ltb, eqb}
 use lib.ListN.{length, get_or, take, set, length-set}
 use lib.Seq.{sets, take_all}
 use borrow.Author.Tests.{lt-ltb, le-ltb, eq-eqb, ne_eqb}
+use Rattle.std.specs.Prelude.{min, Result, Ok, Err}
 use Rattle.hexadecimal.specs.Hex.{digit_of, are_digits, is_hex, offset_of, bytes_of}
 use Rattle.hexadecimal.specs.Answers.{decoded_values, decoded, frame_after}
-use Rattle.hexadecimal.specs.declared.Decoded.{Decoded}
-use Rattle.hexadecimal.specs.declared.Decoded.TheVariants.{BadHex, Frame}
+use Rattle.hexadecimal.specs.declared.BadHex.{BadHex}
 use Rattle.hexadecimal.proofs.Bytes.{length_bytes_lem, byte_at}
 use Rattle.hexadecimal.proofs.Stores.{sets_fit, sets_more}
 
@@ -36,14 +37,14 @@ unfolding is_hex
 hex_line s e o h = simp (lt-ltb 0 (length s) (omega arith), eq-eqb (length s % 2) 0 (omega arith), h)
 
 -- what decoding answers, and the buffer after it
-abbrev pub Decodes : List ℕ → List ℕ → Decoded → List ℕ → Type 0
+abbrev pub Decodes : List ℕ → List ℕ → Result ℕ BadHex → List ℕ → Type 0
 Decodes s f d after = (decoded_values d ≡ decoded s) × (after ≡ frame_after s f)
 
-pub bad_line : (s f : List ℕ) (n : ℕ) → n ≡ offset_of s → is_hex s ≡ false → Decodes s f (BadHex n) f
+pub bad_line : (s f : List ℕ) (n : ℕ) → n ≡ offset_of s → is_hex s ≡ false → Decodes s f (Err (record { offset = n })) f
 unfolding decoded frame_after
 bad_line s f n e h = (simp (h, e), simp h)
 
-pub good_line : (s f g : List ℕ) → is_hex s ≡ true → g ≡ sets f 0 (bytes_of s) → Decodes s f (Frame (length s / 2)) g
+pub good_line : (s f g : List ℕ) → is_hex s ≡ true → g ≡ sets f 0 (bytes_of s) → Decodes s f (Ok (length s / 2)) g
 unfolding decoded frame_after
 good_line s f g h e = (simp (h, length_bytes_lem s), simp h e)
 
@@ -52,9 +53,6 @@ pub record Filled (s before after : List ℕ) (i : ℕ) : Type 0 where
   pub within : i ≤ 12
   pub size : length after ≡ 12
   pub bytes : after ≡ sets before 0 (take i (bytes_of s))
-
-pub filled_none : (s f : List ℕ) → length f ≡ 12 → Filled s f f 0
-filled_none s f h = record { within = omega arith; size = h; bytes = refl }
 
 pub filled_more : (s f g : List ℕ) (i x : ℕ) → Filled s f g i → i < 12 → 2 * i + 1 < length s
     → x ≡ digit_of (get_or s (2 * i) 0) * 16 + digit_of (get_or s (2 * i + 1) 0) → Filled s f (set g i x) (i + 1)
@@ -65,8 +63,9 @@ filled_more s f g i x was less h k = record {
 }
 
 -- the line is at its end, or the buffer is full
-pub filled_end : (s f g : List ℕ) (i : ℕ) → Filled s f g i → length s ≤ 2 * i + 1 → g ≡ sets f 0 (bytes_of s)
-filled_end s f g i was h = was.bytes ∙ ap (sets f 0) (take_all i (bytes_of s) (omega (arith, length_bytes_lem s)))
-
-pub filled_full : (s f g : List ℕ) (i : ℕ) → Filled s f g i → length f ≡ 12 → 12 ≤ i → g ≡ sets f 0 (bytes_of s)
-filled_full s f g i was e h = was.bytes ∙ sets_fit i f 0 (bytes_of s) (omega arith)
+pub filled_all : (s f g : List ℕ) (i : ℕ) → Filled s f g i → length f ≡ 12 → min 12 (length s / 2) ≤ i → g ≡ sets f 0 (bytes_of s)
+filled_all s f g i was e h = was.bytes ∙ go (dec_lt i 12)
+  where
+    go : Dec (i < 12) → sets f 0 (take i (bytes_of s)) ≡ sets f 0 (bytes_of s)
+    go (yes l) = ap (sets f 0) (take_all i (bytes_of s) (omega (arith, length_bytes_lem s)))
+    go (no l) = sets_fit i f 0 (bytes_of s) (omega arith)

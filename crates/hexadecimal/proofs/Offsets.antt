@@ -11,8 +11,7 @@ use native.Mathlib.Omega.{arith}
 use lib.ListN.{length, get_or, drop, drop_of_length-le}
 use lib.Seq.{drop-cons}
 use Rattle.hexadecimal.specs.Hex.{is_digit, are_digits, offset_of}
-use Rattle.hexadecimal.specs.Answers.{digit_read}
-use Rattle.hexadecimal.proofs.Digits.{value_read, other_read, other_digits}
+use Rattle.hexadecimal.proofs.Digits.{other_digits}
 
 pub offset_within : (s : List ℕ) → offset_of s ≤ length s
 unfolding offset_of
@@ -58,25 +57,20 @@ pub record Read (s : List ℕ) (i : ℕ) : Type 0 where
   pub within : i ≤ length s
   pub rest : i + offset_of (drop i s) ≡ offset_of s
 
-pub read_none : (s : List ℕ) → Read s 0
-read_none s = record { within = omega arith; rest = omega arith }
-
-pub read_more : (s : List ℕ) (i x : ℕ) → Read s i → i < length s → x ∷ [] ≡ digit_read (get_or s i 0) → Read s (i + 1)
+pub read_more : (s : List ℕ) (i : ℕ) → Read s i → i < length s → is_digit (get_or s i 0) ≡ true → Read s (i + 1)
 unfolding offset_of
-read_more s i x was h e =
-    let k = (value_read (get_or s i 0) x e).0 in
+read_more s i was h k =
     let on : offset_of (drop i s) ≡ suc (offset_of (drop (i + 1) s)) = rw (add-one, drop-cons s i 0 h) (simp k) in
     record { within = omega arith; rest = omega (arith, on, was.rest) }
 
 -- another character, or the end
-pub read_other : (s : List ℕ) (i : ℕ) → Read s i → i < length s → [] ≡ digit_read (get_or s i 0) → i ≡ offset_of s
+pub read_other : (s : List ℕ) (i : ℕ) → Read s i → i < length s → is_digit (get_or s i 0) ≡ false → i ≡ offset_of s
 unfolding offset_of
-read_other s i was h e =
-    let k = other_read (get_or s i 0) e in
+read_other s i was h k =
     let stop : offset_of (drop i s) ≡ 0 = rw (drop-cons s i 0 h) (simp k) in
     omega (arith, stop, was.rest)
 
-pub read_end : (s : List ℕ) (i : ℕ) → Read s i → length s ≤ i → i ≡ offset_of s
+pub read_end : (s : List ℕ) (i : ℕ) → Read s i → length s ≤ i → length s ≡ offset_of s
 unfolding offset_of
 read_end s i was h =
     let none : offset_of (drop i s) ≡ 0 = ap offset_of (drop_of_length-le s {i = i} h) in

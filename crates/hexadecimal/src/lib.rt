@@ -12,34 +12,21 @@ pub const FRAME_ROOM: usize = 12;
 // A letter is its value, from 10 on, behind this character.
 pub const LETTER: u8 = b'A' - 10;
 
-// What a character is: a digit's value, or another character.
-#[derive(Clone, Copy)]
-pub enum Digit {
-    Value(u8),
-    Other,
+// A line that is refused, with the offset where it is wrong.
+#[derive(Clone, Copy, PartialEq, Eq)]
+pub struct BadHex {
+    pub offset: usize,
 }
 
-// What a line is: refused, with the offset where it is wrong, or a frame of so many bytes.
-#[derive(Clone, Copy)]
-pub enum Decoded {
-    BadHex(usize),
-    Frame(usize),
-}
-
-// The value of a digit.
-pub fn digit_of(c: u8) -> Digit
+// The value of a digit; another character has none.
+#[tactic(auto, using(crate::proofs::Digits::below_0, crate::proofs::Digits::from_0, crate::proofs::Digits::below_A, crate::proofs::Digits::from_A, crate::proofs::Digits::behind_F))]
+pub fn digit_of(c: u8) -> Option<u8>
     ensures { digit_values result ≡ digit_read c }
 {
-    if c < b'0' {
-        Digit::Other
-    } else if c <= b'9' {
-        Digit::Value(c - b'0')
-    } else if c < b'A' {
-        Digit::Other
-    } else if c <= b'F' {
-        Digit::Value(c - LETTER)
-    } else {
-        Digit::Other
+    match c {
+        b'0'..=b'9' => Some(c - b'0'),
+        b'A'..=b'F' => Some(c - LETTER),
+        _ => None,
     }
 }
 
@@ -47,16 +34,12 @@ pub fn digit_of(c: u8) -> Digit
 pub fn offset_of(s: &[u8]) -> usize
     ensures { result ≡ offset_of s.now }
 {
-    let mut i = 0;
-    while i < s.len() {
-        let d = digit_of(s[i]);
-        match d {
-            Digit::Value(_) => {}
-            Digit::Other => return i,
+    for (i, &c) in s.iter().enumerate() {
+        if digit_of(c).is_none() {
+            return i;
         }
-        i += 1;
     }
-    i
+    s.len()
 }
 
 // The value of a character that is a digit.
@@ -64,11 +47,7 @@ fn value(c: u8) -> u8
     requires { is_digit c ≡ true }
     ensures { result ≡ digit_of c }
 {
-    let d = digit_of(c);
-    match d {
-        Digit::Value(x) => x,
-        Digit::Other => 0,
-    }
+    digit_of(c).unwrap()
 }
 
 // Two digits as a byte.
@@ -84,15 +63,13 @@ fn fill(s: &[u8], frame: &mut [u8; FRAME_ROOM])
     requires { (are_digits s.now ≡ true) × (length frame.old ≡ frame_room) }
     ensures { frame.new ≡ sets frame.old 0 (bytes_of s.now) }
 {
-    let mut i = 0;
-    while i < FRAME_ROOM && 2 * i + 1 < s.len() {
+    for i in 0..FRAME_ROOM.min(s.len() / 2) {
         frame[i] = byte(s[2 * i], s[2 * i + 1]);
-        i += 1;
     }
 }
 
-// A line: BadHex with the offset where it is wrong, or the length of its frame, whose first bytes, at most FRAME_ROOM, are put into the buffer.
-pub fn decode(s: &[u8], frame: &mut [u8; FRAME_ROOM]) -> Decoded
+// The length of a line's frame, whose first bytes, at most FRAME_ROOM, are put into the buffer; BadHex where the line is refused.
+pub fn decode(s: &[u8], frame: &mut [u8; FRAME_ROOM]) -> Result<usize, BadHex>
     requires { length frame.old ≡ frame_room }
     ensures result_value { decoded_values result ≡ decoded s.now }
     ensures frame_after { frame.new ≡ frame_after s.now frame.old }
@@ -100,8 +77,8 @@ pub fn decode(s: &[u8], frame: &mut [u8; FRAME_ROOM]) -> Decoded
     let n = s.len();
     let offset = offset_of(s);
     if offset < n || n == 0 || n % 2 == 1 {
-        return Decoded::BadHex(offset);
+        return Err(BadHex { offset });
     }
     fill(s, frame);
-    Decoded::Frame(n / 2)
+    Ok(n / 2)
 }

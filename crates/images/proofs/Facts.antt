@@ -13,6 +13,7 @@ use lib.ListN.{length}
 use mir.Syntax.{w32}
 use mir.Val.{SFits}
 use borrow.Author.Tests.{lt-ltb, le-ltb, le-leb, ltb-true, ltb-false, leb-true, eq-eqb, ne_eqb, eqb-true, not-true}
+use Rattle.std.specs.Prelude.{Some, None, is_none}
 use Rattle.fieldset.specs.Tables.{at}
 use Rattle.fieldset.specs.Fields.{member, size, within, below}
 use Rattle.fieldset.proofs.Tests.{and_left, and_right, and_both, or_left}
@@ -25,14 +26,13 @@ use Rattle.panel.specs.Items.{no_link, link_at, is_waiting}
 use Rattle.panel.specs.Legal.{Formed}
 use Rattle.values.specs.Limits.{value_at, outside}
 use Rattle.values.specs.Words.{bits_of}
-use Rattle.formulas.specs.declared.Formula.{Formula}
-use Rattle.formulas.specs.declared.Formula.TheVariants.{None, Ratio, Sum}
-use Rattle.formulas.specs.Formulas.{accepted}
+use Rattle.formulas.specs.declared.Formula.TheVariants.{Ratio, Sum}
+use Rattle.formulas.specs.Formulas.{Rule, accepted}
 use Rattle.sheet.specs.declared.Sheet.{Sheet}
 use Rattle.sheet.specs.Sheets.{formula_at}
 use Rattle.sheet.specs.Legal.{Fits}
 use Rattle.images.specs.Images.{field_at}
-use Rattle.images.specs.Forms.{every, is_whole, is_size, is_place, holds, is_standing, used_test, fits_test, is_link, is_setter, is_none, is_rule, is_value, is_formed}
+use Rattle.images.specs.Forms.{every, is_whole, is_size, is_place, holds, is_standing, used_test, fits_test, is_link, is_setter, is_rule, is_value, is_formed}
 
 pub record HoldFacts (setter : List ℕ) (i outputs f : ℕ) : Type 0 where
   pub field : f < 64
@@ -47,7 +47,7 @@ pub record Facts (s : Sheet) : Type 0 where
   pub links_long : length s.panel.links ≡ 128
   pub place_long : length s.panel.place ≡ 64
   pub setter_long : length s.panel.setter ≡ 64
-  pub rules_long : length s.formulas.of ≡ 128
+  pub rules_long : length s.formulas ≡ 128
   pub values_long : length s.values ≡ 64
   pub some : 1 ≤ s.panel.size
   pub few : s.panel.size ≤ 64
@@ -188,12 +188,12 @@ it_holds s f e = rw e (eq-eqb f f refl)
 
 -- ---- formulas
 
-none_rule : (formula : Formula) → is_none formula ≡ true → formula ≡ None
+none_rule : (formula : Rule) → is_none formula ≡ true → formula ≡ None
 none_rule None e = refl
-none_rule (Ratio p q) e = absurd (false≢true e)
-none_rule (Sum f) e = absurd (false≢true e)
+none_rule (Some (Ratio p q)) e = absurd (false≢true e)
+none_rule (Some (Sum f)) e = absurd (false≢true e)
 
-rule_fits : (l : Link) (formula : Formula) → is_rule l formula ≡ true → Fits formula l
+rule_fits : (l : Link) (formula : Rule) → is_rule l formula ≡ true → Fits formula l
 unfolding is_rule
 rule_fits l formula e = go (is_none formula) refl e
   where
@@ -201,7 +201,7 @@ rule_fits l formula e = go (is_none formula) refl e
     go true t e = inl (none_rule formula t)
     go false t e = inr (and_left l.used _ e, and_right l.used _ e)
 
-fits_rule : (l : Link) (formula : Formula) → Fits formula l → is_rule l formula ≡ true
+fits_rule : (l : Link) (formula : Rule) → Fits formula l → is_rule l formula ≡ true
 unfolding is_rule
 fits_rule l formula (inl e) = rw e
 fits_rule l formula (inr (u, a)) = rw (u, a) (or-true (is_none formula))
@@ -249,7 +249,7 @@ module _ (s : Sheet) (e : is_formed s ≡ true) where
     place_long = eqb-true _ 64 (and_right (eqb (length s.panel.links) 128) _ (and_left _ _ whole));
     setter_long = eqb-true _ 64 (and_left _ _ (and_left _ _ (and_right (eqb (length s.panel.links) 128 && eqb (length s.panel.place) 64) _ whole)));
     rules_long = eqb-true _ 128 (and_right (eqb (length s.panel.setter) 64) _ (and_left _ _ (and_right (eqb (length s.panel.links) 128 && eqb (length s.panel.place) 64) _ whole)));
-    values_long = eqb-true _ 64 (and_right (eqb (length s.panel.setter) 64 && eqb (length s.formulas.of) 128) _ (and_right (eqb (length s.panel.links) 128 && eqb (length s.panel.place) 64) _ whole));
+    values_long = eqb-true _ 64 (and_right (eqb (length s.panel.setter) 64 && eqb (length s.formulas) 128) _ (and_right (eqb (length s.panel.links) 128 && eqb (length s.panel.place) 64) _ whole));
     some = leb-true 1 _ (and_left _ _ sized);
     few = leb-true _ 64 (and_right (leb 1 s.panel.size) _ sized);
     place_small = λ f l. ltb-true _ _ (and_left _ _ (in_place f l));

@@ -11,6 +11,7 @@ use lib.Dec.{eqb}
 use lib.IntN.{pos}
 use lib.ListN.{get_or-eq_default}
 use borrow.Author.Tests.{eq-eqb, eqb-true, not-true}
+use Rattle.std.specs.Prelude.{None}
 use Rattle.fieldset.specs.Tables.{at}
 use Rattle.fieldset.proofs.Tests.{or_left, or_right}
 use Rattle.fieldset.proofs.Numbers.{clash, lowest_is, Lowest, any_false, any_none}
@@ -22,8 +23,7 @@ use Rattle.panel.specs.Solution.{is_looped, least_blocked}
 use Rattle.panel.specs.Legal.{Legal}
 use Rattle.panel.proofs.InForce.{force_used, used_force}
 use Rattle.values.specs.Limits.{value_at, outside}
-use Rattle.formulas.specs.declared.Formula.TheVariants.{None}
-use Rattle.formulas.specs.declared.Rule.{Rule}
+use Rattle.formulas.specs.Formulas.{Rule}
 use Rattle.sheet.specs.declared.Sheet.{Sheet}
 use Rattle.sheet.specs.Sheets.{formula_at}
 use Rattle.sheet.specs.Legal.{Fits, LegalSheet}
@@ -131,7 +131,7 @@ module _ (s : Sheet) (e : is_formed s ≡ true) where
     where
       go : (k : ℕ) → Dec (k < 128) → Fits (formula_at s.formulas k) (link_at s.panel.links k)
       go k (yes l) = F.fits k l
-      go k (no l) = inl (ap (λ (r : Rule). r.formula) (get_or-eq_default s.formulas.of (record { formula = None }) {n = k} (omega (arith, F.rules_long))))
+      go k (no l) = inl (get_or-eq_default s.formulas None {n = k} (omega (arith, F.rules_long)))
 
       inside_limits : (f : ℕ) → Dec (f < 64) → outside (value_at s.values f) ≡ false
       inside_limits f (yes l) = not-true (outside (value_at s.values f)) (small_value (value_at s.values f) (F.value_fits f l))

@@ -8,6 +8,7 @@ use native.Mathlib.Omega.{arith}
 use native.Mathlib.Nat.{mul-suc}
 use lib.Dec.{eqb}
 use lib.ListN.{length, length-append}
+use Rattle.std.specs.Prelude.{Some, None}
 use Rattle.fieldset.specs.Tables.{tabulate}
 use Rattle.fieldset.proofs.Tables.{length_tabulate}
 use Rattle.panel.specs.Items.{link_at}
@@ -20,8 +21,8 @@ use Rattle.values.specs.Words.{bits_of}
 use Rattle.panel.specs.declared.Link.{Link}
 use Rattle.panel.specs.Legal.{Formed}
 use Rattle.fieldset.specs.Fields.{size}
-use Rattle.formulas.specs.declared.Formula.{Formula}
-use Rattle.formulas.specs.declared.Formula.TheVariants.{None, Ratio, Sum}
+use Rattle.formulas.specs.Formulas.{Rule}
+use Rattle.formulas.specs.declared.Formula.TheVariants.{Ratio, Sum}
 use Rattle.formulas.proofs.Accepting.{ratio_accepted}
 use Rattle.frames.specs.Frames.{formula_bytes}
 use Rattle.sheet.specs.declared.Sheet.{Sheet}
@@ -73,14 +74,14 @@ module _ (s : Sheet) (few : s.panel.size ≤ 64)
           go true u = omega (arith, line k, (f u).few)
           go false u = omega arith
 
-      go : (k : Link) → (k.used ≡ true → Formed s.panel.size k) → (r : Formula) → Fits r k
+      go : (k : Link) → (k.used ≡ true → Formed s.panel.size k) → (r : Rule) → Fits r k
           → length (written (link_frames i k)) + length (written (formula_frames i r)) ≤ 34
       go k f None h = omega (arith, none k f)
-      go k f (Ratio p q) (inl e) = absurd (let z : ◌≡◌ {A = ℕ} 0 1 = cc in omega arith)
-      go k f (Ratio p q) (inr (u, a)) =
-          rw u (omega (arith, line k, (ratio_accepted p q k.covered a).1.1, one_line (0x08 ∷ i ∷ formula_bytes (Ratio p q)) 7 (omega arith)))
-      go k f (Sum g) (inl e) = absurd (let z : ◌≡◌ {A = ℕ} 0 1 = cc in omega arith)
-      go k f (Sum g) (inr (u, a)) = rw u (omega (arith, line k, (f u).few, one_line (0x08 ∷ i ∷ formula_bytes (Sum g)) 4 (omega arith)))
+      go k f (Some (Ratio p q)) (inl e) = absurd (let z : ◌≡◌ {A = ℕ} 0 1 = cc in omega arith)
+      go k f (Some (Ratio p q)) (inr (u, a)) =
+          rw u (omega (arith, line k, (ratio_accepted p q k.covered a).1.1, one_line (0x08 ∷ i ∷ formula_bytes (Some (Ratio p q))) 7 (omega arith)))
+      go k f (Some (Sum g)) (inl e) = absurd (let z : ◌≡◌ {A = ℕ} 0 1 = cc in omega arith)
+      go k f (Some (Sum g)) (inr (u, a)) = rw u (omega (arith, line k, (f u).few, one_line (0x08 ∷ i ∷ formula_bytes (Some (Sum g))) 4 (omega arith)))
 
   value_length : (f : ℕ) → f < s.panel.size → length (written (value_piece s.values f)) ≤ 13
   unfolding written

@@ -5,13 +5,14 @@ use mathlib.Core.List.{List, [], ◌∷◌, map}
 use native.Mathlib.Omega.{arith}
 use borrow.Author.Tests.{lt-ltb, eq-eqb}
 use lib.ListN.{length}
+use Rattle.std.specs.Prelude.{Some, None}
 use Rattle.fieldset.specs.Lists.{All}
 use Rattle.fieldset.proofs.Lists.{all_append}
 use Rattle.hexadecimal.specs.Hex.{is_hex, hex_of}
 use Rattle.hexadecimal.proofs.Bytes.{length_hex, bytes_hex, digits_hex}
 use Rattle.lines.specs.Lines.{lines_of}
-use Rattle.formulas.specs.declared.Formula.{Formula}
-use Rattle.formulas.specs.declared.Formula.TheVariants.{None, Ratio, Sum}
+use Rattle.formulas.specs.Formulas.{Rule}
+use Rattle.formulas.specs.declared.Formula.TheVariants.{Ratio, Sum}
 use Rattle.frames.specs.Texts.{written}
 use Rattle.frames.specs.Frames.{formula_in, formula_bytes}
 use Rattle.frames.proofs.Outputs.{lines_all}
@@ -45,10 +46,10 @@ pub frames_written : (fs : List (List ℕ)) → Frames fs → map line_bytes (li
 frames_written fs h = ap (map line_bytes) (lines_all fs) ∙ bytes_lines fs h
 
 -- the formula of a frame
-pub formula_back : (r : Formula) → formula_in (formula_bytes r) ≡ r
+pub formula_back : (r : Rule) → formula_in (formula_bytes r) ≡ r
 formula_back None = refl
-formula_back (Ratio p q) = ap₂ Ratio (halves p) (halves q)
+formula_back (Some (Ratio p q)) = ap₂ (λ (p q : ℕ). Some (Ratio p q)) (halves p) (halves q)
   where
     halves : (x : ℕ) → x / 256 * 256 + x % 256 ≡ x
     halves x = omega arith
-formula_back (Sum f) = refl
+formula_back (Some (Sum f)) = refl

@@ -10,6 +10,7 @@ use lib.IntN.{ℤ, pos}
 use lib.ListN.{take, set, replicate}
 use lib.Seq.{take_all}
 use borrow.Author.Tests.{ne_eqb, eqb-true}
+use Rattle.std.specs.Prelude.{Some, None}
 use Rattle.fieldset.specs.Tables.{at, tabulate}
 use Rattle.fieldset.specs.Fields.{size}
 use Rattle.fieldset.proofs.Tables.{length_tabulate}
@@ -23,9 +24,8 @@ use Rattle.panel.specs.Commands.{covered_in, outputs_in}
 use Rattle.values.specs.Limits.{value_at}
 use Rattle.values.specs.Words.{value_of, bits_of}
 use Rattle.values.proofs.Words.{value_bits, bits_small}
-use Rattle.formulas.specs.declared.Formula.{Formula}
-use Rattle.formulas.specs.declared.Formula.TheVariants.{None, Ratio, Sum}
-use Rattle.formulas.specs.declared.Rule.{Rule}
+use Rattle.formulas.specs.Formulas.{Rule}
+use Rattle.formulas.specs.declared.Formula.TheVariants.{Ratio, Sum}
 use Rattle.formulas.proofs.Accepting.{ratio_terms, sum_accepted}
 use Rattle.sheet.specs.Legal.{Fits}
 use Rattle.fieldset.proofs.Lists.{all_append}
@@ -55,12 +55,9 @@ entered_gather S f n h =
 abbrev stage : ℕ → List Link → List ℕ → List ℕ → List Rule → List ℤ → Sheet
 stage n links place setter rules values = record {
   panel = record { size = n; links = links; place = place; setter = setter };
-  formulas = record { of = rules };
+  formulas = rules;
   values = values;
 }
-
-abbrev none : Rule
-none = record { formula = None }
 
 link_is : (l : Link) (c o : ℕ) (u : Bool) (st : Standing) → c ≡ l.covered → o ≡ l.outputs → u ≡ l.used → st ≡ l.standing
     → ◌≡◌ {A = Link} (record { covered = c; outputs = o; level = l.level; used = u; standing = st }) l
@@ -74,7 +71,7 @@ module _ (s : Sheet) (F : Facts s) where
   setter = s.panel.setter
 
   abbrev rules : List Rule
-  rules = s.formulas.of
+  rules = s.formulas
 
   abbrev values : List ℤ
   values = s.values
@@ -131,23 +128,23 @@ module _ (s : Sheet) (F : Facts s) where
   -- ---- formulas
 
   rule_on : (L : List Link) (place set' : List ℕ) (v : List ℤ) (i : ℕ) → i < 128
-      → entered_all (stage n L place set' (cut none rules 128 i) v) (formula_piece s.formulas i) ≡ stage n L place set' (cut none rules 128 (suc i)) v
+      → entered_all (stage n L place set' (cut None rules 128 i) v) (formula_piece s.formulas i) ≡ stage n L place set' (cut None rules 128 (suc i)) v
   unfolding entered_all entered
   rule_on L place set' v i l = go (formula_at s.formulas i) refl
     where
       -- the formula that a line gives is the link's
-      done : (x r : Formula) → x ≡ r → formula_at s.formulas i ≡ r
-          → stage n L place set' (set (cut none rules 128 i) i (record { formula = x })) v ≡ stage n L place set' (cut none rules 128 (suc i)) v
+      done : (x r : Rule) → x ≡ r → formula_at s.formulas i ≡ r
+          → stage n L place set' (set (cut None rules 128 i) i x) v ≡ stage n L place set' (cut None rules 128 (suc i)) v
       done x r e t =
           let same : x ≡ formula_at s.formulas i = e ∙ sym t in
           ap (λ (y : List Rule). stage n L place set' y v)
-          (ap (λ (y : Formula). set (cut none rules 128 i) i (record { formula = y })) same ∙ cut_more none rules 128 i l)
+          (ap (set (cut None rules 128 i) i) same ∙ cut_more None rules 128 i l)
 
-      go : (r : Formula) → formula_at s.formulas i ≡ r
-          → entered_all (stage n L place set' (cut none rules 128 i) v) (formula_frames i r) ≡ stage n L place set' (cut none rules 128 (suc i)) v
-      go None t = ap (λ (y : List Rule). stage n L place set' y v) (cut_keep none rules 128 i (ap (λ (y : Formula). record { formula = y }) t))
-      go (Ratio p q) t = done _ (Ratio p q) (formula_back (Ratio p q)) t
-      go (Sum f) t = done _ (Sum f) (formula_back (Sum f)) t
+      go : (r : Rule) → formula_at s.formulas i ≡ r
+          → entered_all (stage n L place set' (cut None rules 128 i) v) (formula_frames i r) ≡ stage n L place set' (cut None rules 128 (suc i)) v
+      go None t = ap (λ (y : List Rule). stage n L place set' y v) (cut_keep None rules 128 i t)
+      go (Some (Ratio p q)) t = done _ (Some (Ratio p q)) (formula_back (Some (Ratio p q))) t
+      go (Some (Sum f)) t = done _ (Some (Sum f)) (formula_back (Some (Sum f))) t
 
   -- ---- values
 
@@ -173,23 +170,23 @@ module _ (s : Sheet) (F : Facts s) where
 
   -- ---- the whole
 
-  start : stage n (replicate 128 no_link) s.panel.place (replicate 64 128) (replicate 128 none) (replicate 64 (pos 0))
-      ≡ stage n (cut no_link links 128 0) s.panel.place (cut_setter setter 0) (cut none rules 128 0) (cut (pos 0) values 64 0)
-  start = rw (cut_none no_link links 128, setter_none setter, cut_none none rules 128, cut_none (pos 0) values 64)
+  start : stage n (replicate 128 no_link) s.panel.place (replicate 64 128) (replicate 128 None) (replicate 64 (pos 0))
+      ≡ stage n (cut no_link links 128 0) s.panel.place (cut_setter setter 0) (cut None rules 128 0) (cut (pos 0) values 64 0)
+  start = rw (cut_none no_link links 128, setter_none setter, cut_none None rules 128, cut_none (pos 0) values 64)
 
-  end : stage n (cut no_link links 128 128) s.panel.place (cut_setter setter 128) (cut none rules 128 128) (cut (pos 0) values 64 n) ≡ s
+  end : stage n (cut no_link links 128 128) s.panel.place (cut_setter setter 128) (cut None rules 128 128) (cut (pos 0) values 64 n) ≡ s
   end = rw (
     cut_all no_link links 128 128 F.links_long (λ j h k. absurd (omega arith)),
     setter_all setter F.setter_long F.setter_small,
-    cut_all none rules 128 128 F.rules_long (λ j h k. absurd (omega arith)),
+    cut_all None rules 128 128 F.rules_long (λ j h k. absurd (omega arith)),
     cut_all (pos 0) values 64 n F.values_long (λ j h k. F.value_past j h k),
   )
 
   opening : (version : ℕ) → entered (entered unopened (0x0A ∷ version ∷ n ∷ [])) (0x0B ∷ stay_order s.panel.place n)
-      ≡ stage n (replicate 128 no_link) (placed (tabulate (λ f. f) 64) 0 (stay_order s.panel.place n)) (replicate 64 128) (replicate 128 none) (replicate 64 (pos 0))
+      ≡ stage n (replicate 128 no_link) (placed (tabulate (λ f. f) 64) 0 (stay_order s.panel.place n)) (replicate 64 128) (replicate 128 None) (replicate 64 (pos 0))
   unfolding entered opened stay_order
   opening version =
-      ap (λ (x : List ℕ). stage n (replicate 128 no_link) (placed (tabulate (λ f. f) 64) 0 x) (replicate 64 128) (replicate 128 none) (replicate 64 (pos 0)))
+      ap (λ (x : List ℕ). stage n (replicate 128 no_link) (placed (tabulate (λ f. f) 64) 0 x) (replicate 64 128) (replicate 128 None) (replicate 64 (pos 0)))
       (take_all 64 (tabulate (field_at s.panel.place n) n) (omega (arith, length_tabulate (field_at s.panel.place n) n, F.few)))
 
   pub entered_frames : (version : ℕ) → entered_all unopened (frames_of version s) ≡ s
@@ -200,19 +197,19 @@ module _ (s : Sheet) (F : Facts s) where
       let Q = gather (value_piece values) n in
       ap (λ (x : Sheet). entered_all x (P ++ (R ++ Q)))
       (opening version
-      ∙ ap (λ (x : List ℕ). stage n (replicate 128 no_link) x (replicate 64 128) (replicate 128 none) (replicate 64 (pos 0)))
+      ∙ ap (λ (x : List ℕ). stage n (replicate 128 no_link) x (replicate 64 128) (replicate 128 None) (replicate 64 (pos 0)))
       (places_back s.panel.place n F.few F.place_first F.place_long F.place_small F.place_past)
       ∙ start)
       ∙ entered_append _ P (R ++ Q)
       ∙ ap (λ (x : Sheet). entered_all x (R ++ Q))
-      (entered_gather (λ i. stage n (cut no_link links 128 i) s.panel.place (cut_setter setter i) (cut none rules 128 0) (cut (pos 0) values 64 0)) (link_piece links) 128
-      (λ i l. link_on s.panel.place (cut none rules 128 0) (cut (pos 0) values 64 0) i l))
+      (entered_gather (λ i. stage n (cut no_link links 128 i) s.panel.place (cut_setter setter i) (cut None rules 128 0) (cut (pos 0) values 64 0)) (link_piece links) 128
+      (λ i l. link_on s.panel.place (cut None rules 128 0) (cut (pos 0) values 64 0) i l))
       ∙ entered_append _ R Q
       ∙ ap (λ (x : Sheet). entered_all x Q)
-      (entered_gather (λ i. stage n (cut no_link links 128 128) s.panel.place (cut_setter setter 128) (cut none rules 128 i) (cut (pos 0) values 64 0)) (formula_piece s.formulas) 128
+      (entered_gather (λ i. stage n (cut no_link links 128 128) s.panel.place (cut_setter setter 128) (cut None rules 128 i) (cut (pos 0) values 64 0)) (formula_piece s.formulas) 128
       (λ i l. rule_on (cut no_link links 128 128) s.panel.place (cut_setter setter 128) (cut (pos 0) values 64 0) i l))
-      ∙ entered_gather (λ i. stage n (cut no_link links 128 128) s.panel.place (cut_setter setter 128) (cut none rules 128 128) (cut (pos 0) values 64 i)) (value_piece values) n
-      (λ i l. value_on (cut no_link links 128 128) s.panel.place (cut_setter setter 128) (cut none rules 128 128) i (omega (arith, F.few)))
+      ∙ entered_gather (λ i. stage n (cut no_link links 128 128) s.panel.place (cut_setter setter 128) (cut None rules 128 128) (cut (pos 0) values 64 i)) (value_piece values) n
+      (λ i l. value_on (cut no_link links 128 128) s.panel.place (cut_setter setter 128) (cut None rules 128 128) i (omega (arith, F.few)))
       ∙ end
 
   -- ---- they are bytes
@@ -243,14 +240,14 @@ module _ (s : Sheet) (F : Facts s) where
   bytes_rule : (i : ℕ) → i < 128 → Frames (formula_piece s.formulas i)
   bytes_rule i l = go (formula_at s.formulas i) (F.fits i l)
     where
-      go : (r : Formula) → Fits r (link_at links i) → Frames (formula_frames i r)
+      go : (r : Rule) → Fits r (link_at links i) → Frames (formula_frames i r)
       go None h = tt
-      go (Ratio p q) (inl e) = absurd (let z : ◌≡◌ {A = ℕ} 0 1 = cc in omega arith)
-      go (Ratio p q) (inr (u, a)) =
+      go (Some (Ratio p q)) (inl e) = absurd (let z : ◌≡◌ {A = ℕ} 0 1 = cc in omega arith)
+      go (Some (Ratio p q)) (inr (u, a)) =
           let t = ratio_terms p q (link_at links i).covered a in
           ((omega arith, (omega arith, (omega arith, (omega (arith, t.0), (omega arith, (omega (arith, t.1), (omega arith, tt))))))), tt)
-      go (Sum f) (inl e) = absurd (let z : ◌≡◌ {A = ℕ} 0 1 = cc in omega arith)
-      go (Sum f) (inr (u, a)) = ((omega arith, (omega arith, (omega arith, (omega (arith, (sum_accepted f (link_at links i).covered a).0), tt)))), tt)
+      go (Some (Sum f)) (inl e) = absurd (let z : ◌≡◌ {A = ℕ} 0 1 = cc in omega arith)
+      go (Some (Sum f)) (inr (u, a)) = ((omega arith, (omega arith, (omega arith, (omega (arith, (sum_accepted f (link_at links i).covered a).0), tt)))), tt)
 
   bytes_value : (f : ℕ) → f < n → Frames (value_piece values f)
   bytes_value f l = go (eqb (bits_of (value_at values f)) 0) (bits_of (value_at values f)) (bits_small (value_at values f) (F.value_fits f (omega (arith, F.few))))

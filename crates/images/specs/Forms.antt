@@ -1,5 +1,5 @@
 -- Which sheets have a text that is no BadImage. Quotations are of document 02, request 7.
-use Rattle.std.specs.Prelude.{ℕ, zero, suc, ◌^◌, Bool, true, false, not, ◌&&◌, ◌||◌, cond, List, eqb, leb, ltb, ℤ, length}
+use Rattle.std.specs.Prelude.{ℕ, zero, suc, ◌^◌, Bool, true, false, not, ◌&&◌, ◌||◌, cond, List, eqb, leb, ltb, ℤ, length, is_none}
 use Rattle.fieldset.specs.Tables.{at}
 use Rattle.fieldset.specs.Fields.{member, size, within, below}
 use Rattle.panel.specs.declared.Standing.{Standing}
@@ -8,9 +8,7 @@ use Rattle.panel.specs.declared.Link.{Link}
 use Rattle.panel.specs.Items.{link_at, is_waiting}
 use Rattle.values.specs.Limits.{value_at, outside}
 use Rattle.values.specs.Words.{bits_of}
-use Rattle.formulas.specs.declared.Formula.{Formula}
-use Rattle.formulas.specs.declared.Formula.TheVariants.{None, Ratio, Sum}
-use Rattle.formulas.specs.Formulas.{accepted}
+use Rattle.formulas.specs.Formulas.{Rule, accepted}
 use Rattle.sheet.specs.declared.Sheet.{Sheet}
 use Rattle.sheet.specs.Sheets.{formula_at}
 use Rattle.images.specs.Images.{field_at}
@@ -24,7 +22,7 @@ every p (suc n) = every p n && p n
 unfoldable pub is_whole : Sheet → Bool
 is_whole s =
     (eqb (length s.panel.links) 128 && eqb (length s.panel.place) 64)
-    && ((eqb (length s.panel.setter) 64 && eqb (length s.formulas.of) 128) && eqb (length s.values) 64)
+    && ((eqb (length s.panel.setter) 64 && eqb (length s.formulas) 128) && eqb (length s.values) 64)
 
 -- "numbers that the opening .. would refuse"
 unfoldable pub is_size : ℕ → Bool
@@ -64,13 +62,8 @@ is_setter links setter f =
     let i = at setter f in
     eqb i 128 || (ltb i 128 && ((link_at links i).used && holds (link_at links i).standing f))
 
-abbrev pub is_none : Formula → Bool
-is_none None = true
-is_none (Ratio p q) = false
-is_none (Sum f) = false
-
 -- "numbers that .. kind 08 would refuse": there is no formula, or the link is in use and can be given it
-unfoldable pub is_rule : Link → Formula → Bool
+unfoldable pub is_rule : Link → Rule → Bool
 is_rule l formula = is_none formula || (l.used && accepted formula l.covered)
 
 -- a value is within the limits; past the fields it is zero

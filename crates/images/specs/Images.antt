@@ -1,5 +1,5 @@
 -- The saved text of a panel (document 02, request 7). Quotations are of that request, or of document 01 where that is said.
-use Rattle.std.specs.Prelude.{ℕ, zero, suc, ◌+◌, ◌/◌, ◌%◌, cond, List, [], ◌∷◌, ◌++◌, eqb, ℤ}
+use Rattle.std.specs.Prelude.{ℕ, zero, suc, ◌+◌, ◌/◌, ◌%◌, cond, List, [], ◌∷◌, ◌++◌, eqb, ℤ, Some, None}
 use Rattle.fieldset.specs.Numbers.{lowest}
 use Rattle.fieldset.specs.Tables.{at, tabulate}
 use Rattle.fieldset.specs.Fields.{member}
@@ -9,9 +9,8 @@ use Rattle.panel.specs.declared.Link.{Link}
 use Rattle.panel.specs.Items.{link_at}
 use Rattle.values.specs.Limits.{value_at}
 use Rattle.values.specs.Words.{bits_of}
-use Rattle.formulas.specs.declared.Formula.{Formula}
-use Rattle.formulas.specs.declared.Formula.TheVariants.{None, Ratio, Sum}
-use Rattle.formulas.specs.declared.Formulas.{Formulas}
+use Rattle.formulas.specs.Formulas.{Rule}
+use Rattle.formulas.specs.declared.Formula.TheVariants.{Ratio, Sum}
 use Rattle.sheet.specs.declared.Sheet.{Sheet}
 use Rattle.sheet.specs.Sheets.{formula_at}
 use Rattle.frames.specs.Texts.{written}
@@ -64,12 +63,12 @@ link_piece links i = link_frames i (link_at links i)
 -- ---- formulas
 
 -- "formulas as 08 frames"; a link without formula has none
-abbrev pub formula_frames : ℕ → Formula → List (List ℕ)
+abbrev pub formula_frames : ℕ → Rule → List (List ℕ)
 formula_frames i None = []
-formula_frames i (Ratio p q) = (0x08 ∷ i ∷ formula_bytes (Ratio p q)) ∷ []
-formula_frames i (Sum f) = (0x08 ∷ i ∷ formula_bytes (Sum f)) ∷ []
+formula_frames i (Some (Ratio p q)) = (0x08 ∷ i ∷ formula_bytes (Some (Ratio p q))) ∷ []
+formula_frames i (Some (Sum f)) = (0x08 ∷ i ∷ formula_bytes (Some (Sum f))) ∷ []
 
-abbrev pub formula_piece : Formulas → ℕ → List (List ℕ)
+abbrev pub formula_piece : List Rule → ℕ → List (List ℕ)
 formula_piece formulas i = formula_frames i (formula_at formulas i)
 
 -- ---- values

@@ -1,120 +1,32 @@
--- A header's texts, exactly: by induction on the text. Its refusals: each check by what it reads. The bytes behind a header: the output goes by the refusal
--- and the flows, and these by the header (`behind_refusal`, `behind_flows`); a count over 254 is bad, however long the file is. Assumes nothing.
+-- A header's texts, exactly: its units by the tests of a text without its trailing spaces (`either_exactly`), its numbers by induction on the text. Its
+-- refusals: each check by what it reads. The bytes behind a header: the output goes by the refusal and the flows, and these by the header
+-- (`behind_refusal`, `behind_flows`); a count over 254 is bad, however long the file is. Assumes nothing.
 use mathlib.Core.Path.{◌≡◌, refl, sym, ap, ap₂, subst, ◌∙◌}
-use mathlib.Core.Bool.{Bool, true, false, not, ◌&&◌, ◌||◌, cond, or-true}
+use mathlib.Core.Bool.{Bool, true, false, not, ◌&&◌, cond}
 use mathlib.Core.List.{List, [], ◌∷◌, ◌++◌, map}
-use mathlib.Core.Logic.{◌⊎◌, inl, inr, ⊎_elim, ◌↔◌}
+use mathlib.Core.Logic.{◌⊎◌, ◌↔◌}
 use mathlib.Core.Option.{Option, none, some}
-use Prim.Native.Nat.{ℕ, zero, suc, ◌+◌, ◌*◌, ◌≤◌, ◌<◌}
+use Prim.Native.Nat.{ℕ, ◌+◌, ◌*◌, ◌≤◌, ◌<◌}
 use native.Mathlib.Decide.{dec_le}
 use native.Mathlib.Omega.{arith}
-use lib.Dec.{eqb, leb, ltb}
+use lib.Dec.{eqb, ltb}
 use lib.ListN.{length, take, drop, replicate, take-append-drop}
 use lib.Seq.{take_all, length-take-le, drop-append_seam}
-use borrow.Author.Tests.{eq-eqb, ne_eqb, eqb-true, leb-true, lt-ltb, ltb-true}
+use borrow.Author.Tests.{eq-eqb, eqb-true, lt-ltb, ltb-true}
 use Rattle.fieldset.specs.Lists.{All}
 use Rattle.fieldset.proofs.Tests.{and_left, and_right, and_both}
 use Rattle.fieldset.proofs.Numbers.{clash, any_none, any_false}
 use Rattle.panel.specs.declared.Refusal.{Refusal}
 use Rattle.panel.specs.declared.Refusal.TheVariants.{BadHeader}
 use Rattle.hexadecimal.specs.Characters.{characters}
-use Rattle.edf.specs.Texts.{are_spaces, is_decimal, digits_of, number_from, is_plain, number_of, is_text, is_either, is_flow, lower, is_unclear}
+use Rattle.edf.specs.Texts.{are_spaces, dropped, is_decimal, digits_of, number_from, is_plain, number_of, is_either, is_flow, lower, is_unclear}
 use Rattle.edf.specs.Header.{length_text, count_text, count_of, header_length, unit_text, flows_of, is_bad_header, has_unclear, refusal_for}
+use Rattle.edf.proofs.Texts.{spaces_are, spaces_behind, either_exactly, dropped_lower}
+use Rattle.edf.proofs.Numbers.{digits_first, no_digits}
 use Rattle.edf.proofs.Checks.{too_many, no_header, right_header, header_right, passes_all, all_passed, flow_count}
 use Rattle.edf.proofs.Behind.{count_behind, behind_flows, behind_refusal}
 use Rattle.importing.specs.Imports.{lines_for, import_output}
-use Rattle.imported.specs.Headers.{dropped, IsFlow, IsUnclear, UnitsExactly, PlainNumber, NumbersExactly, IsHeader, HeadersExactly, Imports, ImportsExactly, BehindIgnored, StartEnough}
-
--- ---- spaces
-
-spaces_are : (s : List ℕ) → are_spaces s ≡ true → (k : ℕ) × (s ≡ replicate k 32)
-unfolding are_spaces
-spaces_are [] e = (0, refl)
-spaces_are (c ∷ s) e =
-    let (k, is) = spaces_are s (and_right (eqb c 32) (are_spaces s) e) in
-    (suc k, ap₂ ◌∷◌ (eqb-true c 32 (and_left (eqb c 32) (are_spaces s) e)) is)
-
-spaces_behind : (s : List ℕ) (k : ℕ) → are_spaces (s ++ replicate k 32) ≡ are_spaces s
-unfolding are_spaces
-spaces_behind [] zero = refl
-spaces_behind [] (suc k) = spaces_behind [] k
-spaces_behind (c ∷ s) k = ap (λ (b : Bool). eqb c 32 && b) (spaces_behind s k)
-
--- ---- trailing spaces dropped
-
-dropped_behind : (s : List ℕ) (k : ℕ) → dropped (s ++ replicate k 32) ≡ dropped s
-unfolding dropped are_spaces
-dropped_behind [] zero = refl
-dropped_behind [] (suc k) = rw (spaces_behind [] k) refl
-dropped_behind (c ∷ s) k = rw (spaces_behind s k, dropped_behind s k) refl
-
-dropped_then : (s : List ℕ) → (k : ℕ) × (s ≡ dropped s ++ replicate k 32)
-unfolding dropped
-dropped_then [] = (0, refl)
-dropped_then (c ∷ s) = go (are_spaces (c ∷ s)) refl (dropped_then s) where
-  go : (b : Bool) → are_spaces (c ∷ s) ≡ b → (k : ℕ) × (s ≡ dropped s ++ replicate k 32) → (k : ℕ) × (c ∷ s ≡ cond b [] (c ∷ dropped s) ++ replicate k 32)
-  go true e h = spaces_are (c ∷ s) e
-  go false e (k, is) = (k, ap (λ (x : List ℕ). c ∷ x) is)
-
--- ---- texts
-
-text_then : (t s : List ℕ) → is_text t s ≡ true → (k : ℕ) × (s ≡ t ++ replicate k 32)
-unfolding is_text
-text_then [] s e = spaces_are s e
-text_then (a ∷ t) [] e = absurd (clash e refl)
-text_then (a ∷ t) (b ∷ s) e =
-    let (k, is) = text_then t s (and_right (eqb a b) (is_text t s) e) in
-    (k, ap₂ ◌∷◌ (sym (eqb-true a b (and_left (eqb a b) (is_text t s) e))) is)
-
-then_text : (t : List ℕ) (k : ℕ) → is_text t (t ++ replicate k 32) ≡ true
-unfolding is_text are_spaces
-then_text [] k = spaces_behind [] k
-then_text (a ∷ t) k = rw (eq-eqb a a refl) (then_text t k)
-
--- a text that does not end in a space
-text_exactly : (t : List ℕ) → dropped t ≡ t → (s : List ℕ) → is_text t s ≡ true ↔ dropped s ≡ t
-text_exactly t whole s = (there, back) where
-  there : is_text t s ≡ true → dropped s ≡ t
-  there e = let (k, is) = text_then t s e in ap dropped is ∙ dropped_behind t k ∙ whole
-
-  back : dropped s ≡ t → is_text t s ≡ true
-  back e = let (k, is) = dropped_then s in ap (is_text t) (is ∙ ap (λ (x : List ℕ). x ++ replicate k 32) e) ∙ then_text t k
-
-either_exactly : (a b : List ℕ) → dropped a ≡ a → dropped b ≡ b → (s : List ℕ) → is_either a b s ≡ true ↔ ((dropped s ≡ a) ⊎ (dropped s ≡ b))
-either_exactly a b wa wb s = (go (is_text a s) refl, ⊎_elim first second) where
-  go : (x : Bool) → is_text a s ≡ x → (x || is_text b s) ≡ true → (dropped s ≡ a) ⊎ (dropped s ≡ b)
-  go true e h = inl ((text_exactly a wa s).0 e)
-  go false e h = inr ((text_exactly b wb s).0 h)
-
-  first : dropped s ≡ a → is_either a b s ≡ true
-  first e = rw ((text_exactly a wa s).1 e) refl
-
-  second : dropped s ≡ b → is_either a b s ≡ true
-  second e = rw ((text_exactly b wb s).1 e) (or-true (is_text a s))
-
--- ---- letter case
-
-lower_space : (c : ℕ) → eqb (lower c) 32 ≡ eqb c 32
-unfolding lower
-lower_space c = go (leb 65 c && leb c 90) refl where
-  go : (b : Bool) → (leb 65 c && leb c 90) ≡ b → eqb (cond b (c + 32) c) 32 ≡ eqb c 32
-  go true e =
-      let l = leb-true 65 c (and_left (leb 65 c) (leb c 90) e) in
-      ne_eqb (c + 32) 32 (λ h. omega arith) ∙ sym (ne_eqb c 32 (λ h. omega arith))
-  go false e = refl
-
-spaces_lower : (s : List ℕ) → are_spaces (map lower s) ≡ are_spaces s
-unfolding are_spaces
-spaces_lower [] = refl
-spaces_lower (c ∷ s) = ap₂ ◌&&◌ (lower_space c) (spaces_lower s)
-
-dropped_lower : (s : List ℕ) → dropped (map lower s) ≡ map lower (dropped s)
-unfolding dropped
-dropped_lower [] = refl
-dropped_lower (c ∷ s) = rw (spaces_lower (c ∷ s), dropped_lower s) (go (are_spaces (c ∷ s))) where
-  go : (b : Bool) → cond b [] (lower c ∷ map lower (dropped s)) ≡ map lower (cond b [] (c ∷ dropped s))
-  go true = refl
-  go false = refl
+use Rattle.imported.specs.Headers.{IsFlow, IsUnclear, UnitsExactly, PlainNumber, NumbersExactly, IsHeader, HeadersExactly, Imports, ImportsExactly, BehindIgnored, StartEnough}
 
 -- ---- units
 
@@ -152,20 +64,6 @@ all_decimal (c ∷ s) = go (is_decimal c) refl (all_decimal s) where
   go : (b : Bool) → is_decimal c ≡ b → All (λ c. is_decimal c ≡ true) (digits_of s) → All (λ c. is_decimal c ≡ true) (cond b (c ∷ digits_of s) [])
   go true e h = (e, h)
   go false e h = tt
-
-digits_first : (s : List ℕ) → s ≡ digits_of s ++ drop (length (digits_of s)) s
-unfolding digits_of
-digits_first [] = refl
-digits_first (c ∷ s) = go (is_decimal c) (digits_first s) where
-  go : (b : Bool) → s ≡ digits_of s ++ drop (length (digits_of s)) s
-      → c ∷ s ≡ cond b (c ∷ digits_of s) [] ++ drop (length (cond b (c ∷ digits_of s) [])) (c ∷ s)
-  go true h = ap (λ (x : List ℕ). c ∷ x) h
-  go false h = refl
-
-no_digits : (k : ℕ) → digits_of (replicate k 32) ≡ []
-unfolding digits_of is_decimal
-no_digits zero = refl
-no_digits (suc k) = refl
 
 digits_padded : (ds : List ℕ) (k : ℕ) → All (λ c. is_decimal c ≡ true) ds → digits_of (ds ++ replicate k 32) ≡ ds
 unfolding digits_of

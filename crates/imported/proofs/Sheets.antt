@@ -9,16 +9,15 @@ use borrow.Author.Tests.{lt-ltb, le-ltb, ne_eqb}
 use lib.Dec.{eqb, ltb}
 use lib.IntN.{pos}
 use lib.ListN.{set, replicate}
+use Rattle.std.specs.Prelude.{Some, None}
 use Rattle.fieldset.specs.Tables.{tabulate}
 use Rattle.fieldset.proofs.Numbers.{ltb_suc}
 use Rattle.fieldset.proofs.Tables.{set_table}
 use Rattle.panel.specs.Items.{link_at}
 use Rattle.panel.specs.Panels.{opened}
 use Rattle.panel.specs.Commands.{opening, adding, Passes, open_checks}
-use Rattle.formulas.specs.declared.Formula.TheVariants.{None, Ratio}
-use Rattle.formulas.specs.declared.Formulas.{Formulas}
-use Rattle.formulas.specs.declared.Rule.{Rule}
-use Rattle.formulas.specs.Formulas.{accepted}
+use Rattle.formulas.specs.declared.Formula.TheVariants.{Ratio}
+use Rattle.formulas.specs.Formulas.{Rule, accepted}
 use Rattle.sheet.specs.Sheets.{unopened, sheet_of}
 use Rattle.sheet.specs.Commands.{Answer, solving, relating, solved, related, formula_checks, performed}
 use Rattle.panel.proofs.Checks.{checked_step, passes_reply}
@@ -40,7 +39,7 @@ module _ (k i : ℕ) (few : k ≤ 32) (l : i < k) where
   pub sheet_added : performed (flow_sheet k i i) (solving (adding i 0 (flow_bytes i))) ≡ answering k (suc i) i 1
   sheet_added = ap (solved (flow_sheet k i i) (adding i 0 (flow_bytes i))) (flow_added k i few l)
 
-  ratio_passes : Passes (formula_checks (flow_panel k (suc i)) i (Ratio 1 60))
+  ratio_passes : Passes (formula_checks (flow_panel k (suc i)) i (Some (Ratio 1 60)))
   unfolding accepted
   ratio_passes =
       let there : link_at (flow_panel k (suc i)).links i ≡ flow_link i = link_at_lem k (suc i) i (omega arith) ∙ rw (lt-ltb i (suc i) (omega arith)) in (
@@ -48,14 +47,13 @@ module _ (k i : ℕ) (few : k ≤ 32) (l : i < k) where
         (le-ltb 127 i (omega arith), (refl, (rw there refl, (rw (there, size_both i (omega arith)) refl, tt)))),
       )
 
-  formulas_more : ◌≡◌ {A = Formulas} (record { of = set (flow_formulas i).of i (record { formula = Ratio 1 60 }) }) (flow_formulas (suc i))
+  formulas_more : ◌≡◌ {A = List Rule} (set (flow_formulas i) i (Some (Ratio 1 60))) (flow_formulas (suc i))
   unfolding flow_formulas
   formulas_more =
-      ap (λ (of : List Rule). record { of = of })
-      (set_table (record { formula = None }) _ _ 128 i (record { formula = Ratio 1 60 }) (omega arith) (rw (lt-ltb i (suc i) (omega arith)))
-      (λ j d. rw (ltb_suc j i d)))
+      set_table None _ _ 128 i (Some (Ratio 1 60)) (omega arith) (rw (lt-ltb i (suc i) (omega arith)))
+      (λ j d. rw (ltb_suc j i d))
 
-  pub sheet_related : performed (flow_sheet k (suc i) i) (relating i (Ratio 1 60)) ≡ answering k (suc i) (suc i) 0
+  pub sheet_related : performed (flow_sheet k (suc i) i) (relating i (Some (Ratio 1 60))) ≡ answering k (suc i) (suc i) 0
   sheet_related =
-      ap (related (flow_sheet k (suc i) i) i (Ratio 1 60)) (passes_reply _ ratio_passes)
-      ∙ ap (λ (x : Formulas). record { sheet = sheet_of (flow_panel k (suc i)) x (replicate 64 (pos 0)); reply = 0x00 ∷ 0 ∷ [] }) formulas_more
+      ap (related (flow_sheet k (suc i) i) i (Some (Ratio 1 60))) (passes_reply _ ratio_passes)
+      ∙ ap (λ (x : List Rule). record { sheet = sheet_of (flow_panel k (suc i)) x (replicate 64 (pos 0)); reply = 0x00 ∷ 0 ∷ [] }) formulas_more

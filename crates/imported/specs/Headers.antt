@@ -1,21 +1,16 @@
 -- What a header's texts and its refusals are, said in another way, and that the bytes behind a header play no part: statements. Quotations are of
 -- document 02, request 3.
-use Rattle.std.specs.Prelude.{ℕ, ◌+◌, ◌*◌, ◌≤◌, ◌<◌, ◌≡◌, true, false, cond, List, [], ◌∷◌, ◌++◌, map, ◌≢◌, ◌⊎◌, ◌↔◌, length, take, replicate}
+use Rattle.std.specs.Prelude.{ℕ, ◌+◌, ◌*◌, ◌≤◌, ◌<◌, ◌≡◌, true, false, List, ◌++◌, map, ◌≢◌, ◌⊎◌, ◌↔◌, length, take, replicate}
 use Prim.Native.Char.{code}
 use Rattle.std.proofs.Math.Option.{none, some}
 use Rattle.fieldset.specs.Lists.{All}
 use Rattle.panel.specs.declared.Refusal.TheVariants.{BadHeader}
 use Rattle.hexadecimal.specs.Characters.{characters}
-use Rattle.edf.specs.Texts.{are_spaces, is_decimal, number_from, is_plain, number_of, is_flow, lower, is_unclear}
+use Rattle.edf.specs.Texts.{dropped, is_decimal, number_from, is_plain, number_of, is_flow, lower, is_unclear}
 use Rattle.edf.specs.Header.{length_text, count_text, header_length, unit_text, flows_of, is_bad_header, refusal_for}
 use Rattle.importing.specs.Imports.{import_output}
 
 -- ---- units
-
--- "trailing spaces dropped"
-unfoldable pub dropped : List ℕ → List ℕ
-dropped [] = []
-dropped (c ∷ s) = cond (are_spaces (c ∷ s)) [] (c ∷ dropped s)
 
 -- "is L/min or L/s"
 abbrev pub IsFlow : List ℕ → Type 0

@@ -1,5 +1,5 @@
 -- What the panel makes of the lines of an import: statements. Quotations are of document 02, request 3.
-use Rattle.std.specs.Prelude.{ℕ, zero, suc, ◌+◌, ◌*◌, ◌/◌, ◌%◌, ◌≡◌, true, false, ◌&&◌, cond, List, [], ◌∷◌, ◌++◌, eqb, ltb, pos, replicate}
+use Rattle.std.specs.Prelude.{ℕ, zero, suc, ◌+◌, ◌*◌, ◌/◌, ◌%◌, ◌≡◌, true, false, ◌&&◌, cond, List, [], ◌∷◌, ◌++◌, eqb, ltb, pos, replicate, Some, None}
 use Rattle.std.proofs.Math.Option.{none}
 use Rattle.fieldset.specs.Lists.{All}
 use Rattle.fieldset.specs.Tables.{tabulate}
@@ -9,8 +9,8 @@ use Rattle.panel.specs.declared.Link.{Link}
 use Rattle.panel.specs.declared.Panel.{Panel}
 use Rattle.panel.specs.Items.{no_link}
 use Rattle.panel.specs.Answers.{is_refusal}
-use Rattle.formulas.specs.declared.Formula.TheVariants.{None, Ratio}
-use Rattle.formulas.specs.declared.Formulas.{Formulas}
+use Rattle.formulas.specs.declared.Formula.TheVariants.{Ratio}
+use Rattle.formulas.specs.Formulas.{Rule}
 use Rattle.sheet.specs.declared.Sheet.{Sheet}
 use Rattle.sheet.specs.Sheets.{unopened, sheet_of}
 use Rattle.hexadecimal.specs.Hex.{line_of}
@@ -46,8 +46,8 @@ flow_panel k i =
     }
 
 -- the first i links have "the ratio 1 to 60"
-unfoldable pub flow_formulas : ℕ → Formulas
-flow_formulas i = record { of = tabulate (λ j. record { formula = cond (ltb j i) (Ratio 1 60) None }) 128 }
+unfoldable pub flow_formulas : ℕ → List Rule
+flow_formulas i = tabulate (λ j. cond (ltb j i) (Some (Ratio 1 60)) None) 128
 
 -- a sheet for k flows with the first i links and the first j ratios; its values are zero
 abbrev pub flow_sheet : ℕ → ℕ → ℕ → Sheet

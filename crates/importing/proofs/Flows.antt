@@ -1,9 +1,9 @@
 -- The lines of an import: how long they are, and `Put`, what the loop over the flows keeps: the lines of the first ones are put, each flow's behind those
--- before it (`behind`). Assumes nothing.
+-- before it (`behind`).
 use mathlib.Core.Path.{◌≡◌, refl, sym, ap, ap₂, ◌∙◌}
 use mathlib.Core.List.{List, [], ◌∷◌, ◌++◌, append-nil}
 use mathlib.Core.Option.{Option, none, some}
-use Prim.Native.Nat.{ℕ, zero, suc, ◌+◌, ◌*◌, ◌≤◌, ◌<◌}
+use Prim.Native.Nat.{ℕ, zero, suc, ◌+◌, ◌*◌, ◌≤◌}
 use native.Mathlib.Numerals.{add-one}
 use native.Mathlib.Omega.{arith}
 use lib.ListN.{length, length-append}
@@ -46,37 +46,33 @@ frames_length : (k : ℕ) → length (written (frames_for k)) ≡ 5 + 26 * k
 unfolding written
 frames_length k = omega (arith, length-append (line_of (open_frame k)) (written (flow_frames k)), length_line (open_frame k), flows_length k)
 
--- ---- the lines of the first i of k flows are put behind a position, and n is the position behind them
+-- ---- the lines of the first i flows are put behind a position, and n is the position behind them
 
-pub record Put (before after : List ℕ) (at k i n : ℕ) : Type 0 where
-  pub within : i ≤ k
+pub record Put (before after : List ℕ) (at i n : ℕ) : Type 0 where
   pub lines : after ≡ sets before at (written (flow_frames i))
   pub counted : n ≡ at + length (written (flow_frames i))
 
-pub put_none : (before : List ℕ) (at k : ℕ) → Put before before at k 0 at
+pub put_none : (before : List ℕ) (at : ℕ) → Put before before at 0 at
 unfolding written flow_frames
-put_none before at k = record { within = omega arith; lines = refl; counted = omega arith }
+put_none before at = record { lines = refl; counted = omega arith }
 
-module _ {before middle : List ℕ} {at k i n : ℕ} (was : Put before middle at k i n) where
+module _ {before middle : List ℕ} {at i n : ℕ} (was : Put before middle at i n) where
   -- where they end
   pub put_ends : n ≡ at + 26 * i
   put_ends = omega (arith, was.counted, flows_length i)
 
-  pub put_more : {after : List ℕ} {m : ℕ} → i < k → after ≡ sets middle n (flow_lines i) → m ≡ n + length (flow_lines i) → Put before after at k (i + 1) m
-  put_more {after} {m} h e c =
+  pub put_more : {after : List ℕ} {m : ℕ} → after ≡ sets middle n (flow_lines i) → m ≡ n + length (flow_lines i) → Put before after at (i + 1) m
+  put_more {after} {m} e c =
       let both = behind before middle after at n m (written (flow_frames i)) (flow_lines i) was.lines was.counted e c in
       let more : written (flow_frames i) ++ flow_lines i ≡ written (flow_frames (i + 1)) = sym (flows_more i) ∙ ap (λ (j : ℕ). written (flow_frames j)) (sym (add-one i)) in
-      record { within = omega arith; lines = both.0 ∙ ap (sets before at) more; counted = both.1 ∙ ap (λ (w : List ℕ). at + length w) more }
+      record { lines = both.0 ∙ ap (sets before at) more; counted = both.1 ∙ ap (λ (w : List ℕ). at + length w) more }
 
-  -- all of them, behind the opening's line
-  pub put_all : (out : List ℕ) → k ≤ i → before ≡ sets out 0 (line_of (open_frame k)) → at ≡ 0 + length (line_of (open_frame k))
-      → (middle ≡ sets out 0 (written (frames_for k))) × (n ≡ length (written (frames_for k)))
+  -- if they are all, behind the opening's line
+  pub put_all : (out : List ℕ) → before ≡ sets out 0 (line_of (open_frame i)) → at ≡ 0 + length (line_of (open_frame i))
+      → (middle ≡ sets out 0 (written (frames_for i))) × (n ≡ length (written (frames_for i)))
   unfolding written
-  put_all out h e c =
-      let all : i ≡ k = omega (arith, was.within) in
-      let lines : middle ≡ sets before at (written (flow_frames k)) = was.lines ∙ ap (λ (j : ℕ). sets before at (written (flow_frames j))) all in
-      let counted : n ≡ at + length (written (flow_frames k)) = was.counted ∙ ap (λ (j : ℕ). at + length (written (flow_frames j))) all in
-      let both = behind out before middle 0 at n (line_of (open_frame k)) (written (flow_frames k)) e c lines counted in
+  put_all out e c =
+      let both = behind out before middle 0 at n (line_of (open_frame i)) (written (flow_frames i)) e c was.lines was.counted in
       (both.0, omega (arith, both.1))
 
 -- ---- the output for a file

@@ -6,7 +6,6 @@ ghost use Rattle.std.proofs.lemmas.List.Edits.{sets};
 ghost use Rattle.frames.specs.Texts.{written};
 ghost use Rattle.importing.specs.Imports.{flow_lines, frames_for, import_output};
 
-use edf::Header;
 use replies::put_refusal;
 use writing::put_line;
 
@@ -32,10 +31,8 @@ fn put_flows(out: &mut [u8], k: u8) -> usize
     ensures value { result ≡ length (written (frames_for k)) }
 {
     let mut n = put_line(out, 0, 0x01, 2 * k, &[]);
-    let mut i = 0;
-    while i < k {
+    for i in 0..k {
         n = put_flow(out, n, i);
-        i += 1;
     }
     n
 }
@@ -47,9 +44,8 @@ pub fn import(file: &[u8], out: &mut [u8]) -> usize
     ensures out_after { out.new ≡ sets out.old 0 (import_output file.now) }
     ensures value { result ≡ length (import_output file.now) }
 {
-    let header = edf::read_header(file);
-    match header {
-        Header::Flows(k) => put_flows(out, k),
-        Header::Refused(r) => put_refusal(out, 0, r),
+    match edf::read_header(file) {
+        Ok(k) => put_flows(out, k),
+        Err(r) => put_refusal(out, 0, r),
     }
 }

@@ -1,65 +1,28 @@
 // Standard input, or the file that a program's argument names, read into a buffer.
 #![tactic(auto)]
 
-ghost use Rattle.std.specs.Prelude.{◌≡◌, false, ◌≤◌, length};
+ghost use Rattle.std.specs.Prelude.{◌≡◌, ◌≤◌, length, IfOk};
 
 use std::env::FillError;
-use std::io::Read;
+use std::io::{ErrorKind, Read};
 use std::rt::{Env, Files};
-use std::{fs, str};
+use std::{fs, io, str};
 
-// What was read: how many bytes stand in the buffer, and whether reading ended well, at the end of the input or with the buffer full.
-#[derive(Clone, Copy)]
-pub struct Input {
-    pub len: usize,
-    pub whole: bool,
-}
-
-// Reads until the end, until a read fails or until the buffer is full. A failed read is not taken for the end: what follows it is not known.
-fn read_all<R: Read>(reader: &mut R, buffer: &mut [u8]) -> Input
-    ensures { (length buffer.new ≡ length buffer.old) × (result.len ≤ length buffer.old) }
+// Reads standard input, or an opened file, until the end or until the buffer is full; the answer is how many bytes stand in the buffer. A failed read is not
+// taken for the end: what follows it is not known.
+pub fn read_input<R: Read>(reader: &mut R, buffer: &mut [u8]) -> io::Result<usize>
+    ensures length { length buffer.new ≡ length buffer.old }
+    ensures within { IfOk result (λ n. n ≤ length buffer.old) }
 {
     let mut len = 0;
     while len < buffer.len() {
-        match reader.read(&mut buffer[len..]) {
-            Ok(n) => {
-                if n == 0 {
-                    return Input {
-                        len: len,
-                        whole: true,
-                    };
-                }
-                len += n;
-            }
-            Err(_) => {
-                return Input {
-                    len: len,
-                    whole: false,
-                };
-            }
+        let n = reader.read(&mut buffer[len..])?;
+        if n == 0 {
+            break;
         }
+        len += n;
     }
-    Input {
-        len: len,
-        whole: true,
-    }
-}
-
-// Reads standard input, which the caller lends.
-pub fn read_input<R: Read>(stdin: &mut R, buffer: &mut [u8]) -> Input
-    ensures { (length buffer.new ≡ length buffer.old) × (result.len ≤ length buffer.old) }
-{
-    read_all(stdin, buffer)
-}
-
-// Nothing was read, and that is not the end of an input.
-fn unread() -> Input
-    ensures { (result.len ≡ 0) × (result.whole ≡ false) }
-{
-    Input {
-        len: 0,
-        whole: false,
-    }
+    Ok(len)
 }
 
 // Whether the program has an argument of this number.
@@ -68,25 +31,18 @@ fn has_argument<R: Env>(rt: &R, number: usize) -> bool {
     !matches!(rt.arg(number, &mut nothing), Err(FillError::NotPresent))
 }
 
-// Reads the file that the program's argument names. Without an argument, with more than one, or where the file cannot be opened, nothing is read; std opens
-// files by text, so one whose name is no UTF-8 cannot be.
-pub fn read_named<R: Env + Files>(rt: &R, buffer: &mut [u8]) -> Input
-    ensures { (length buffer.new ≡ length buffer.old) × (result.len ≤ length buffer.old) }
+// Reads the file that the program's argument names. Without an argument, with more than one, or where the file cannot be opened, nothing is read, and that
+// is an error; std opens files by text, so one whose name is no UTF-8 cannot be.
+pub fn read_named<R: Env + Files>(rt: &R, buffer: &mut [u8]) -> io::Result<usize>
+    ensures length { length buffer.new ≡ length buffer.old }
+    ensures within { IfOk result (λ n. n ≤ length buffer.old) }
 {
     let mut path = [0u8; 4096];
-    let n = match rt.arg(1, &mut path) {
-        Ok(n) => n,
-        Err(_) => return unread(),
-    };
+    let n = rt.arg(1, &mut path).map_err(|_| ErrorKind::InvalidInput)?;
     if has_argument(rt, 2) {
-        return unread();
+        return Err(ErrorKind::InvalidInput.into());
     }
-    let name = match str::from_utf8(&path[..n]) {
-        Ok(name) => name,
-        Err(_) => return unread(),
-    };
-    match fs::open(rt, name) {
-        Ok(mut file) => read_all(&mut file, buffer),
-        Err(_) => unread(),
-    }
+    let name = str::from_utf8(&path[..n]).map_err(|_| ErrorKind::InvalidFilename)?;
+    let mut file = fs::open(rt, name)?;
+    read_input(&mut file, buffer)
 }

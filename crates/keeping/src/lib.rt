@@ -11,8 +11,19 @@ ghost use Rattle.downstream.specs.Downstream.{downstreams, directs};
 ghost use Rattle.keeping.specs.Keeping.{upstream, loops_through, Kept, Differ, differing, Right, Repaired};
 
 use downstream::gather;
-use fieldset::{first, meets, member, minus, union, with, without, without_lowest};
-use ordering::enter_readers;
+use fieldset::{fields_of, first, meets, member, minus, union, with, without};
+use ordering::{enter_readers, map_entries};
+
+// The tables that are kept from one state to the next.
+#[derive(Drop)]
+pub struct KeptTables {
+    // for each field the fields that its setter reads, by which the others are worked out
+    pub shown: [u64; 64],
+    // for each field those that read it directly
+    pub readers: [u64; 64],
+    // for each field its downstream set
+    pub down: [u64; 64],
+}
 
 // The set, and the fields that have a field of it downstream.
 fn upstream(reads: &[u64; 64], n: usize, set: u64) -> u64
@@ -21,6 +32,7 @@ fn upstream(reads: &[u64; 64], n: usize, set: u64) -> u64
 {
     let mut seen = 0u64;
     let mut rest = set;
+    // not by `fields_of`: the set gains fields on the way
     while rest != 0 {
         let f = first(rest);
         seen = with(seen, f);
@@ -34,13 +46,10 @@ pub fn loops_through(reads: &[u64; 64], n: usize, changed: u64) -> bool
     requires { Among reads.now n × Within changed (below n) }
     ensures { result ≡ loops_through (at reads.now) n changed }
 {
-    let mut rest = changed;
-    while rest != 0 {
-        let c = first(rest);
+    for c in fields_of(changed) {
         if member(upstream(reads, n, reads[c]), c) {
             return true;
         }
-        rest = without_lowest(rest);
     }
     false
 }
@@ -50,13 +59,10 @@ fn differing(shown: &[u64; 64], reads: &[u64; 64], stale: u64) -> u64
     ensures { result ≡ differing (at shown.now) (at reads.now) stale }
 {
     let mut out = 0u64;
-    let mut rest = stale;
-    while rest != 0 {
-        let f = first(rest);
+    for f in fields_of(stale) {
         if shown[f] != reads[f] {
             out = with(out, f);
         }
-        rest = without_lowest(rest);
     }
     out
 }
@@ -66,12 +72,7 @@ fn strike_reader(c: usize, fields: u64, readers: &mut [u64; 64])
     requires { (c < 64) × (length readers.old ≡ 64) }
     ensures { (length readers.new ≡ 64) × Mapped (λ m. without m c) fields readers.old readers.new }
 {
-    let mut rest = fields;
-    while rest != 0 {
-        let f = first(rest);
-        readers[f] = without(readers[f], c);
-        rest = without_lowest(rest);
-    }
+    map_entries(fields, readers, |m| without(m, c));
 }
 
 // Shows new reads of one field, and brings the direct readers up to them.
@@ -91,11 +92,8 @@ fn reread(reads: &[u64; 64], n: usize, changed: u64, shown: &mut [u64; 64], read
     requires within { Within changed (below n) × Differ changed shown.old reads.now }
     ensures { (shown.new ≡ reads.now) × (readers.new ≡ directs (at reads.now) n) }
 {
-    let mut rest = changed;
-    while rest != 0 {
-        let c = first(rest);
+    for c in fields_of(changed) {
         renew(c, reads[c], n, shown, readers);
-        rest = without_lowest(rest);
     }
 }
 
@@ -105,15 +103,12 @@ fn pass(reads: &[u64; 64], n: usize, readers: &[u64; 64], set: u64, down: &mut [
     ensures { Repaired (at reads.now) n set result down.new }
 {
     let mut left = set;
-    let mut rest = set;
-    while rest != 0 {
-        let f = first(rest);
+    for f in fields_of(set) {
         let direct = readers[f];
         if !meets(direct, left) {
             down[f] = gather(direct, down);
             left = without(left, f);
         }
-        rest = without_lowest(rest);
     }
     left
 }
@@ -131,24 +126,18 @@ fn repair(reads: &[u64; 64], n: usize, readers: &[u64; 64], stale: u64, down: &m
 }
 
 // Brings the kept tables up to new reads, which may differ from the kept ones in the fields of `stale` only.
-pub fn refresh(
-    reads: &[u64; 64],
-    n: usize,
-    stale: u64,
-    shown: &mut [u64; 64],
-    readers: &mut [u64; 64],
-    down: &mut [u64; 64],
-)
-    requires kept { Kept n shown.old readers.old down.old × (length reads.now ≡ 64) × Among reads.now n × (has_loop (at reads.now) n ≡ false) }
-    requires within { Within stale (below n) × Differ stale shown.old reads.now }
-    ensures { (shown.new ≡ reads.now) × Kept n reads.now readers.new down.new }
+pub fn refresh(reads: &[u64; 64], n: usize, stale: u64, kept: &mut KeptTables)
+    requires kept { Kept n kept.old.shown kept.old.readers kept.old.down × (length reads.now ≡ 64) × Among reads.now n × (has_loop (at reads.now) n ≡ false) }
+    requires within { Within stale (below n) × Differ stale kept.old.shown reads.now }
+    ensures { (kept.new.shown ≡ reads.now) × Kept n reads.now kept.new.readers kept.new.down }
 {
-    let changed = differing(shown, reads, stale);
+    let changed = differing(&kept.shown, reads, stale);
     if changed == 0 {
         return;
     }
-    let before = upstream(shown, n, changed);
-    reread(reads, n, changed, shown, readers);
+    let before = upstream(&kept.shown, n, changed);
+    reread(reads, n, changed, &mut kept.shown, &mut kept.readers);
     let after = upstream(reads, n, changed);
-    repair(reads, n, readers, union(before, after), down);
+    let affected = union(before, after);
+    repair(reads, n, &kept.readers, affected, &mut kept.down);
 }

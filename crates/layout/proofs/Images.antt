@@ -10,6 +10,7 @@ use borrow.Author.Tests.{lt-ltb, le-ltb, le-leb, lt-leb, eq-eqb, ne_eqb, eqb-tru
 use lib.Dec.{eqb, leb}
 use lib.IntN.{ℤ, pos}
 use lib.ListN.{length, get_or-replicate}
+use Rattle.std.specs.Prelude.{Some, None, is_none}
 use Rattle.fieldset.specs.Tables.{at, tabulate}
 use Rattle.fieldset.specs.Lists.{In, All, Distinct, passing}
 use Rattle.fieldset.specs.Fields.{member, size}
@@ -28,10 +29,8 @@ use Rattle.panel.specs.Legal.{Formed}
 use Rattle.panel.proofs.Checks.{Found, any_of_found, found_any, member_fields}
 use Rattle.values.specs.Limits.{value_at, outside}
 use Rattle.values.specs.Words.{bits_of}
-use Rattle.formulas.specs.declared.Formula.{Formula}
-use Rattle.formulas.specs.declared.Formula.TheVariants.{None, Ratio, Sum}
-use Rattle.formulas.specs.declared.Formulas.{Formulas}
-use Rattle.formulas.specs.Formulas.{accepted}
+use Rattle.formulas.specs.declared.Formula.TheVariants.{Ratio, Sum}
+use Rattle.formulas.specs.Formulas.{Rule, accepted}
 use Rattle.formulas.proofs.Accepting.{sum_accepted}
 use Rattle.sheet.specs.declared.Sheet.{Sheet}
 use Rattle.sheet.specs.Sheets.{formula_at}
@@ -39,7 +38,6 @@ use Rattle.sheet.specs.Commands.{sum_past}
 use Rattle.sheet.specs.Legal.{Fits}
 use Rattle.frames.specs.Frames.{formula_bytes}
 use Rattle.images.specs.Images.{field_at, stay_order, field_byte, field_bytes, standing_byte, formula_frames, formula_piece, value_piece, frames_of, image_of}
-use Rattle.images.specs.Forms.{is_none}
 use Rattle.images.specs.Reading.{version}
 use Rattle.images.proofs.FieldBytes.{field_byte_lem, covered_back, outputs_back, field_bytes_lem, field_count}
 use Rattle.images.proofs.Facts.{Facts, small_value}
@@ -57,10 +55,10 @@ link_line links i = line_of i (link_at links i)
 abbrev pub is_line : List Link → ℕ → Bool
 is_line links i = (link_at links i).used
 
-abbrev pub rule_line : Formulas → ℕ → FormulaLine
+abbrev pub rule_line : List Rule → ℕ → FormulaLine
 rule_line formulas i = record { id = i; formula = formula_at formulas i }
 
-abbrev pub is_ruled : Formulas → ℕ → Bool
+abbrev pub is_ruled : List Rule → ℕ → Bool
 is_ruled formulas i = not (is_none (formula_at formulas i))
 
 abbrev pub value_line : List ℤ → ℕ → ValueLine
@@ -93,10 +91,10 @@ image_text s =
           (λ f l. value_piece_lem (eqb (bits_of (value_at s.values f)) 0) (value_bytes (value_line s.values f))),
     )
   where
-    rule_piece : (i : ℕ) (r : Formula) → formula_frames i r ≡ cond (not (is_none r)) ((0x08 ∷ i ∷ formula_bytes r) ∷ []) []
+    rule_piece : (i : ℕ) (r : Rule) → formula_frames i r ≡ cond (not (is_none r)) ((0x08 ∷ i ∷ formula_bytes r) ∷ []) []
     rule_piece i None = refl
-    rule_piece i (Ratio p q) = refl
-    rule_piece i (Sum f) = refl
+    rule_piece i (Some (Ratio p q)) = refl
+    rule_piece i (Some (Sum f)) = refl
 
     value_piece_lem : (b : Bool) (bytes : List ℕ) → cond b [] (bytes ∷ []) ≡ cond (not b) (bytes ∷ []) []
     value_piece_lem true bytes = refl
@@ -272,12 +270,12 @@ module _ (s : Sheet) (F : Facts s) where
           let L = F.formed i l u in
           inr (H.field, ap (λ (o : ℕ). member o f) (outputs_back (link_at links i).covered _ L.outputs_small L.subset) ∙ H.output)
 
-      past : (i : ℕ) → Formed n (link_at links i) → (r : Formula) → accepted r (link_at links i).covered ≡ true → sum_past n r ≡ false
+      past : (i : ℕ) → Formed n (link_at links i) → (r : Rule) → accepted r (link_at links i).covered ≡ true → sum_past n r ≡ false
       past i L None a = refl
-      past i L (Ratio p q) a = refl
-      past i L (Sum f) a = let (k, m) = sum_accepted f (link_at links i).covered a in lt-leb n f (L.inside f k m)
+      past i L (Some (Ratio p q)) a = refl
+      past i L (Some (Sum f)) a = let (k, m) = sum_accepted f (link_at links i).covered a in lt-leb n f (L.inside f k m)
 
-      relates : (i : ℕ) → i < 128 → (r : Formula) → not (is_none r) ≡ true → Fits r (link_at links i) → Relates n lines (record { id = i; formula = r })
+      relates : (i : ℕ) → i < 128 → (r : Rule) → not (is_none r) ≡ true → Fits r (link_at links i) → Relates n lines (record { id = i; formula = r })
       relates i l r t (inl e) = absurd (clash (rw e at t) refl)
       relates i l r t (inr (u, a)) =
           let L = F.formed i l u in

@@ -13,6 +13,7 @@ use lib.ListN.{length, get_or}
 use lib.Seq.{ext_get_or}
 use mir.Syntax.{w32}
 use mir.Val.{SFits}
+use Rattle.std.specs.Prelude.{Some, None, is_none}
 use Rattle.fieldset.specs.Tables.{at, tabulate}
 use Rattle.fieldset.specs.Lists.{In, All, Distinct, passing, place}
 use Rattle.fieldset.specs.Fields.{member}
@@ -29,16 +30,13 @@ use Rattle.panel.specs.Legal.{Formed}
 use Rattle.panel.proofs.Checks.{field_small, member_fields, addable}
 use Rattle.values.specs.Limits.{outside}
 use Rattle.values.specs.Words.{bits_of}
-use Rattle.formulas.specs.declared.Formula.{Formula}
-use Rattle.formulas.specs.declared.Formula.TheVariants.{None, Ratio, Sum}
-use Rattle.formulas.specs.declared.Rule.{Rule}
-use Rattle.formulas.specs.Formulas.{accepted}
+use Rattle.formulas.specs.declared.Formula.TheVariants.{Ratio, Sum}
+use Rattle.formulas.specs.Formulas.{Rule, accepted}
 use Rattle.sheet.specs.declared.Sheet.{Sheet}
 use Rattle.sheet.specs.Sheets.{formula_at}
 use Rattle.sheet.specs.Legal.{Fits}
 use Rattle.images.specs.Images.{field_at, stay_order, field_byte, field_bytes, standing_byte}
 use Rattle.images.specs.Entries.{standing_of}
-use Rattle.images.specs.Forms.{is_none}
 use Rattle.images.proofs.FieldBytes.{field_byte_lem}
 use Rattle.images.proofs.Facts.{Facts, HoldFacts, SetFacts, value_small, zero_value}
 use Rattle.layout.specs.Layout.{LinkLine, FormulaLine, ValueLine, Image, Rising, Relates, WellFormed}
@@ -134,10 +132,7 @@ entry_of l =
     record { covered = covered_in l.fields; outputs = outputs_in l.fields; level = l.level; used = true; standing = standing_of l.standing }
 
 abbrev rule_of : FormulaLine → Rule
-rule_of r = record { formula = r.formula }
-
-abbrev no_rule : Rule
-no_rule = record { formula = None }
+rule_of r = r.formula
 
 abbrev holds_one : LinkLine → Bool
 holds_one l = not (eqb l.standing 0xFF)
@@ -154,7 +149,7 @@ sheet_from x = record {
     place = tabulate (stands x.order x.size) 64;
     setter = table (λ l. l.standing) (λ l. l.id) 128 (passing holds_one x.links) 64;
   };
-  formulas = record { of = table (λ r. r.id) rule_of no_rule x.formulas 128 };
+  formulas = table (λ r. r.id) rule_of None x.formulas 128;
   values = table (λ v. v.field) (λ v. v.value) (pos 0) x.values 64;
 }
 
@@ -374,30 +369,30 @@ module _ (x : Image) (W : WellFormed x) where
       (l, k, e, not-false _ c.1.1.1.1.0)
 
   fits : (i : ℕ) → i < 128 → Fits (formula_at s.formulas i) (link_at s.panel.links i)
-  fits i l = go (get_or s.formulas.of i no_rule) (table_is (λ r. r.id) rule_of no_rule x.formulas 128 i no_rule l)
+  fits i l = go (get_or s.formulas i None) (table_is (λ r. r.id) rule_of None x.formulas 128 i None l)
     where
-      go : (r : Rule) → Looked (λ r. r.id) rule_of no_rule x.formulas i r → Fits r.formula (link_at s.panel.links i)
+      go : (r : Rule) → Looked (λ r. r.id) rule_of None x.formulas i r → Fits r (link_at s.panel.links i)
       go r (inl (y, m, d, b)) =
           let (k, mk, e, a) = rule_accepted y m in
           let is : link_at s.panel.links i ≡ entry_of k = ap (link_at s.panel.links) (sym (e ∙ d)) ∙ link_at_lem k mk in
           inr (
             ap (λ (k : Link). k.used) is,
-            ap₂ accepted (ap (λ (r : Rule). r.formula) b) (ap (λ (k : Link). k.covered) is) ∙ a,
+            ap₂ accepted b (ap (λ (k : Link). k.covered) is) ∙ a,
           )
-      go r (inr (a, b)) = inl (ap (λ (r : Rule). r.formula) b)
+      go r (inr (a, b)) = inl b
 
   rules_back : listed (is_ruled s.formulas) (rule_line s.formulas) 128 ≡ x.formulas
   unfolding accepted
   rules_back =
-      table_back (λ r. r.id) rule_of no_rule (λ r. not (is_none r.formula)) (λ i r. record { id = i; formula = r.formula }) x.formulas 128 128 no_rule
+      table_back (λ r. r.id) rule_of None (λ r. not (is_none r)) (λ i r. record { id = i; formula = r }) x.formulas 128 128 None
       (omega arith) refl (λ i r. refl) W.formulas_rise
       (in_all (λ r. r.id < 128) x.formulas (λ r m. let (l, k, e, a) = rule_accepted r m in omega (arith, number l k)))
       (in_all _ x.formulas (λ r m. let (l, k, e, a) = rule_accepted r m in (some_rule r.formula (covered_in l.fields) a, refl)))
     where
-      some_rule : (r : Formula) (covered : ℕ) → accepted r covered ≡ true → not (is_none r) ≡ true
+      some_rule : (r : Rule) (covered : ℕ) → accepted r covered ≡ true → not (is_none r) ≡ true
       some_rule None covered a = absurd (clash a refl)
-      some_rule (Ratio p q) covered a = refl
-      some_rule (Sum f) covered a = refl
+      some_rule (Some (Ratio p q)) covered a = refl
+      some_rule (Some (Sum f)) covered a = refl
 
   -- ---- values
 

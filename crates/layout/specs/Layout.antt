@@ -6,7 +6,7 @@ use Rattle.panel.specs.Panels.{opened}
 use Rattle.panel.specs.Commands.{covered_in, outputs_in, Passes, check_open, add_checks}
 use Rattle.values.specs.Limits.{outside}
 use Rattle.values.specs.Words.{bits_of}
-use Rattle.formulas.specs.declared.Formula.{Formula}
+use Rattle.formulas.specs.Formulas.{Rule}
 use Rattle.sheet.specs.Commands.{check_formula}
 use Rattle.frames.specs.Texts.{written}
 use Rattle.frames.specs.Frames.{formula_bytes}
@@ -28,7 +28,7 @@ link_bytes l = 0x0C ∷ l.id ∷ l.level ∷ l.standing ∷ l.fields
 -- "formulas as 08 frames"
 pub record FormulaLine : Type 0 where
   pub id : ℕ
-  pub formula : Formula
+  pub formula : Rule
 
 abbrev pub rule_bytes : FormulaLine → List ℕ
 rule_bytes r = 0x08 ∷ r.id ∷ formula_bytes r.formula

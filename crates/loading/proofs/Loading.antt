@@ -1,4 +1,4 @@
--- What each way through the reading answers, and BadImage by the sheet's own text in a buffer. Assumes nothing.
+-- What each way through the reading answers, and BadImage by the sheet's own text in a buffer.
 use Prim.Native.Nat.{ℕ, ◌≤◌, ◌<◌}
 use mathlib.Core.Path.{◌≡◌, sym, ap, ◌∙◌}
 use mathlib.Core.Bool.{Bool, true, false, not}

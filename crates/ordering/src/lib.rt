@@ -6,21 +6,26 @@ ghost use Rattle.fieldset.specs.Tables.{at};
 ghost use Rattle.fieldset.specs.Fields.{with};
 ghost use Rattle.ordering.specs.Order.{order};
 ghost use Rattle.ordering.specs.Walks.{Among};
-ghost use Rattle.ordering.specs.Steps.{Mapped, Readers, ready_of};
+ghost use Rattle.ordering.specs.Steps.{Mapped, MappedBy, Readers, ready_of};
 
-use fieldset::{below, first, meets, union, with, without, without_lowest};
+use fieldset::{below, fields_of, first, meets, union, with, without, without_lowest};
+
+// Does `put` to the entries of the fields of a set.
+pub fn map_entries<F: Fn(u64) -> u64>(set: u64, table: &mut [u64; 64], put: F)
+    requires { F.IsAlwaysCallable put }
+    ensures { MappedBy (F.post put) set table.old table.new }
+{
+    for g in fields_of(set) {
+        table[g] = put(table[g]);
+    }
+}
 
 // Enters the field f into the set of readers of each field of `reads`.
 pub fn enter_readers(f: usize, reads: u64, readers: &mut [u64; 64])
     requires { (f < 64) × (length readers.old ≡ 64) }
     ensures { (length readers.new ≡ 64) × Mapped (λ m. with m f) reads readers.old readers.new }
 {
-    let mut rest = reads;
-    while rest != 0 {
-        let g = first(rest);
-        readers[g] = with(readers[g], f);
-        rest = without_lowest(rest);
-    }
+    map_entries(reads, readers, |m| with(m, f));
 }
 
 // For each field the set of the first n fields that read it.
@@ -29,10 +34,8 @@ fn readers_of(reads: &[u64; 64], n: usize) -> [u64; 64]
     ensures { Readers (at reads.now) n result }
 {
     let mut readers = [0u64; 64];
-    let mut f = 0usize;
-    while f < n {
+    for f in 0..n {
         enter_readers(f, reads[f], &mut readers);
-        f += 1;
     }
     readers
 }
@@ -42,13 +45,10 @@ fn ready(set: u64, left: u64, reads: &[u64; 64]) -> u64
     ensures { result ≡ ready_of (at reads.now) set left }
 {
     let mut out = 0u64;
-    let mut rest = set;
-    while rest != 0 {
-        let f = first(rest);
+    for f in fields_of(set) {
         if !meets(reads[f], left) {
             out = with(out, f);
         }
-        rest = without_lowest(rest);
     }
     out
 }
@@ -62,6 +62,7 @@ pub fn order(reads: &[u64; 64], n: usize, out: &mut [u8; 64]) -> usize
     let mut left = below(n);
     let mut open = ready(left, left, reads);
     let mut count: usize = 0;
+    // not by `fields_of`: the set gains fields on the way
     while open != 0 {
         let f = first(open);
         out[count] = f as u8;

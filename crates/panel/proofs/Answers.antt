@@ -1,14 +1,15 @@
 -- The numbers and values of an answer: how many there are, and that they tell its cases apart. A refusal is read back from its number and values
 -- (`refusal_at_lem`).
 use mathlib.Core.Path.{◌≡◌, refl, sym, ap, ◌∙◌}
+use mathlib.Core.Bool.{true, false, true≢false}
 use mathlib.Core.List.{List, [], ◌∷◌}
 use Prim.Native.Nat.{ℕ, ◌+◌, ◌*◌, ◌/◌, ◌%◌, ◌≤◌}
 use native.Mathlib.Omega.{arith}
 use lib.ListN.{length, get_or, drop}
 use Rattle.panel.specs.declared.Refusal.{Refusal}
 use Rattle.panel.specs.declared.Refusal.TheVariants.{BadHex, BadFrame, AlreadyOpen, NotOpen, BadSize, BadLink, NoSuchField, LinkTaken, NoSuchLink, Conflict, Loop, TextTooLong, OutOfRange, FieldDriven, BadFormula, BadHeader, UnclearUnit, FlowCount, BadImage, UnknownVersion, Unfit}
-use Rattle.panel.specs.declared.Reply.{Reply}
-use Rattle.panel.specs.declared.Reply.TheVariants.{Accepted, Refused}
+use Rattle.panel.specs.Answers.{Reply}
+use Rattle.std.specs.Prelude.{Ok, Err, is_err}
 use Rattle.panel.specs.Answers.{refusal_bytes, reply_bytes}
 
 -- the refusal of a number and values
@@ -69,14 +70,24 @@ refusal_length Unfit = (omega arith, omega arith)
 
 -- a reply's first two bytes are there
 pub reply_two : (r : Reply) → 2 ≤ length (reply_bytes r)
-reply_two (Accepted m) = omega arith
-reply_two (Refused r) = omega (arith, (refusal_length r).0)
+reply_two (Ok m) = omega arith
+reply_two (Err r) = omega (arith, (refusal_length r).0)
 
 pub refusals_apart : (r s : Refusal) → refusal_bytes r ≡ refusal_bytes s → r ≡ s
 refusals_apart r s e = sym (refusal_at_lem r) ∙ ap refusal_at e ∙ refusal_at_lem s
 
 pub replies_apart : (r s : Reply) → reply_bytes r ≡ reply_bytes s → r ≡ s
-replies_apart (Accepted m) (Accepted n) e = cc
-replies_apart (Accepted m) (Refused s) e = let z : ◌≡◌ {A = ℕ} 0 255 = ap (λ (b : List ℕ). get_or b 0 0) e in absurd (omega arith)
-replies_apart (Refused r) (Accepted n) e = let z : ◌≡◌ {A = ℕ} 255 0 = ap (λ (b : List ℕ). get_or b 0 0) e in absurd (omega arith)
-replies_apart (Refused r) (Refused s) e = ap Refused (refusals_apart r s (ap (λ (b : List ℕ). drop 1 b) e))
+replies_apart (Ok m) (Ok n) e = cc
+replies_apart (Ok m) (Err s) e = let z : ◌≡◌ {A = ℕ} 0 255 = ap (λ (b : List ℕ). get_or b 0 0) e in absurd (omega arith)
+replies_apart (Err r) (Ok n) e = let z : ◌≡◌ {A = ℕ} 255 0 = ap (λ (b : List ℕ). get_or b 0 0) e in absurd (omega arith)
+replies_apart (Err r) (Err s) e = ap Err (refusals_apart r s (ap (λ (b : List ℕ). drop 1 b) e))
+
+-- ---- by the code's test
+
+pub is_refused : (r : Reply) → is_err r ≡ true → (x : Refusal) × (r ≡ Err x)
+is_refused (Err x) e = (x, refl)
+is_refused (Ok m) e = absurd (true≢false (sym e))
+
+pub is_accepted : (r : Reply) → is_err r ≡ false → (m : ℕ) × (r ≡ Ok m)
+is_accepted (Err x) e = absurd (true≢false e)
+is_accepted (Ok m) e = (m, refl)

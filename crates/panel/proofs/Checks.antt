@@ -18,8 +18,8 @@ use Rattle.panel.specs.declared.Link.{Link}
 use Rattle.panel.specs.declared.Panel.{Panel}
 use Rattle.panel.specs.declared.Refusal.{Refusal}
 use Rattle.panel.specs.declared.Refusal.TheVariants.{LinkTaken, NoSuchLink}
-use Rattle.panel.specs.declared.Reply.{Reply}
-use Rattle.panel.specs.declared.Reply.TheVariants.{Accepted, Refused}
+use Rattle.panel.specs.Answers.{Reply}
+use Rattle.std.specs.Prelude.{Ok, Err}
 use Rattle.panel.specs.Items.{link_at}
 use Rattle.panel.specs.Answers.{Answer, is_refusal, refused, reply_bytes}
 use Rattle.panel.specs.Panels.{waiting_link}
@@ -90,8 +90,8 @@ agree_reply (c ∷ cs) (d ∷ ds) (b, x, a) = go d.applies refl (λ e. agree_rep
 
 -- what a reply of checks says of an answer: a refusal is the answer, and acceptance is that the step is carried out
 abbrev Says : Panel → List Check → Answer → Reply → Type 0
-Says p ds step (Refused x) = refused p x ≡ checked p ds step
-Says p ds step (Accepted m) = (m ≡ 0) × Passes ds × (checked p ds step ≡ step)
+Says p ds step (Err x) = refused p x ≡ checked p ds step
+Says p ds step (Ok m) = (m ≡ 0) × Passes ds × (checked p ds step ≡ step)
 
 says_same : (p : Panel) (ds : List Check) (step : Answer) (r s : Reply) → reply_bytes r ≡ reply_bytes s → Says p ds step s → Says p ds step r
 says_same p ds step r s e h = subst (Says p ds step) (sym (replies_apart r s e)) h
@@ -99,26 +99,26 @@ says_same p ds step r s e h = subst (Says p ds step) (sym (replies_apart r s e))
 -- one check more, which does not apply
 says_more : (p : Panel) (d : Check) (ds : List Check) (step : Answer) (r : Reply) → d.applies ≡ false → Says p ds step r → Says p (d ∷ ds) step r
 unfolding checked
-says_more p d ds step (Refused x) e h = rw e h
-says_more p d ds step (Accepted m) e (z, n, h) = (z, (e, n), rw e h)
+says_more p d ds step (Err x) e h = rw e h
+says_more p d ds step (Ok m) e (z, n, h) = (z, (e, n), rw e h)
 
 checks_say : (p : Panel) (cs ds : List Check) (step : Answer) (r : Reply) → Agree cs ds → reply_bytes r ≡ check_reply cs → Says p ds step r
 unfolding checked check_reply
-checks_say p [] [] step r a e = says_same p [] step r (Accepted 0) e (refl, tt, refl)
+checks_say p [] [] step r a e = says_same p [] step r (Ok 0) e (refl, tt, refl)
 checks_say p [] (d ∷ ds) step r a e = absurd a
 checks_say p (c ∷ cs) [] step r a e = absurd a
 checks_say p (c ∷ cs) (d ∷ ds) step r (b, x, a) e = go d.applies refl (λ f. checks_say p cs ds step r (a f))
   where
     go : (t : Bool) → d.applies ≡ t → (d.applies ≡ false → reply_bytes r ≡ check_reply cs → Says p ds step r) → Says p (d ∷ ds) step r
-    go true f ih = says_same p (d ∷ ds) step r (Refused d.refusal) (rw (b, f, x) at e) (rw f refl)
+    go true f ih = says_same p (d ∷ ds) step r (Err d.refusal) (rw (b, f, x) at e) (rw f refl)
     go false f ih = says_more p d ds step r f (ih f (rw (b, f) at e))
 
 -- the checks of an operation, which has the numbers alone, agree with the command's: its reply is the command's refusal, or the command passes
 module _ (p : Panel) (cs ds : List Check) (step : Answer) (agree : Agree cs ds) (r : Reply) (bytes : reply_bytes r ≡ check_reply cs) where
-  pub reply_refused : (x : Refusal) → r ≡ Refused x → refused p x ≡ checked p ds step
+  pub reply_refused : (x : Refusal) → r ≡ Err x → refused p x ≡ checked p ds step
   reply_refused x e = subst (Says p ds step) e (checks_say p cs ds step r agree bytes)
 
-  pub reply_accepted : (m : ℕ) → r ≡ Accepted m → (m ≡ 0) × Passes ds × (checked p ds step ≡ step)
+  pub reply_accepted : (m : ℕ) → r ≡ Ok m → (m ≡ 0) × Passes ds × (checked p ds step ≡ step)
   reply_accepted m e = subst (Says p ds step) e (checks_say p cs ds step r agree bytes)
 
 -- the link that an operation is given under its number

@@ -23,8 +23,8 @@ use Rattle.fieldset.proofs.Lists.{all_in}
 use Rattle.downstream.proofs.Spreading.{spread_lt, spread_nothing}
 use Rattle.panel.specs.declared.Panel.{Panel}
 use Rattle.panel.specs.Items.{Item, item_of, setter_of, outputs_of}
-use Rattle.panel.specs.declared.Reply.{Reply}
-use Rattle.panel.specs.declared.Reply.TheVariants.{Accepted, Refused}
+use Rattle.panel.specs.Answers.{Reply}
+use Rattle.std.specs.Prelude.{Ok, Err}
 use Rattle.panel.specs.Answers.{reply_bytes}
 use Rattle.panel.specs.Panels.{holding}
 use Rattle.panel.specs.Solution.{setter_reads, reversed}
@@ -163,8 +163,8 @@ redrawn_by_lem p q m few e = rw e (union_none _ (spread_lt (setter_reads q) q.si
 
 -- a set without fields leaves the reply as it is
 pub counted_empty : (r : Reply) (set : ℕ) → set ≡ 0 → counted r set ≡ r
-counted_empty (Accepted m) set e = rw e refl
-counted_empty (Refused x) set e = refl
+counted_empty (Ok m) set e = rw e refl
+counted_empty (Err x) set e = refl
 
 -- where no setter changes either
 pub counted_still : (r : Reply) (q : Panel) → counted r (redrawn_by 0 0 q) ≡ r
@@ -172,7 +172,7 @@ unfolding redrawn_by
 counted_still r q = counted_empty r _ (rw (spread_nothing (setter_reads q) q.size) (union_none 0 (omega arith)))
 
 -- the count of a set, where nothing was counted before
-pub counted_none : (set : ℕ) → reply_bytes (counted (Accepted 0) set) ≡ 0x00 ∷ size set ∷ []
+pub counted_none : (set : ℕ) → reply_bytes (counted (Ok 0) set) ≡ 0x00 ∷ size set ∷ []
 counted_none set = ap (λ (m : ℕ). 0x00 ∷ m ∷ []) (go (eqb set 0) refl)
   where
     go : (b : Bool) → eqb set 0 ≡ b → cond b 0 (size set) ≡ size set

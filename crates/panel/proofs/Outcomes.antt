@@ -12,8 +12,8 @@ use Rattle.panel.specs.declared.Standing.TheVariants.{Waiting, Holding}
 use Rattle.panel.specs.declared.Link.{Link}
 use Rattle.panel.specs.declared.Panel.{Panel}
 use Rattle.panel.specs.declared.Refusal.{Refusal}
-use Rattle.panel.specs.declared.Reply.{Reply}
-use Rattle.panel.specs.declared.Reply.TheVariants.{Refused}
+use Rattle.panel.specs.Answers.{Reply}
+use Rattle.std.specs.Prelude.{Err}
 use Rattle.panel.specs.declared.Step.{Step}
 use Rattle.panel.specs.Items.{no_link, link_at}
 use Rattle.panel.specs.Answers.{Answer, refused, reply_bytes}
@@ -84,7 +84,7 @@ module _ (p : Panel) (k : ℕ) (named : Link) (reply : Reply) (same : named ≡ 
 
 -- a refusal
 pub decides_refused : (p : Panel) (k : ℕ) (named : Link) (reply : Reply) (c : Command) (path : List ℕ) → length path ≡ 64 → (x : Refusal) (s : Step)
-    → named ≡ link_at p.links k → reply ≡ Refused x
+    → named ≡ link_at p.links k → reply ≡ Err x
     → refused p x ≡ performed p c → s ≡ unchanged p.size p.place named reply → Decides p k c path s
 decides_refused p k named reply c path long x s same is e eq =
     rw eq (decides_unchanged p k named reply same c path long (refused p x) (sym e) refl (ap reply_bytes is) (subst Uncounted (sym is) tt))

@@ -3,8 +3,8 @@ use Rattle.std.specs.Prelude.{ℕ, ◌*◌, ◌/◌, ◌%◌, Bool, List, [], �
 use Rattle.panel.specs.declared.Panel.{Panel}
 use Rattle.panel.specs.declared.Refusal.{Refusal}
 use Rattle.panel.specs.declared.Refusal.TheVariants.{BadHex, BadFrame, AlreadyOpen, NotOpen, BadSize, BadLink, NoSuchField, LinkTaken, NoSuchLink, Conflict, Loop, TextTooLong, OutOfRange, FieldDriven, BadFormula, BadHeader, UnclearUnit, FlowCount, BadImage, UnknownVersion, Unfit}
-use Rattle.panel.specs.declared.Reply.{Reply}
-use Rattle.panel.specs.declared.Reply.TheVariants.{Accepted, Refused}
+use Rattle.std.specs.Prelude.{Result}
+use Rattle.std.specs.Prelude.{Ok, Err}
 
 -- a number in two bytes, "most significant first" (document 02, request 1)
 abbrev pub two_bytes : ℕ → List ℕ
@@ -35,15 +35,19 @@ refusal_bytes BadImage = 19 ∷ []
 refusal_bytes UnknownVersion = 20 ∷ []
 refusal_bytes Unfit = 21 ∷ []
 
+-- the reply to a command: the count of an accepted one, or the refusal
+abbrev pub Reply : Type 0
+Reply = Result ℕ Refusal
+
 -- "Replies: 00 m (m the moved count); for a plan 00 n, ..; for a refusal FF and its number", with its values
 abbrev pub reply_bytes : Reply → List ℕ
-reply_bytes (Accepted m) = 0x00 ∷ m ∷ []
-reply_bytes (Refused r) = 0xFF ∷ refusal_bytes r
+reply_bytes (Ok m) = 0x00 ∷ m ∷ []
+reply_bytes (Err r) = 0xFF ∷ refusal_bytes r
 
 -- how many bytes a plan's reply has behind these: "n times field, setter .., strength"
 abbrev pub plan_rest : Reply → ℕ
-plan_rest (Accepted n) = 3 * n
-plan_rest (Refused r) = 0
+plan_rest (Ok n) = 3 * n
+plan_rest (Err r) = 0
 
 -- at most: three bytes for each of 64 fields
 abbrev pub rows_length : ℕ

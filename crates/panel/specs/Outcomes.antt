@@ -7,8 +7,8 @@ use Rattle.downstream.specs.Downstream.{spread}
 use Rattle.panel.specs.declared.Standing.TheVariants.{Waiting, Holding}
 use Rattle.panel.specs.declared.Link.{Link}
 use Rattle.panel.specs.declared.Panel.{Panel}
-use Rattle.panel.specs.declared.Reply.{Reply}
-use Rattle.panel.specs.declared.Reply.TheVariants.{Accepted, Refused}
+use Rattle.panel.specs.Answers.{Reply}
+use Rattle.std.specs.Prelude.{Ok, Err}
 use Rattle.panel.specs.declared.Step.{Step}
 use Rattle.panel.specs.Items.{item_of, link_at}
 use Rattle.panel.specs.Answers.{reply_bytes, plan_rest, rows_length}
@@ -51,13 +51,13 @@ pub record Takes (p : Panel) (k : ℕ) (path : List ℕ) (s : Step) (after : Pan
 
 -- a reply without a moved count: a refusal, or 00 00
 abbrev pub Uncounted : Reply → Type 0
-Uncounted (Accepted m) = m ≡ 0
-Uncounted (Refused r) = Unit {0}
+Uncounted (Ok m) = m ≡ 0
+Uncounted (Err r) = Unit {0}
 
 -- a reply with the count of a set of fields, where it has any: else it stays, as a plan's does, which has a count of its own
 abbrev pub counted : Reply → ℕ → Reply
-counted (Accepted m) set = Accepted (cond (eqb set 0) m (size set))
-counted (Refused r) set = Refused r
+counted (Ok m) set = Ok (cond (eqb set 0) m (size set))
+counted (Err r) set = Err r
 
 -- the fields that are redrawn on the panel q: those of a set whose setters changed, all downstream of these, and those of a set whose values changed
 unfoldable pub redrawn_by : ℕ → ℕ → Panel → ℕ

@@ -1,11 +1,12 @@
 // The panel: fields, links, stays, and what a command comes to.
 #![tactic(auto)]
 
-ghost use Rattle.std.specs.Prelude.{◌≡◌, length};
+ghost use Rattle.std.specs.Prelude.{◌≡◌};
 ghost use Rattle.panel.specs.Items.{no_link};
 ghost use Rattle.panel.specs.Outcomes.{unchanged};
 
-// The setter of a field that its stay sets.
+// The setter of a field that its stay sets. A setter stays a number: it is the very byte that a plan's row has, for a link and for a stay, which as an
+// enum would be put together again for each row.
 pub const STAY: u8 = 128;
 
 // The level of the stay at place 0, behind every link's level, which is at most 15.
@@ -17,7 +18,8 @@ pub const LAST_LINK: u8 = 127;
 // The bytes of the rows of a largest plan: three for each of 64 fields.
 pub const ROWS: usize = 192;
 
-// A link's standing: it waits, or it holds one named field.
+// A link's standing: it waits, or it holds one named field. An enum of its own, by a rule of the project: a third case, a link that is switched off, is
+// to come.
 #[derive(Clone, Copy)]
 pub enum Standing {
     Waiting,
@@ -25,7 +27,8 @@ pub enum Standing {
 }
 
 // A link: a constraint over its covered fields, which it is permitted to hold by setting one of its outputs.
-// A number that is not in use has the default link: zeros, waiting.
+// A number that is not in use has the default link: zeros, waiting. Links are an array of these records by a rule of the project, and no array of
+// Options: that such a number has zeros is a part of what a saved text must say (`is_unused` of wellformed).
 #[derive(Clone, Copy)]
 pub struct Link {
     pub covered: u64,
@@ -84,12 +87,8 @@ pub enum Refusal {
     Unfit,
 }
 
-// The reply to a command. An accepted one has a count: the fields that are redrawn, or, for a plan, the fields listed.
-#[derive(Clone, Copy)]
-pub enum Reply {
-    Accepted(u8),
-    Refused(Refusal),
-}
+// The reply to a command: an accepted one has a count, of the fields that are redrawn or, for a plan, of the fields listed.
+pub type Reply = Result<u8, Refusal>;
 
 // What a command comes to. The panel is changed by whoever takes the step, who then has the count of its reply: here it is 0, but for a plan's.
 #[derive(Clone, Copy)]
@@ -124,14 +123,12 @@ pub fn no_link() -> Link
 
 // The step that leaves the panel as it is: its fields, the stays' places and the link of the number that the command names.
 pub fn unchanged(size: usize, place: &[u8; 64], named: Link, reply: Reply) -> Step
-    requires { length place.now ≡ 64 }
     ensures { result ≡ unchanged size place.now named reply }
 {
-    let places = *place;
     Step {
-        reply: reply,
-        size: size,
-        place: places,
+        reply,
+        size,
+        place: *place,
         link: named,
         freed: Standing::Waiting,
         setter: STAY,

@@ -11,16 +11,12 @@ ghost use Rattle.sessions.specs.Sessions.{saved_text, resumed_output};
 ghost use Rattle.panel_c.specs.Lengths.{length_of};
 
 use tally::Tally;
-use text::Outcome;
 
 // The number that stands for a text's outcome: the length of the whole output, 0 where the text is too long.
-fn length_of(outcome: Outcome) -> usize
+fn length_of(outcome: Option<usize>) -> usize
     ensures { result ≡ length_of outcome }
 {
-    match outcome {
-        Outcome::Length(n) => n,
-        Outcome::TextTooLong => 0,
-    }
+    outcome.unwrap_or(0)
 }
 
 // The length of the whole output, of which the buffer holds as many first bytes as fit; 0 where the text is too long. The tally that the caller
@@ -31,8 +27,7 @@ pub extern "C" fn panel_run_text(text: &[u8], out: &mut [u8], tally: &mut Tally)
     ensures out_after { out.new ≡ buffer_after line_answer unopened tally.old text.now out.old }
     ensures tally_after { tally.new ≡ tally_at_end line_answer unopened tally.old text.now }
 {
-    let outcome = text::run_text(text, out, tally);
-    length_of(outcome)
+    length_of(text::run_text(text, out, tally))
 }
 
 // The values of the panel's fields after a text, in 64 places of which those past the fields are zero; the answer is how many fields there are, 0 while

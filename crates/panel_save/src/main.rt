@@ -22,18 +22,16 @@ fn send<W: Write>(writer: &mut W, text: &[u8], output: &[u8]) -> usize
 fn answer<W: Write>(writer: &mut W, text: &[u8]) -> usize
     ensures { result ≡ length (saved_output text.now) }
 {
-    let mut out = [0u8; LONGEST];
+    let mut out = [0; LONGEST];
     let n = save_after(text, &mut out);
     send(writer, text, &out[..n])
 }
 
 // Where a read fails nothing is written. Of a text that is too long only as much is read as shows it.
 fn main(rt: HostRuntime) {
-    let mut text = [0u8; 65536];
-    let input = input::read_input(&mut rt.stdin(), &mut text);
-    if !input.whole {
+    let mut text = [0; 65536];
+    let Ok(n) = input::read_input(&mut rt.stdin(), &mut text) else {
         return;
-    }
-    let n = input.len;
+    };
     answer(&mut rt.stdout(), &text[..n]);
 }

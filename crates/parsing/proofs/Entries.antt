@@ -1,5 +1,5 @@
 -- What the lines of a text enter, by the code's steps. The buffer has a line's first bytes and zeros behind them (`frame_at`), so that what is read
--- from it is what the line says; `Placing` and `Entering` are what the two loops keep. Assumes nothing.
+-- from it is what the line says; `Placing` and `Entering` are what the two loops keep.
 use Prim.Native.Nat.{ℕ, zero, suc, ◌+◌, ◌-◌, ◌*◌, ◌/◌, ◌%◌, ◌≤◌, ◌<◌, min}
 use mathlib.Core.Path.{◌≡◌, refl, sym, ap, ap₂, ◌∙◌}
 use mathlib.Core.Bool.{Bool, true, false, ◌&&◌, cond}
@@ -11,51 +11,46 @@ use lib.Dec.{eqb, ltb}
 use lib.IntN.{ℤ}
 use lib.ListN.{length, get_or, take, drop, set, replicate, length-take, length-drop, length-set, drop_of_length-le}
 use lib.Seq.{sets, set_out, drop-cons, get_or-take, get_or-drop, ext_get_or, length-sets}
-use borrow.Author.Tests.{eq-eqb, ne_eqb}
+use borrow.Author.Tests.{eqb-true, ne_eqb}
+use Rattle.std.specs.Prelude.{Some, None, Ok, Err}
 use Rattle.fieldset.specs.Tables.{at}
 use Rattle.fieldset.proofs.Tests.{and_right}
-use Rattle.panel.specs.declared.Standing.{Standing}
-use Rattle.panel.specs.declared.Standing.TheVariants.{Waiting, Holding}
 use Rattle.panel.specs.declared.Link.{Link}
 use Rattle.panel.specs.declared.Panel.{Panel}
 use Rattle.panel.specs.Panels.{opened}
-use Rattle.panel.specs.Commands.{covered_in, outputs_in}
 use Rattle.values.specs.Words.{value_of}
-use Rattle.formulas.specs.declared.Formula.{Formula}
-use Rattle.formulas.specs.declared.Formula.TheVariants.{None, Ratio, Sum}
+use Rattle.formulas.specs.Formulas.{Rule}
+use Rattle.formulas.specs.declared.Formula.TheVariants.{Ratio, Sum}
 use Rattle.sheet.specs.declared.Sheet.{Sheet}
 use Rattle.sheet.specs.Sheets.{sheet_of, with_formula, unopened, Full}
 use Rattle.hexadecimal.specs.Hex.{digit_of, are_digits, is_hex, bytes_of, frame_room}
 use Rattle.hexadecimal.specs.Answers.{decoded_values, decoded, frame_after}
-use Rattle.hexadecimal.specs.declared.Decoded.{Decoded}
-use Rattle.hexadecimal.specs.declared.Decoded.TheVariants.{BadHex, Frame}
+use Rattle.hexadecimal.specs.declared.BadHex.{BadHex}
 use Rattle.hexadecimal.proofs.Bytes.{length_bytes_lem, byte_at}
 use Rattle.lines.specs.Lines.{lines_of, line_length, behind_of}
 use Rattle.lines.proofs.Lines.{behind_within, behind_on, lines_on, lines_end}
-use Rattle.frames.specs.Frames.{pair_of, word_of, formula_in}
+use Rattle.frames.specs.Frames.{word_of, formula_in}
 use Rattle.frames.proofs.Reading.{bad_told, frame_told}
-use Rattle.images.specs.Entries.{with_size, placed, with_order, standing_of, with_link_line, entered, entered_all, line_bytes, candidate}
-use Rattle.parsing.specs.Parsing.{Framed, fields_end, field_part, link_in, with_links, with_setters, setter_in}
+use Rattle.images.specs.Entries.{with_size, placed, with_link_line, entered, entered_all, line_bytes, candidate}
+use Rattle.parsing.specs.Parsing.{Framed, fields_end, field_part, link_in}
 
 -- ---- stores, and what is past the end
 
 pub set_past {ℓ} : {A : Type ℓ} (l : List A) (i : ℕ) (a : A) → length l ≤ i → l ≡ set l i a
 set_past l i a h = sym (set_out l i a h)
 
-pub setter_in_lem : (l : List ℕ) (f i : ℕ) → f < 64 → set l f i ≡ setter_in l f i
-setter_in_lem l f i h = rw (ne_eqb f 255 (λ e. omega arith))
-
-pub setter_past : (l : List ℕ) (f i : ℕ) → length l ≡ 64 → 64 ≤ f → l ≡ setter_in l f i
-setter_past l f i e h = go (eqb f 255)
+-- FF is no field
+setter_in : (l : List ℕ) (f i : ℕ) → length l ≡ 64 → set l f i ≡ cond (eqb f 0xFF) l (set l f i)
+setter_in l f i e = go (eqb f 0xFF) refl
   where
-    go : (b : Bool) → l ≡ cond b l (set l f i)
-    go true = refl
-    go false = set_past l f i (omega arith)
+    go : (b : Bool) → eqb f 0xFF ≡ b → set l f i ≡ cond b l (set l f i)
+    go true t = sym (set_past l f i (omega (arith, eqb-true _ _ t)))
+    go false t = refl
+
+-- ---- the stays' order
 
 abbrev pub with_places : Panel → List ℕ → Panel
 with_places p l = record { size = p.size; links = p.links; place = l; setter = p.setter }
-
--- ---- the stays' order
 
 abbrev pub order_of : List ℕ → List ℕ
 order_of line = take 64 (drop 1 (bytes_of line))
@@ -63,7 +58,6 @@ order_of line = take 64 (drop 1 (bytes_of line))
 -- of the n fields of a line the first k have their places
 pub record Placing (line before after : List ℕ) (n k : ℕ) : Type 0 where
   pub count : n ≡ length (order_of line)
-  pub within : k ≤ n
   pub long : length after ≡ length before
   pub rest : placed after k (drop k (order_of line)) ≡ placed before 0 (order_of line)
 
@@ -71,7 +65,7 @@ order_count : (line : List ℕ) → length (order_of line) ≡ min 64 (length li
 order_count line = length-take 64 (drop 1 (bytes_of line)) ∙ omega (arith, length-drop 1 (bytes_of line), length_bytes_lem line)
 
 pub placing_none : (line place : List ℕ) (n : ℕ) → n ≡ min 64 (length line / 2 - 1) → Placing line place place n 0
-placing_none line place n e = record { count = e ∙ sym (order_count line); within = omega arith; long = refl; rest = refl }
+placing_none line place n e = record { count = e ∙ sym (order_count line); long = refl; rest = refl }
 
 module _ {line before now : List ℕ} {n k : ℕ} (P : Placing line before now n k) where
   -- its two digits are there
@@ -92,7 +86,6 @@ module _ {line before now : List ℕ} {n k : ℕ} (P : Placing line before now n
       ∙ ap₂ (λ (x y : ℕ). digit_of (at line x) * 16 + digit_of (at line y)) first second ∙ sym e in
       record {
         count = P.count;
-        within = omega arith;
         long = ap length a ∙ length-set now f k ∙ P.long;
         rest =
             rw (a, add-one k)
@@ -107,40 +100,25 @@ module _ {line before now : List ℕ} {n k : ℕ} (P : Placing line before now n
 
 -- ---- links
 
-pub standing_waits : (b : ℕ) → b ≡ 0xFF → Waiting ≡ standing_of b
-standing_waits b e = rw (eq-eqb b 255 e)
+abbrev pub with_links : Panel → List Link → Panel
+with_links p links = record { size = p.size; links = links; place = p.place; setter = p.setter }
 
-pub standing_holds : (b : ℕ) → (b ≡ 0xFF → ⊥) → Holding b ≡ standing_of b
-standing_holds b n = rw (ne_eqb b 255 n)
-
-pub link_in_lem : (frame : List ℕ) (end n c o : ℕ) (st : Standing) → end ≡ fields_end n
-    → c ≡ covered_in (take (end - 4) (drop 4 frame)) → o ≡ outputs_in (take (end - 4) (drop 4 frame)) → st ≡ standing_of (at frame 3)
-    → record { covered = c; outputs = o; level = at frame 2; used = true; standing = st } ≡ link_in frame (field_part frame n)
-link_in_lem frame end n c o st k ec eo es = rw (ec, eo, es, k)
-
-pub linked : (p q r : Panel) (l : Link) (frame fields : List ℕ) (i f : ℕ) → l ≡ link_in frame fields → i ≡ at frame 1
-    → q ≡ with_links p (set p.links i l) → f ≡ at frame 3 → r ≡ with_setters q (setter_in q.setter f (at frame 1))
-    → r ≡ with_link_line p (at frame 1) (at frame 2) (at frame 3) fields
-linked p q r l frame fields i f el ei eq ef er = er ∙ rw (eq, el, ei, ef)
+pub linked : (p q : Panel) (frame fields : List ℕ) (setter : List ℕ) → length p.setter ≡ 64
+    → q ≡ with_links p (set p.links (at frame 1) (link_in frame fields)) → setter ≡ set q.setter (at frame 3) (at frame 1)
+    → record { size = q.size; links = q.links; place = q.place; setter = setter } ≡ with_link_line p (at frame 1) (at frame 2) (at frame 3) fields
+linked p q frame fields setter h eq es =
+    rw (es, eq)
+    (ap (λ (x : List ℕ). record { size = p.size; links = set p.links (at frame 1) (link_in frame fields); place = p.place; setter = x })
+    (setter_in p.setter (at frame 3) (at frame 1) h))
 
 -- ---- formulas and values
 
 -- what the bytes behind the second say, one by one
-abbrev formula_of : List ℕ → Formula
-formula_of b = cond (eqb (at b 2) 0x01) (Ratio (at b 3 * 256 + at b 4) (at b 5 * 256 + at b 6)) (cond (eqb (at b 2) 0x02) (Sum (at b 3)) None)
+abbrev formula_of : List ℕ → Rule
+formula_of b = cond (eqb (at b 2) 0x01) (Some (Ratio (at b 3 * 256 + at b 4) (at b 5 * 256 + at b 6))) (cond (eqb (at b 2) 0x02) (Some (Sum (at b 3))) None)
 
 formula_is : (b : List ℕ) → formula_of b ≡ formula_in (drop 2 b)
 formula_is b = simp get_or-drop
-
-pub formula_ratio : (b : List ℕ) (p q : ℕ) → at b 2 ≡ 0x01 → p ≡ pair_of (at b 3 ∷ at b 4 ∷ []) → q ≡ pair_of (at b 5 ∷ at b 6 ∷ [])
-    → Ratio p q ≡ formula_in (drop 2 b)
-formula_ratio b p q e ep eq = sym (rw (eq-eqb (at b 2) 1 e, ← ep, ← eq)) ∙ formula_is b
-
-pub formula_sum : (b : List ℕ) → at b 2 ≡ 0x02 → Sum (at b 3) ≡ formula_in (drop 2 b)
-formula_sum b e = sym (rw e) ∙ formula_is b
-
-pub formula_none : (b : List ℕ) → (Unit {0} × (at b 2 ≡ 0x01 → ⊥)) × (at b 2 ≡ 0x02 → ⊥) → None ≡ formula_in (drop 2 b)
-formula_none b o = sym (rw (ne_eqb (at b 2) 1 o.0.1, ne_eqb (at b 2) 2 o.1)) ∙ formula_is b
 
 word_is : (b : List ℕ) → word_of (at b 2 ∷ at b 3 ∷ at b 4 ∷ at b 5 ∷ []) ≡ word_of (drop 2 b)
 word_is b = simp get_or-drop
@@ -194,40 +172,48 @@ module _ (line frame : List ℕ) (n : ℕ) (F : Framed line frame n) where
 
   -- ---- what a line enters, by its kind
 
-  module _ (s r : Sheet) where
+  module _ (s : Sheet) where
     kind : (k : ℕ) → at frame 0 ≡ k → at b 0 ≡ k
     kind k e = sym (frame_at 0 (omega arith)) ∙ e
 
-    pub enters_size : (p : Panel) → at frame 0 ≡ 0x0A → p ≡ with_size s.panel (at frame 2) → r ≡ sheet_of p s.formulas s.values → r ≡ entered s b
+    pub enters_size : {k : ℕ} → at frame 0 ≡ 0x0A → k ≡ at frame 2 → sheet_of (with_size s.panel k) s.formulas s.values ≡ entered s b
     unfolding entered
-    enters_size p e ep er = er ∙ rw (kind 0x0A e, ep, frame_at 2 (omega arith))
+    enters_size e ek = rw (kind 0x0A e, ek, frame_at 2 (omega arith))
 
-    pub enters_order : (p : Panel) → at frame 0 ≡ 0x0B → p ≡ with_order s.panel (order_of line)
-        → r ≡ sheet_of p s.formulas s.values → r ≡ entered s b
+    pub enters_order : {place : List ℕ} → at frame 0 ≡ 0x0B → place ≡ placed s.panel.place 0 (order_of line)
+        → sheet_of (with_places s.panel place) s.formulas s.values ≡ entered s b
     unfolding entered
-    enters_order p e ep er = er ∙ rw (kind 0x0B e, ep)
+    enters_order e ep = rw (kind 0x0B e, ep)
 
-    pub enters_link : (p : Panel) → at frame 0 ≡ 0x0C
-        → p ≡ with_link_line s.panel (at frame 1) (at frame 2) (at frame 3) (field_part frame n) → r ≡ sheet_of p s.formulas s.values
-        → r ≡ entered s b
+    pub enters_link : {p : Panel} → at frame 0 ≡ 0x0C
+        → p ≡ with_link_line s.panel (at frame 1) (at frame 2) (at frame 3) (field_part frame n) → sheet_of p s.formulas s.values ≡ entered s b
     unfolding entered
-    enters_link p e ep er =
-        er ∙ rw (kind 0x0C e, ep, fields_at, frame_at 1 (omega arith), frame_at 2 (omega arith), frame_at 3 (omega arith))
+    enters_link e ep = rw (kind 0x0C e, ep, fields_at, frame_at 1 (omega arith), frame_at 2 (omega arith), frame_at 3 (omega arith))
 
-    pub enters_formula : (i : ℕ) (x : Formula) → at frame 0 ≡ 0x08 → i ≡ at frame 1 → x ≡ formula_in (drop 2 frame)
-        → r ≡ sheet_of s.panel (with_formula s.formulas i x) s.values → r ≡ entered s b
+    pub enters_formula : {i : ℕ} {x : Rule} → at frame 0 ≡ 0x08 → i ≡ at frame 1 → x ≡ formula_in (drop 2 frame)
+        → sheet_of s.panel (set s.formulas i x) s.values ≡ entered s b
     unfolding entered
-    enters_formula i x e ei ex er =
-        er ∙ rw (kind 0x08 e, ei, frame_at 1 (omega arith))
-        (ap (λ (y : Formula). sheet_of s.panel (with_formula s.formulas (at b 1) y) s.values) (ex ∙ formula_same))
+    enters_formula e ei ex =
+        rw (kind 0x08 e, ei, frame_at 1 (omega arith))
+        (ap (λ (y : Rule). sheet_of s.panel (with_formula s.formulas (at b 1) y) s.values) (ex ∙ formula_same))
 
-    pub enters_value : (f w : ℕ) (x : ℤ) → at frame 0 ≡ 0x0D → f ≡ at frame 1
+    pub past_formulas : (i : ℕ) → at frame 0 ≡ 0x08 → i ≡ at frame 1 → length s.formulas ≤ i → s ≡ entered s b
+    past_formulas i e ei l =
+        ap (λ (y : List Rule). sheet_of s.panel y s.values) (set_past s.formulas i (formula_in (drop 2 frame)) l) ∙ enters_formula e ei refl
+
+    pub enters_value : {f w : ℕ} {x : ℤ} → at frame 0 ≡ 0x0D → f ≡ at frame 1
         → w ≡ word_of (at frame 2 ∷ at frame 3 ∷ at frame 4 ∷ at frame 5 ∷ []) → x ≡ value_of w
-        → r ≡ sheet_of s.panel s.formulas (set s.values f x) → r ≡ entered s b
+        → sheet_of s.panel s.formulas (set s.values f x) ≡ entered s b
     unfolding entered
-    enters_value f w x e ef ew ex er =
-        er ∙ rw (kind 0x0D e, ef, frame_at 1 (omega arith))
+    enters_value e ef ew ex =
+        rw (kind 0x0D e, ef, frame_at 1 (omega arith))
         (ap (λ (y : ℤ). sheet_of s.panel s.formulas (set s.values (at b 1) y)) (ex ∙ ap value_of (ew ∙ word_same)))
+
+    pub past_values : (f : ℕ) → at frame 0 ≡ 0x0D → f ≡ at frame 1 → length s.values ≤ f → s ≡ entered s b
+    past_values f e ef l =
+        ap (λ (y : List ℤ). sheet_of s.panel s.formulas y)
+        (set_past s.values f (value_of (word_of (at frame 2 ∷ at frame 3 ∷ at frame 4 ∷ at frame 5 ∷ []))) l)
+        ∙ enters_value e ef refl refl
 
   pub enters_none : (s : Sheet)
       → ((((Unit {0} × (at frame 0 ≡ 0x0A → ⊥)) × (at frame 0 ≡ 0x0B → ⊥)) × (at frame 0 ≡ 0x0C → ⊥)) × (at frame 0 ≡ 0x08 → ⊥)) × (at frame 0 ≡ 0x0D → ⊥)
@@ -247,16 +233,15 @@ module _ (line frame : List ℕ) (n : ℕ) (F : Framed line frame n) where
 -- ---- a line, decoded
 
 -- one that is not hexadecimal enters nothing
-pub bad_enters : (s : Sheet) (line : List ℕ) (d : Decoded) (n : ℕ) → decoded_values d ≡ decoded line → d ≡ BadHex n → s ≡ entered s (line_bytes line)
+pub bad_enters : (s : Sheet) (line : List ℕ) (e : BadHex) → decoded_values (Err e) ≡ decoded line → s ≡ entered s (line_bytes line)
 unfolding line_bytes entered
-bad_enters s line d n v e = rw (bad_told line n (ap decoded_values (sym e) ∙ v)).0
+bad_enters s line e told = rw (bad_told line e told).0
 
-module _ (line after : List ℕ) (d : Decoded) (n : ℕ) (v : decoded_values d ≡ decoded line)
-    (a : after ≡ frame_after line (replicate frame_room 0)) (e : d ≡ Frame n) where
+module _ (line after : List ℕ) (n : ℕ) (told : decoded_values (Ok n) ≡ decoded line) (a : after ≡ frame_after line (replicate frame_room 0)) where
   pub good_framed : Framed line after n
   unfolding frame_after is_hex
   good_framed =
-      let t = frame_told line n (ap decoded_values (sym e) ∙ v) in
+      let t = frame_told line n told in
       record {
         digits = and_right (ltb 0 (length line) && eqb (length line % 2) 0) (are_digits line) t.0;
         bytes = rw t.0 at a;
@@ -265,7 +250,7 @@ module _ (line after : List ℕ) (d : Decoded) (n : ℕ) (v : decoded_values d �
 
   pub good_enters : (s r : Sheet) → r ≡ entered s (bytes_of line) → r ≡ entered s (line_bytes line)
   unfolding line_bytes
-  good_enters s r q = rw (frame_told line n (ap decoded_values (sym e) ∙ v)).0 q
+  good_enters s r q = rw (frame_told line n told).0 q
 
 -- ---- the lines of a text
 
@@ -283,7 +268,7 @@ full_entered s x F =
     full_cond (eqb (at x 0) 0x0A) _ _ (same _ _ F.links)
     (full_cond (eqb (at x 0) 0x0B) _ _ (same _ _ F.links)
     (full_cond (eqb (at x 0) 0x0C) _ _ (same _ _ (length-set s.panel.links (at x 1) _ ∙ F.links))
-    (full_cond (eqb (at x 0) 0x08) _ _ (record { links = F.links; formulas = length-set s.formulas.of (at x 1) _ ∙ F.formulas })
+    (full_cond (eqb (at x 0) 0x08) _ _ (record { links = F.links; formulas = length-set s.formulas (at x 1) _ ∙ F.formulas })
     (full_cond (eqb (at x 0) 0x0D) _ _ (same _ _ F.links) F))))
   where
     same : (p : Panel) (v : List ℤ) → length p.links ≡ 128 → Full (sheet_of p s.formulas v)

@@ -1,9 +1,8 @@
 -- A line of digits with the first of its bytes in a buffer of zeros, and what a link's line gives.
-use Rattle.std.specs.Prelude.{ℕ, ◌-◌, min, max, ◌≡◌, true, cond, List, eqb, length, take, drop, set, replicate}
+use Rattle.std.specs.Prelude.{ℕ, ◌-◌, min, max, ◌≡◌, true, List, length, take, drop, replicate}
 use Rattle.std.proofs.lemmas.List.Edits.{sets}
 use Rattle.fieldset.specs.Tables.{at}
 use Rattle.panel.specs.declared.Link.{Link}
-use Rattle.panel.specs.declared.Panel.{Panel}
 use Rattle.panel.specs.Commands.{covered_in, outputs_in}
 use Rattle.hexadecimal.specs.Hex.{are_digits, bytes_of, frame_room}
 use Rattle.images.specs.Entries.{standing_of}
@@ -24,13 +23,3 @@ field_part frame n = take (fields_end n - 4) (drop 4 frame)
 abbrev pub link_in : List ℕ → List ℕ → Link
 link_in frame fields =
     record { covered = covered_in fields; outputs = outputs_in fields; level = at frame 2; used = true; standing = standing_of (at frame 3) }
-
-abbrev pub with_links : Panel → List Link → Panel
-with_links p links = record { size = p.size; links = links; place = p.place; setter = p.setter }
-
-abbrev pub with_setters : Panel → List ℕ → Panel
-with_setters p setter = record { size = p.size; links = p.links; place = p.place; setter = setter }
-
--- link i as the setter of field f; FF is no field
-abbrev pub setter_in : List ℕ → ℕ → ℕ → List ℕ
-setter_in setter f i = cond (eqb f 0xFF) setter (set setter f i)

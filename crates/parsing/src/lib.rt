@@ -1,74 +1,33 @@
 // The sheet that the lines of a text enter, whatever the text is.
 #![tactic(auto)]
 
-ghost use Rattle.std.specs.Prelude.{◌≡◌, true, ◌-◌, min, length, take, drop, set};
+ghost use Rattle.std.specs.Prelude.{◌≡◌, true, length, take, drop};
 ghost use Rattle.fieldset.specs.Tables.{at};
 ghost use Rattle.hexadecimal.specs.Hex.{are_digits, bytes_of};
 ghost use Rattle.frames.specs.Frames.{formula_in};
-ghost use Rattle.sheet.specs.Sheets.{sheet_of, with_formula, Full};
-ghost use Rattle.images.specs.Entries.{with_size, placed, with_order, standing_of, with_link_line, entered, line_bytes, candidate};
-ghost use Rattle.parsing.specs.Parsing.{Framed, fields_end, field_part, link_in, with_links, with_setters, setter_in};
+ghost use Rattle.sheet.specs.Sheets.{Full};
+ghost use Rattle.images.specs.Entries.{placed, standing_of, with_link_line, entered, line_bytes, candidate};
+ghost use Rattle.parsing.specs.Parsing.{Framed, fields_end, field_part, link_in};
 
 use fieldbytes::read_fields;
-use fieldset::wide;
 use formulas::{Formula, Rule};
 use frames::{pair, word};
-use hexadecimal::{Decoded, FRAME_ROOM, byte, decode};
+use hexadecimal::{FRAME_ROOM, byte, decode};
 use lines::{behind, line_end};
 use panel::{Link, Panel, Standing};
 use sheet::Sheet;
 use values::of_bits;
 use writing::store;
 
-// The line 0A enters the number of fields.
-fn with_size(mut p: Panel, n: u8) -> Panel
-    ensures { result ≡ with_size p n }
-{
-    p.size = wide(n);
-    p
-}
-
-// How many fields of a line 0B of n bytes count.
-fn order_length(n: usize) -> usize
-    ensures { result ≡ min 64 (n - 1) }
-{
-    if n < 1 {
-        0
-    } else if n < 65 {
-        n - 1
-    } else {
-        64
-    }
-}
-
-// The places of the fields of a line 0B, from 0 on.
-fn put_places(place: &mut [u8], line: &[u8])
+// The line 0B enters the places of at most 64 fields, from 0 on.
+fn enter_order(place: &mut [u8; 64], line: &[u8])
     requires { are_digits line.now ≡ true }
     ensures { place.new ≡ placed place.old 0 (take 64 (drop 1 (bytes_of line.now))) }
 {
-    let n = order_length(line.len() / 2);
-    let mut k: usize = 0;
-    while k < n {
-        let f = wide(byte(line[2 * k + 2], line[2 * k + 3]));
-        store(place, f, k as u8);
-        k += 1;
-    }
-}
-
-// The line 0B enters the stays' order.
-fn with_order(p: Panel, line: &[u8]) -> Panel
-    requires { are_digits line.now ≡ true }
-    ensures { result ≡ with_order p (take 64 (drop 1 (bytes_of line.now))) }
-{
-    let links = p.links;
-    let mut place = p.place;
-    let setter = p.setter;
-    put_places(&mut place, line);
-    Panel {
-        size: p.size,
-        links: links,
-        place: place,
-        setter: setter,
+    let n = (line.len() / 2).saturating_sub(1).min(64);
+    for k in 0..n {
+        let f = byte(line[2 * k + 2], line[2 * k + 3]);
+        store(place, usize::from(f), k as u8);
     }
 }
 
@@ -87,152 +46,78 @@ fn standing_of(b: u8) -> Standing
 fn fields_end(n: usize) -> usize
     ensures { result ≡ fields_end n }
 {
-    if n < 4 {
-        4
-    } else if n < FRAME_ROOM {
-        n
-    } else {
-        FRAME_ROOM
-    }
+    n.clamp(4, FRAME_ROOM)
 }
 
 // The link of a line 0C of n bytes.
-fn link_of(frame: [u8; FRAME_ROOM], n: usize) -> Link
-    ensures { result ≡ link_in frame (field_part frame n) }
+fn link_of(frame: &[u8; FRAME_ROOM], n: usize) -> Link
+    ensures { result ≡ link_in frame.now (field_part frame.now n) }
 {
-    let end = fields_end(n);
-    let fields = read_fields(&frame[4..end]);
-    let standing = standing_of(frame[3]);
+    let fields = read_fields(&frame[4..fields_end(n)]);
     Link {
         covered: fields.covered,
         outputs: fields.outputs,
         level: frame[2],
         used: true,
-        standing: standing,
+        standing: standing_of(frame[3]),
     }
 }
 
-// The panel with a link of this number, where there is such a number.
-fn put_link(mut p: Panel, id: usize, l: Link) -> Panel
-    requires { length p.links ≡ 128 }
-    ensures { result ≡ with_links p (set p.links id l) }
-{
-    if id < 128 {
-        p.links[id] = l;
-    }
-    p
-}
-
-// The panel with a link as the setter of the field that it holds, where there is such a field.
-fn put_setter(mut p: Panel, f: usize, id: u8) -> Panel
-    ensures { result ≡ with_setters p (setter_in p.setter f id) }
-{
-    if f < 64 {
-        p.setter[f] = id;
-    }
-    p
-}
-
-// The line 0C of n bytes enters a link.
-fn with_link(p: Panel, frame: [u8; FRAME_ROOM], n: usize) -> Panel
-    requires { length p.links ≡ 128 }
-    ensures { result ≡ with_link_line p (at frame 1) (at frame 2) (at frame 3) (field_part frame n) }
+// The line 0C of n bytes enters a link, and it as the setter of the field that it holds. A number past a table's end enters nothing.
+fn enter_link(p: &mut Panel, frame: &[u8; FRAME_ROOM], n: usize)
+    requires { length p.old.links ≡ 128 }
+    ensures { p.new ≡ with_link_line p.old (at frame.now 1) (at frame.now 2) (at frame.now 3) (field_part frame.now n) }
 {
     let id = frame[1];
-    let l = link_of(frame, n);
-    let q = put_link(p, wide(id), l);
-    put_setter(q, wide(frame[3]), id)
+    if id < 128 {
+        p.links[usize::from(id)] = link_of(frame, n);
+    }
+    store(&mut p.setter, usize::from(frame[3]), id);
 }
 
 // The formula of a line 08.
-fn formula_in(frame: [u8; FRAME_ROOM]) -> Formula
-    ensures { result ≡ formula_in (drop 2 frame) }
+fn formula_in(frame: &[u8; FRAME_ROOM]) -> Rule
+    ensures { result ≡ formula_in (drop 2 frame.now) }
 {
-    let form = frame[2];
-    match form {
-        0x01 => Formula::Ratio(pair(frame[3], frame[4]), pair(frame[5], frame[6])),
-        0x02 => Formula::Sum(frame[3]),
-        _ => Formula::None,
-    }
-}
-
-// The sheet with another panel.
-fn with_panel(s: Sheet, p: Panel) -> Sheet
-    ensures { result ≡ sheet_of p s.formulas s.values }
-{
-    let formulas = s.formulas;
-    let values = s.values;
-    Sheet {
-        panel: p,
-        formulas: formulas,
-        values: values,
-    }
-}
-
-// The line 08 enters a formula, where there is such a number.
-fn with_formula(s: Sheet, id: usize, formula: Formula) -> Sheet
-    requires { length s.formulas.of ≡ 128 }
-    ensures { result ≡ sheet_of s.panel (with_formula s.formulas id formula) s.values }
-{
-    let p = s.panel;
-    let mut formulas = s.formulas;
-    let values = s.values;
-    if id < 128 {
-        formulas.of[id] = Rule { formula };
-    }
-    Sheet {
-        panel: p,
-        formulas: formulas,
-        values: values,
-    }
-}
-
-// The line 0D enters a value, where there is such a field.
-fn with_value(s: Sheet, f: usize, x: i32) -> Sheet
-    ensures { result ≡ sheet_of s.panel s.formulas (set s.values f x) }
-{
-    let p = s.panel;
-    let formulas = s.formulas;
-    let mut values = s.values;
-    if f < 64 {
-        values[f] = x;
-    }
-    Sheet {
-        panel: p,
-        formulas: formulas,
-        values: values,
+    match frame[2] {
+        0x01 => Some(Formula::Ratio(pair(frame[3], frame[4]), pair(frame[5], frame[6]))),
+        0x02 => Some(Formula::Sum(frame[3])),
+        _ => None,
     }
 }
 
 // A line's bytes enter what they say, by their kind.
-fn enter_frame(s: Sheet, line: &[u8], frame: [u8; FRAME_ROOM], n: usize) -> Sheet
-    requires { Framed line.now frame n × Full s }
-    ensures { result ≡ entered s (bytes_of line.now) }
+fn enter_frame(s: &mut Sheet, line: &[u8], frame: &[u8; FRAME_ROOM], n: usize)
+    requires { Framed line.now frame.now n × Full s.old }
+    ensures { s.new ≡ entered s.old (bytes_of line.now) }
 {
-    let kind = frame[0];
-    match kind {
-        0x0A => with_panel(s, with_size(s.panel, frame[2])),
-        0x0B => with_panel(s, with_order(s.panel, line)),
-        0x0C => with_panel(s, with_link(s.panel, frame, n)),
-        0x08 => with_formula(s, wide(frame[1]), formula_in(frame)),
-        0x0D => {
-            let bits = word(frame[2], frame[3], frame[4], frame[5]);
-            with_value(s, wide(frame[1]), of_bits(bits))
+    let id = usize::from(frame[1]);
+    match frame[0] {
+        0x0A => s.panel.size = usize::from(frame[2]),
+        0x0B => enter_order(&mut s.panel.place, line),
+        0x0C => enter_link(&mut s.panel, frame, n),
+        0x08 => {
+            if id < 128 {
+                s.formulas[id] = formula_in(frame);
+            }
         }
-        _ => s,
+        0x0D => {
+            if id < 64 {
+                s.values[id] = of_bits(word(frame[2], frame[3], frame[4], frame[5]));
+            }
+        }
+        _ => {}
     }
 }
 
 // A line enters what it says; one that is not hexadecimal enters nothing.
-fn enter(s: Sheet, line: &[u8]) -> Sheet
-    requires { Full s }
-    ensures { result ≡ entered s (line_bytes line.now) }
+fn enter(s: &mut Sheet, line: &[u8])
+    requires { Full s.old }
+    ensures { s.new ≡ entered s.old (line_bytes line.now) }
 {
-    let mut frame = [0u8; FRAME_ROOM];
-    let d = decode(line, &mut frame);
-    match d {
-        Decoded::BadHex(_) => s,
-        Decoded::Frame(n) => enter_frame(s, line, frame, n),
+    let mut frame = [0; FRAME_ROOM];
+    if let Ok(n) = decode(line, &mut frame) {
+        enter_frame(s, line, &frame, n);
     }
 }
 
@@ -243,10 +128,10 @@ pub fn read_lines(text: &[u8]) -> Sheet
     ensures { (result ≡ candidate text.now) × Full result }
 {
     let mut s = sheet::unopened();
-    let mut from: usize = 0;
+    let mut from = 0;
     while from < text.len() {
         let end = line_end(text, from);
-        s = enter(s, &text[from..end]);
+        enter(&mut s, &text[from..end]);
         from = behind(text, end);
     }
     s

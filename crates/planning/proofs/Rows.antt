@@ -1,11 +1,11 @@
 -- The rows of a plan, written one after the other: a row behind those that stand there is one run of stores with them (`written_more`).
 use mathlib.Core.Path.{◌≡◌, refl, sym, ap, ◌∙◌}
 use mathlib.Core.List.{List, [], ◌∷◌, ◌++◌}
-use Prim.Native.Nat.{ℕ, ◌+◌, ◌*◌, ◌≤◌, ◌<◌}
+use Prim.Native.Nat.{ℕ, ◌+◌, ◌*◌, ◌<◌}
 use native.Mathlib.Numerals.{add-one}
 use native.Mathlib.Omega.{arith}
 use lib.ListN.{length, take, length-take}
-use lib.Seq.{sets, length-sets, take-suc}
+use lib.Seq.{sets, take-suc}
 use Rattle.fieldset.specs.Lists.{All}
 use Rattle.fieldset.specs.Tables.{at}
 use Rattle.fieldset.proofs.Tables.{sets_append}
@@ -31,34 +31,31 @@ module _ (setter strength : ℕ → ℕ) where
   length_rows [] = refl
   length_rows (g ∷ fs) = omega (arith, length_rows fs)
 
--- the rows of the first i fields of a list stand at the start of the buffer
-pub record Written (setter table listed before now : List ℕ) (count i : ℕ) : Type 0 where
-  pub within : i ≤ count
-  pub stored : now ≡ sets before 0 (rows (at setter) (at table) (take i listed))
+-- the rows of the first i of some fields stand at the start of the buffer
+pub record Written (setter table fields before now : List ℕ) (i : ℕ) : Type 0 where
+  pub low : (j : ℕ) → j < length fields → at fields j < 64
+  pub stored : now ≡ sets before 0 (rows (at setter) (at table) (take i fields))
 
-module _ {setter table listed before now : List ℕ} {count i : ℕ} (w : Written setter table listed before now count i) where
+module _ {setter table fields before now : List ℕ} {i : ℕ} (w : Written setter table fields before now i) where
   abbrev done : List ℕ
-  done = rows (at setter) (at table) (take i listed)
-
-  pub written_full : length now ≡ length before
-  written_full = ap length w.stored ∙ length-sets before 0 done
+  done = rows (at setter) (at table) (take i fields)
 
   -- one row more
-  pub written_more : (after : List ℕ) (k : ℕ) → i < count → i < length listed → k ≡ at listed i
-      → after ≡ sets now (3 * i) (at listed i ∷ at setter k ∷ at table k ∷ []) → Written setter table listed before after count (i + 1)
-  written_more after k l few e is =
-      let f = at listed i in
+  pub written_more : (after : List ℕ) (k : ℕ) → i < length fields → k ≡ at fields i
+      → after ≡ sets now (3 * i) (at fields i ∷ at setter k ∷ at table k ∷ []) → Written setter table fields before after (i + 1)
+  written_more after k few e is =
+      let f = at fields i in
       let row = row_of (at setter) (at table) f in
       let here : after ≡ sets (sets before 0 done) (3 * i) row = is ∙ rw (e, w.stored) refl in
-      let end : 3 * i ≡ 0 + length done = omega (arith, length_rows (at setter) (at table) (take i listed), length-take i listed) in
-      let more : take (i + 1) listed ≡ take i listed ++ (f ∷ []) = ap (λ (k : ℕ). take k listed) (add-one i) ∙ take-suc listed i 0 few in
+      let end : 3 * i ≡ 0 + length done = omega (arith, length_rows (at setter) (at table) (take i fields), length-take i fields) in
+      let more : take (i + 1) fields ≡ take i fields ++ (f ∷ []) = ap (λ (k : ℕ). take k fields) (add-one i) ∙ take-suc fields i 0 few in
       record {
-        within = omega arith;
+        low = w.low;
         stored = here
             ∙ ap (λ (j : ℕ). sets (sets before 0 done) j row) end
             ∙ sets_append before 0 done row
             ∙ ap (λ (x : List ℕ). sets before 0 x)
-            (sym (ap (rows (at setter) (at table)) more ∙ rows_more (at setter) (at table) (take i listed) f));
+            (sym (ap (rows (at setter) (at table)) more ∙ rows_more (at setter) (at table) (take i fields) f));
       }
 
 -- of a panel

@@ -28,7 +28,7 @@ use Rattle.panel.specs.Outcomes.{redrawn_by, Takes}
 use Rattle.panel.specs.Legal.{Legal}
 use Rattle.panel.proofs.Moved.{member_turned}
 use Rattle.tables.specs.Tables.{Tabled}
-use Rattle.tables.proofs.Tables.{panel_among, panel_loopless, panel_reads}
+use Rattle.tables.proofs.Agreement.{panel_among, panel_loopless, panel_reads}
 use Rattle.taking.proofs.Taking.{reads_kept}
 
 -- ---- the fields that get another setter

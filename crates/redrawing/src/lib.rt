@@ -23,7 +23,7 @@ pub fn count_reply(reply: Reply, changed: u64, revalued: u64, down: &[u64; 64]) 
         return reply;
     }
     match reply {
-        Reply::Refused(_) => reply,
-        Reply::Accepted(_) => Reply::Accepted(size(set) as u8),
+        Err(_) => reply,
+        Ok(_) => Ok(size(set) as u8),
     }
 }

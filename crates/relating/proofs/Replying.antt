@@ -9,12 +9,11 @@ use Rattle.panel.specs.declared.Panel.{Panel}
 use Rattle.panel.specs.Items.{link_at}
 use Rattle.panel.specs.Commands.{check_reply}
 use Rattle.panel.proofs.Checks.{agree_reply, named_link}
-use Rattle.formulas.specs.declared.Formula.{Formula}
-use Rattle.formulas.specs.Formulas.{accepted}
+use Rattle.formulas.specs.Formulas.{Rule, accepted}
 use Rattle.sheet.specs.Commands.{check_formula, formula_checks}
 
 -- the link of a number below 128 is the one under its remainder
-pub formula_agrees : (p : Panel) (named : Link) (id : ℕ) (formula : Formula) → named ≡ link_at p.links (id % 128)
+pub formula_agrees : (p : Panel) (named : Link) (id : ℕ) (formula : Rule) → named ≡ link_at p.links (id % 128)
     → check_reply (check_formula p.size id named.used named.covered formula) ≡ check_reply (formula_checks p id formula)
 formula_agrees p named id formula same =
     agree_reply _ _ (

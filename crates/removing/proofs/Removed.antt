@@ -3,10 +3,10 @@
 -- (`tabled`), so what is chosen is the definition's least blocked item; with none the drop is the step, else the verdict on it gives the answer
 -- (`settles`), by the laws of a reversal (`found_refused`, `decides_path`).
 use mathlib.Core.Path.{◌≡◌, refl, sym, ap, ◌∙◌, subst}
-use mathlib.Core.Logic.{◌≢◌, ◌⊎◌, inl, inr}
-use mathlib.Core.Bool.{true, not}
+use mathlib.Core.Logic.{◌≢◌, inr}
+use mathlib.Core.Bool.{true, false, not}
 use mathlib.Core.List.{List}
-use mathlib.Core.Option.{none, some}
+use mathlib.Core.Option.{some}
 use Prim.Native.Nat.{ℕ, ◌%◌, ◌<◌}
 use native.Mathlib.Nat.{mod-eq_of_lt}
 use native.Mathlib.Decide.{dec_lt}
@@ -24,8 +24,8 @@ use Rattle.panel.specs.declared.Link.{Link}
 use Rattle.panel.specs.declared.Panel.{Panel}
 use Rattle.panel.specs.declared.Refusal.{Refusal}
 use Rattle.panel.specs.declared.Refusal.TheVariants.{Loop}
-use Rattle.panel.specs.declared.Reply.{Reply}
-use Rattle.panel.specs.declared.Reply.TheVariants.{Accepted, Refused}
+use Rattle.panel.specs.Answers.{Reply}
+use Rattle.std.specs.Prelude.{Option, Some, None, Ok, Err}
 use Rattle.panel.specs.declared.Step.{Step}
 use Rattle.panel.specs.Items.{Item, link, stay, no_link, link_at, outputs_of, in_force}
 use Rattle.panel.specs.Answers.{refused, reply_bytes}
@@ -45,7 +45,7 @@ use Rattle.panel.proofs.Changes.{freed_parts}
 use Rattle.panel.proofs.Checks.{Agree, checked_step, passes_reply, reply_refused, reply_accepted, named_link, removable}
 use Rattle.panel.proofs.Outcomes.{decides_unchanged}
 use Rattle.tables.specs.Tables.{Tabled}
-use Rattle.tables.proofs.Tables.{greatest_same, panel_acyclic, panel_among, panel_loopless, all_strengths, table_strengths, table_full}
+use Rattle.tables.proofs.Agreement.{greatest_same, panel_acyclic, panel_among, panel_loopless, all_strengths, table_strengths, table_full}
 use Rattle.reversal.specs.declared.Verdict.{Verdict}
 use Rattle.reversal.specs.declared.Verdict.TheVariants.{Free, Looped, Path}
 use Rattle.reversal.specs.Reversals.{Undecided, Decided, step_of}
@@ -53,7 +53,7 @@ use Rattle.reversal.proofs.ReadFields.{cover_of}
 use Rattle.reversal.proofs.Decision.{found_refused}
 use Rattle.reversal.proofs.Steps.{Change, decides_free, decides_path}
 use Rattle.scanning.specs.declared.Blocked.{Blocked}
-use Rattle.scanning.specs.declared.Blocked.TheVariants.{Nothing, Link as ALink, Stay as AStay}
+use Rattle.scanning.specs.declared.Blocked.TheVariants.{Link as ALink, Stay as AStay}
 use Rattle.scanning.specs.Scan.{Finds, Scanned}
 use Rattle.scanning.proofs.Dropped.{sets_holds, field_small, Held, rest, dropped_rest, legal_rest, found_blocked, dropped_setter}
 use Rattle.removing.specs.declared.Chosen.{Chosen}
@@ -72,10 +72,10 @@ module _ (p : Panel) (id : ℕ) (old : Link) (same : old ≡ link_at p.links (id
       used_is l = ap (λ (x : Link). x.used) (named_link p.links id old same l)
 
   module _ (reply : Reply) (checks : reply_bytes reply ≡ check_reply (check_remove p.size id old.used)) where
-    pub remove_refused : (x : Refusal) → reply ≡ Refused x → refused p x ≡ performed p (removing id)
+    pub remove_refused : (x : Refusal) → reply ≡ Err x → refused p x ≡ performed p (removing id)
     remove_refused = reply_refused p (check_remove p.size id old.used) (remove_checks p id) (remove_step p id) remove_agree reply checks
 
-    pub remove_passes : (m : ℕ) → reply ≡ Accepted m → (id < 128) × (performed p (removing id) ≡ remove_step p id)
+    pub remove_passes : (m : ℕ) → reply ≡ Ok m → (id < 128) × (performed p (removing id) ≡ remove_step p id)
     remove_passes m e =
         let (_, passed, step) = reply_accepted p (check_remove p.size id old.used) (remove_checks p id) (remove_step p id) remove_agree reply checks m e in
         ((removable p id passed).number, step)
@@ -102,7 +102,7 @@ module _ (p : Panel) (h : Legal p) (id : ℕ) where
       (ap not (lt-ltb 0 p.size (omega arith)), (le-ltb 127 id (omega arith), (ap not used, tt)))
 
   pub count_refused : (old : Link) → old ≡ link_at p.links (id % 128) → (reply : Reply) → reply_bytes reply ≡ check_reply (check_remove p.size id old.used)
-      → (x : Refusal) → reply ≡ Refused x → (n : ℕ) → n ≡ scan_count n p id
+      → (x : Refusal) → reply ≡ Err x → (n : ℕ) → n ≡ scan_count n p id
   unfolding scan_count
   count_refused old is reply checks x refuses n = go (link_at p.links id).standing refl
     where
@@ -110,8 +110,8 @@ module _ (p : Panel) (h : Legal p) (id : ℕ) where
       go Waiting e = refl
       go (Holding v) e =
           let named : old ≡ link_at p.links id = named_link p.links id old is (held_number v e) in
-          let same : Refused x ≡ Accepted 0 =
-          sym refuses ∙ replies_apart reply (Accepted 0)
+          let same : ◌≡◌ {A = Reply} (Err x) (Ok 0) =
+          sym refuses ∙ replies_apart reply (Ok 0)
           (checks ∙ ap (λ (l : Link). check_reply (check_remove p.size id l.used)) named ∙ passes_reply (remove_checks p id) (held_passes v e)) in
           let z : ◌≡◌ {A = ℕ} 0 1 = cc in absurd (omega arith)
 
@@ -160,9 +160,9 @@ pub record Removal (p : Panel) (id v : ℕ) (levels others reads : List ℕ) : T
   pub held : Held p id v levels others reads
   pub step : performed p (removing id) ≡ remove_step p id
 
-pub removal : {p : Panel} {v : ℕ} {levels others reads : List ℕ} → Legal p → Tabled p levels others reads → v < 64 → at p.setter v < 128
+pub removal : {p : Panel} {v : ℕ} {levels others reads : List ℕ} → Legal p × Tabled p levels others reads × (v < 64) × (at p.setter v < 128)
     → Removal p (at p.setter v) v levels others reads
-removal {p} {v} h t l small =
+removal {p} {v} (h, t, l, small) =
     let holds = h.setter_holds v l small in
     record {
       held = record { legal = h; tabled = t; small = small; holds = holds };
@@ -177,32 +177,41 @@ module _ {p : Panel} {id v : ℕ} {levels others reads : List ℕ} (x : Removal 
   legal : Legal q
   legal = legal_rest x.held
 
-  pub of_field : (b : Blocked) → Finds q b → OfField b
-  of_field Nothing e = tt
+  pub of_field : (b : Blocked) → Finds q (Some b) → OfField b
   of_field (ALink i l) e = tt
   of_field (AStay f) (e, _) =
       let w = (blocking q (stay f) (found_blocked x.held (stay f) e)).waits_now in
       omega (arith, legal.few, ltb-true f q.size (waits_force q.size q.links q.setter (stay f) w))
 
-  -- what is chosen, by its number as a setter, its outputs and covered fields: nothing, or an item
+  -- the least blocked item, by its number as a setter, its outputs and covered fields
   abbrev pub Choice : ℕ → ℕ → ℕ → Type 0
   Choice number outputs covered =
-      ((least_blocked q ≡ none) × (outputs ≡ 0))
-      ⊎ (d : Item) × (least_blocked q ≡ some d) × (number ≡ number_of d) × (outputs ≡ outputs_of q.links d) × (covered ≡ cover_of q.links d)
+      (d : Item) × (least_blocked q ≡ some d) × (number ≡ number_of d) × (outputs ≡ outputs_of q.links d) × (covered ≡ cover_of q.links d)
 
-  pub choice : (w : Chosen) (b : Blocked) → w ≡ chosen_of b → Finds q b → Choice w.number w.outputs w.covered
+  pub choice : (w : Chosen) (b : Blocked) → w ≡ chosen_of b → Finds q (Some b) → Choice w.number w.outputs w.covered
   choice w b e finds = subst (λ (w : Chosen). Choice w.number w.outputs w.covered) (sym e) (go b finds)
     where
-      go : (b : Blocked) → Finds q b → Choice (chosen_of b).number (chosen_of b).outputs (chosen_of b).covered
-      go Nothing (e, _) = inl (e, refl)
-      go (ALink i l) (e, is) = inr (link i, e, refl, ap (λ (y : Link). y.outputs) is, ap (λ (y : Link). y.covered) is)
-      go (AStay f) (e, _) = inr (stay f, e, refl, refl, refl)
+      go : (b : Blocked) → Finds q (Some b) → Choice (chosen_of b).number (chosen_of b).outputs (chosen_of b).covered
+      go (ALink i l) (e, is) = (link i, e, refl, ap (λ (y : Link). y.outputs) is, ap (λ (y : Link). y.covered) is)
+      go (AStay f) (e, _) = (stay f, e, refl, refl, refl)
+
+  step : performed p (removing id) ≡ settled p q (least_blocked q)
+  unfolding remove_step
+  step = x.step ∙ ap (drop_step p (dropped p id)) x.held.holds ∙ ap (λ (r : Panel). settled p r (least_blocked r)) (dropped_rest x.held)
+
+  change_is : Change p id p.size p.place no_link (Holding v)
+  change_is = change p x.held.legal id x.held.small (Holding v) x.held.holds
+
+  -- nothing is blocked
+  pub settles_free : Finds q None → (number : ℕ) (path : List ℕ) → length path ≡ 64 → Settles p id v path number Free
+  settles_free (free, _) number path long =
+      decides_free p id p.size p.place no_link (Holding v) change_is (removing id) path long number (step ∙ ap (settled p q) free)
 
   -- the scan without the link that sets v, and the tables afterwards
-  module _ {L O R before table : List ℕ} {b : Blocked} {worked : ℕ} (full : length before ≡ 64) (looked : Scanned (dropped p (at p.setter v)) before table b worked)
+  module _ {L O R before table : List ℕ} {o : Option Blocked} {worked : ℕ} (full : length before ≡ 64) (looked : Scanned (dropped p (at p.setter v)) before table o worked)
       (filled : Tabled (dropped p (at p.setter v)) L O R) where
-    scan : Scanned q before table b worked
-    scan = subst (λ (r : Panel). Scanned r before table b worked) (dropped_setter x.held) looked
+    scan : Scanned q before table o worked
+    scan = subst (λ (r : Panel). Scanned r before table o worked) (dropped_setter x.held) looked
 
     tabled : Tabled q L O R
     tabled = subst (λ (r : Panel). Tabled r L O R) (dropped_setter x.held) filled
@@ -210,7 +219,7 @@ module _ {p : Panel} {id v : ℕ} {levels others reads : List ℕ} (x : Removal 
     pub scan_counts_lem : worked ≡ p.size
     scan_counts_lem = scan.once
 
-    pub scan_finds : Finds q b
+    pub scan_finds : Finds q o
     scan_finds = scan.finds
 
     strong : Strengths L O p.size (below p.size) table
@@ -243,13 +252,11 @@ module _ {p : Panel} {id v : ℕ} {levels others reads : List ℕ} (x : Removal 
           (λ u l e. strong.right u l (outputs_in_lem u l e))
 
     module _ (number outputs covered : ℕ) (choice : Choice number outputs covered) where
-      pub undecided : (known s : ℕ) (path : List ℕ) → known ≡ below p.size → outputs ≢ 0 → s ≡ greatest (member outputs) (at table) 64 → length path ≡ 64
+      pub undecided : (known s : ℕ) (path : List ℕ) → known ≡ below p.size → s ≡ greatest (member outputs) (at table) 64 → length path ≡ 64
           → Undecided L O table p.size known s outputs covered R path
-      undecided known s path ek ne top long = go choice
-        where
-          go : Choice number outputs covered → Undecided L O table p.size known s outputs covered R path
-          go (inl (free, z)) = absurd (ne z)
-          go (inr (d, found, en, eo, ec)) = rw (ek, eo, ec) (record {
+      undecided known s path ek top long =
+          let (d, found, en, eo, ec) = choice in
+          rw (ek, eo, ec) (record {
             acyclic = panel_acyclic q legal L O R tabled;
             strengths = strong;
             outputs_known = outputs_in_lem d found;
@@ -264,40 +271,22 @@ module _ {p : Panel} {id v : ℕ} {levels others reads : List ℕ} (x : Removal 
             path_length = long;
           })
 
-      module _ (path : List ℕ) where
-        -- the verdict, where something is blocked
-        abbrev pub Judged : Verdict → Type 0
-        Judged t =
-            ((outputs ≢ 0) × (s : ℕ) × (s ≡ greatest (member outputs) (at table) 64) × Decided L O p.size s outputs covered R path t)
-            ⊎ ((outputs ≡ 0) × (t ≡ Free) × (length path ≡ 64))
-
-        step : performed p (removing id) ≡ settled p q (least_blocked q)
-        unfolding remove_step
-        step = x.step ∙ ap (drop_step p (dropped p id)) x.held.holds ∙ ap (λ (r : Panel). settled p r (least_blocked r)) (dropped_rest x.held)
-
-        change_is : Change p id p.size p.place no_link (Holding v)
-        change_is = change p x.held.legal id x.held.small (Holding v) x.held.holds
-
-        pub settles : (t : Verdict) → Judged t → Settles p id v path number t
-        settles t judged = go choice t judged
-          where
-            go : Choice number outputs covered → (t : Verdict) → Judged t → Settles p id v path number t
-            go (inl (free, z)) t (inl (ne, s, top, d)) = absurd (ne z)
-            go (inl (free, z)) t (inr (_, e, long)) =
-                subst (Settles p id v path number) (sym e)
-                (decides_free p id p.size p.place no_link (Holding v) change_is (removing id) path long number (step ∙ ap (settled p q) free))
-            go (inr (d, found, en, eo, ec)) t (inr (z, _, _)) = absurd (omega (arith, some_output d found, eo, z))
-            go (inr (d, found, en, eo, ec)) Free (inl (ne, s, top, never)) = absurd never
-            go (inr (d, found, en, eo, ec)) Looped (inl (ne, s, top, (count, f))) = (
+      module _ (path : List ℕ) (s : ℕ) (top : s ≡ greatest (member outputs) (at table) 64) where
+        -- by the verdict on what is blocked
+        pub settles : (t : Verdict) → Decided L O p.size s outputs covered R path t → Settles p id v path number t
+        settles Free never = absurd never
+        settles Looped (count, f) =
+            let (d, found, en, eo, ec) = choice in (
               step ∙ ap (settled p q) found
                   ∙ found_refused q d (but d found).carrying legal.loopless (force d found) L O R tabled (blocked d found) s count path true
                   (is_greatest d found s (rw eo at top)) (rw (eo, ec) at f) p refl,
               f.fields.full,
             )
-            go (inr (d, found, en, eo, ec)) (Path count m) (inl (ne, s, top, (f, em))) =
-                rw en
-                (decides_path p id p.size p.place no_link (Holding v) change_is (removing id) path d (but d found).carrying legal.loopless (force d found) L O R
-                tabled (blocked d found) s count m (is_greatest d found s (rw eo at top)) (rw (eo, ec) at f) em (step ∙ ap (settled p q) found))
+        settles (Path count m) (f, em) =
+            let (d, found, en, eo, ec) = choice in
+            rw en
+            (decides_path p id p.size p.place no_link (Holding v) change_is (removing id) path d (but d found).carrying legal.loopless (force d found) L O R
+            tabled (blocked d found) s count m (is_greatest d found s (rw eo at top)) (rw (eo, ec) at f) em (step ∙ ap (settled p q) found))
 
 -- ---- the step
 
@@ -307,11 +296,11 @@ module _ (p : Panel) (h : Legal p) (id v : ℕ) (small : id < 128) (holds : (lin
   own : Settles p id v path number t
   own = rw (h.holding_sets id v small holds) at d
 
-  pub remove_looped : (old : Link) → old ≡ link_at p.links (id % 128) → t ≡ Looped → s ≡ unchanged p.size p.place old (Refused Loop)
+  pub remove_looped : (old : Link) → old ≡ link_at p.links (id % 128) → t ≡ Looped → s ≡ unchanged p.size p.place old (Err Loop)
       → Decides p (id % 128) (removing id) path s
   remove_looped old same e is =
       let (loops, long) = subst (Settles p id v path number) e own in
-      rw is (decides_unchanged p (id % 128) old (Refused Loop) same (removing id) path long (refused p Loop) loops refl refl tt)
+      rw is (decides_unchanged p (id % 128) old (Err Loop) same (removing id) path long (refused p Loop) loops refl refl tt)
 
   pub remove_reversed : (l : Link) (u : ℕ) → l ≡ no_link → v ≡ u → t ≢ Looped → s ≡ step_of t p.size p.place l (Holding u) number
       → Decides p (id % 128) (removing id) path s

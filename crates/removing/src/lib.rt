@@ -1,7 +1,7 @@
 // Removing a link.
 #![tactic(auto)]
 
-ghost use Rattle.std.specs.Prelude.{◌≡◌, ◌%◌, ◌<◌, length};
+ghost use Rattle.std.specs.Prelude.{◌≡◌, ◌%◌, ◌<◌};
 ghost use Rattle.fieldset.specs.Tables.{at};
 ghost use Rattle.panel.specs.Items.{link_at};
 ghost use Rattle.panel.specs.Panels.{dropped};
@@ -9,34 +9,35 @@ ghost use Rattle.panel.specs.Answers.{reply_bytes};
 ghost use Rattle.panel.specs.Commands.{check_reply, check_remove, removing};
 ghost use Rattle.panel.specs.Legal.{Legal};
 ghost use Rattle.panel.specs.Outcomes.{Decides};
-ghost use Rattle.tables.specs.Tables.{Tabled};
+ghost use Rattle.tables.specs.Tables.{TablesOf};
 ghost use Rattle.removing.specs.Choice.{OfField, chosen_of};
 ghost use Rattle.removing.specs.Settled.{Settles};
 ghost use Rattle.removing.specs.Scans.{scan_count};
 
-use fieldset::{below, only, wide};
+use fieldset::{below, only};
 use panel::{LAST_LINK, Link, Panel, Refusal, Reply, STAY, Standing, Step, no_link, unchanged};
 use reversal::{Verdict, decide, step_of};
 use scanning::{Blocked, scan_without};
 use strength::top_of;
+use tables::Tables;
 
 // The reply of the checks of a removal, on a panel of n fields; `used` where the number is in use.
 fn check_remove(n: usize, id: u8, used: bool) -> Reply
     ensures { reply_bytes result ≡ check_reply (check_remove n id used) }
 {
     if n == 0 {
-        return Reply::Refused(Refusal::NotOpen);
+        return Err(Refusal::NotOpen);
     }
     if LAST_LINK < id {
-        return Reply::Refused(Refusal::BadLink);
+        return Err(Refusal::BadLink);
     }
     if !used {
-        return Reply::Refused(Refusal::NoSuchLink);
+        return Err(Refusal::NoSuchLink);
     }
-    Reply::Accepted(0)
+    Ok(0)
 }
 
-// The link or stay that a scan finds: its number as a setter, its outputs and covered fields. Without outputs there is none.
+// The link or stay that a scan finds: its number as a setter, its outputs and covered fields.
 #[derive(Clone, Copy)]
 struct Chosen {
     number: u8,
@@ -49,25 +50,20 @@ fn choose(b: Blocked) -> Chosen
     requires { OfField b }
     ensures { result ≡ chosen_of b }
 {
-    let mut number = STAY;
-    let mut outputs = 0u64;
-    let mut covered = 0u64;
     match b {
-        Blocked::Nothing => {}
-        Blocked::Link(i, l) => {
-            number = i;
-            outputs = l.outputs;
-            covered = l.covered;
-        }
+        Blocked::Link(i, l) => Chosen {
+            number: i,
+            outputs: l.outputs,
+            covered: l.covered,
+        },
         Blocked::Stay(f) => {
-            outputs = only(wide(f));
-            covered = outputs;
+            let set = only(usize::from(f));
+            Chosen {
+                number: STAY,
+                outputs: set,
+                covered: set,
+            }
         }
-    }
-    Chosen {
-        number: number,
-        outputs: outputs,
-        covered: covered,
     }
 }
 
@@ -83,43 +79,43 @@ pub struct Decision {
 // The contract rules out, for instance, a blocked link that does not set and the number of the freed field for the count (must-fail:
 // blocked_link_does_not_set, field_for_the_count).
 pub fn settle(
-    p: Panel,
+    p: &Panel,
     v: usize,
-    levels: &mut [u8; 64],
-    others: &mut [u64; 64],
-    reads: &mut [u64; 64],
+    tables: &mut Tables,
     path: &mut [u8; 64],
     worked: &mut u8,
 ) -> Decision
-    requires { Legal p × Tabled p levels.old others.old reads.old × (v < 64) × (at p.setter v < 128) × (length path.old ≡ 64) }
-    ensures settles { Settles p (at p.setter v) v path.new result.number result.verdict }
-    ensures tabled { Tabled (dropped p (at p.setter v)) levels.new others.new reads.new }
-    ensures worked_after { worked.new ≡ p.size }
+    requires { Legal p.now × TablesOf p.now tables.old × (v < 64) × (at p.now.setter v < 128) }
+    ensures settles { Settles p.now (at p.now.setter v) v path.new result.number result.verdict }
+    ensures tabled { TablesOf (dropped p.now (at p.now.setter v)) tables.new }
+    ensures worked_after { worked.new ≡ p.now.size }
 {
     let n = p.size;
-    let mut table = [0u8; 64];
-    let found = scan_without(p, v, levels, others, reads, &mut table);
+    let mut table = [0; 64];
+    let found = scan_without(p, v, tables, &mut table);
     *worked = found.worked;
-    let blocked = found.blocked;
+    let Some(blocked) = found.blocked else {
+        return Decision {
+            verdict: Verdict::Free,
+            number: STAY,
+        };
+    };
     let b = choose(blocked);
-    let mut verdict = Verdict::Free;
-    if b.outputs != 0 {
-        let top = top_of(&table, b.outputs);
-        verdict = decide(
-            levels,
-            others,
-            &table,
-            n,
-            below(n),
-            top,
-            b.outputs,
-            b.covered,
-            reads,
-            path,
-        );
-    }
+    let top = top_of(&table, b.outputs);
+    let verdict = decide(
+        &tables.levels,
+        &tables.others,
+        &table,
+        n,
+        below(n),
+        top,
+        b.outputs,
+        b.covered,
+        &tables.reads,
+        path,
+    );
     Decision {
-        verdict: verdict,
+        verdict,
         number: b.number,
     }
 }
@@ -129,44 +125,31 @@ pub fn settle(
 // The contract rules out, for instance, a freed field that is not counted and a Conflict for a loop (must-fail: freed_field_not_counted,
 // loop_is_a_conflict).
 pub fn remove(
-    p: Panel,
+    p: &Panel,
     old: Link,
-    levels: &[u8; 64],
-    others: &[u64; 64],
-    reads: &[u64; 64],
+    tables: &Tables,
     id: u8,
     path: &mut [u8; 64],
     worked: &mut u8,
 ) -> Step
-    requires { Legal p × Tabled p levels.now others.now reads.now × (old ≡ link_at p.links (id % 128)) × (length path.old ≡ 64) }
-    ensures decides { Decides p (id % 128) (removing id) path.new result }
-    ensures worked_after { worked.new ≡ scan_count worked.old p id }
+    requires { Legal p.now × TablesOf p.now tables.now × (old ≡ link_at p.now.links (id % 128)) }
+    ensures decides { Decides p.now (id % 128) (removing id) path.new result }
+    ensures worked_after { worked.new ≡ scan_count worked.old p.now id }
 {
     let n = p.size;
-    let place = p.place;
     let reply = check_remove(n, id, old.used);
-    if let Reply::Refused(_) = reply {
-        return unchanged(n, &place, old, reply);
+    if reply.is_err() {
+        return unchanged(n, &p.place, old, reply);
     }
     let s = old.standing;
     let Standing::Holding(h) = s else {
-        return step_of(Verdict::Free, n, &place, no_link(), s, STAY);
+        return step_of(Verdict::Free, n, &p.place, no_link(), s, STAY);
     };
-    let mut fresh = *levels;
-    let mut outs = *others;
-    let mut reading = *reads;
-    let settled = settle(
-        p,
-        wide(h),
-        &mut fresh,
-        &mut outs,
-        &mut reading,
-        path,
-        worked,
-    );
+    let mut fresh = *tables;
+    let settled = settle(p, usize::from(h), &mut fresh, path, worked);
     let verdict = settled.verdict;
     if let Verdict::Looped = verdict {
-        return unchanged(n, &place, old, Reply::Refused(Refusal::Loop));
+        return unchanged(n, &p.place, old, Err(Refusal::Loop));
     }
-    step_of(verdict, n, &place, no_link(), s, settled.number)
+    step_of(verdict, n, &p.place, no_link(), s, settled.number)
 }

@@ -1,22 +1,12 @@
 -- The bytes of a reply to a command.
-use Rattle.std.specs.Prelude.{ℕ, ◌+◌, ◌-◌, ◌*◌, List, ◌++◌, length, take, replicate}
-use Rattle.panel.specs.declared.Reply.{Reply}
-use Rattle.panel.specs.Answers.{reply_bytes, plan_rest, rows_length}
+use Rattle.std.specs.Prelude.{ℕ, ◌+◌, ◌*◌, List, ◌++◌, take}
+use Rattle.panel.specs.Answers.{Reply, reply_bytes, plan_rest, rows_length}
 use Rattle.frames.specs.declared.Command.{Command}
 use Rattle.frames.specs.declared.Command.TheVariants.{Open, Add, Remove, Touch, Plan, Change, Enter, Relate, Refused}
-use Rattle.replies.specs.declared.RefusalBytes.{RefusalBytes}
 
 -- the characters of the longest reply's line: a plan of 64 fields has 2 + 3 * 64 bytes, and the line an LF
 abbrev pub longest : ℕ
 longest = 2 * (2 + rows_length) + 1
-
--- the most bytes that a refusal has: the number of BadHex and its offset
-abbrev pub refusal_room : ℕ
-refusal_room = 3
-
--- the bytes of a refusal, at the start of a buffer of zeros
-abbrev pub buffered : List ℕ → RefusalBytes
-buffered bytes = record { bytes = bytes ++ replicate (refusal_room - length bytes) 0; len = length bytes }
 
 -- how many bytes of rows the reply to a command has: those of a plan
 abbrev pub rest_of : Command → Reply → ℕ

@@ -29,7 +29,7 @@ use Rattle.panel.proofs.Legal.{Carrying, force_small, force_formed}
 use Rattle.panel.proofs.Setters.{setter_force, setter_output, outputs_inside}
 use Rattle.panel.proofs.Reversal.{route_setters, Start, start_of, start_of_lem, blocking, path_for_lem, route_for}
 use Rattle.tables.specs.Tables.{Tabled}
-use Rattle.tables.proofs.Tables.{level_at, others_at, reads_at, table_inside, table_acyclic, table_among, table_loopless, table_strength, table_tied, greatest_same, path_same, any_over}
+use Rattle.tables.proofs.Agreement.{level_at, others_at, reads_at, table_inside, table_acyclic, table_among, table_loopless, table_strength, table_tied, greatest_same, path_same, any_over}
 use Rattle.reversal.specs.Reversals.{reversed_reads, Unresolved, Found}
 use Rattle.reversal.proofs.ReadFields.{cover_of, Covers, cover_link, cover_stay, reversed_reads_lem}
 

@@ -7,8 +7,8 @@ use mathlib.Core.List.{List, [], ◌∷◌, ◌++◌}
 use native.Mathlib.Numerals.{add-one}
 use borrow.Author.Tests.{eq-eqb, eqb-false, lt-ltb}
 use lib.Dec.{eqb}
-use lib.ListN.{length, take, set}
-use lib.Seq.{take-suc, get_or-set_other}
+use lib.ListN.{length, take, drop, set, drop_of_length-le}
+use lib.Seq.{drop-cons, take-suc, get_or-set_other}
 use Rattle.fieldset.specs.Tables.{at}
 use Rattle.fieldset.specs.Lists.{All}
 use Rattle.fieldset.specs.Fields.{member, set_of, with, without, below, Within}
@@ -18,18 +18,16 @@ use Rattle.fieldset.proofs.Lists.{all_in}
 use Rattle.keeping.specs.Keeping.{Differ}
 use Rattle.panel.specs.Commands.{any_of}
 use Rattle.panel.proofs.Moved.{any_in}
-use Rattle.fieldset.proofs.Rest.{rest, rest_next, rest_end}
 use Rattle.reversal.specs.Reversals.{reversed_reads, fields_of}
 
-module _ (n : ℕ) (path : List ℕ) (long : n ≤ length path) where
-  pub reads_next : (reads : List ℕ) (cover i k v w : ℕ) → i < n → k ≡ at path i → v ≡ without cover k → w ≡ with (at reads k) k
-      → reversed_reads (set reads k v) w (rest n path (i + 1)) ≡ reversed_reads reads cover (rest n path i)
-  unfolding reversed_reads
-  reads_next reads cover i k v w l ek ev ew = rw (rest_next n i path l long, ev, ew, ek)
+pub reads_next : (vs reads : List ℕ) (cover i k v w : ℕ) → i < length vs → k ≡ at vs i → v ≡ without cover k → w ≡ with (at reads k) k
+    → reversed_reads (set reads k v) w (drop (i + 1) vs) ≡ reversed_reads reads cover (drop i vs)
+unfolding reversed_reads
+reads_next vs reads cover i k v w l ek ev ew = rw (add-one i, drop-cons vs i 0, ev, ew, ek)
 
-  pub reads_end : (reads : List ℕ) (cover i : ℕ) → n ≤ i → reversed_reads reads cover (rest n path i) ≡ reads
-  unfolding reversed_reads
-  reads_end reads cover i l = rw (rest_end n i path l long)
+pub reads_end : (vs reads : List ℕ) (cover i : ℕ) → length vs ≤ i → reversed_reads reads cover (drop i vs) ≡ reads
+unfolding reversed_reads
+reads_end vs reads cover i l = rw (drop_of_length-le vs l)
 
 any_append : (f v : ℕ) (vs : List ℕ) → any_of (eqb f) (vs ++ (v ∷ [])) ≡ (any_of (eqb f) vs || eqb f v)
 unfolding any_of

@@ -23,7 +23,7 @@ use Rattle.panel.specs.declared.Standing.TheVariants.{Waiting, Holding}
 use Rattle.panel.specs.declared.Link.{Link}
 use Rattle.panel.specs.declared.Panel.{Panel}
 use Rattle.panel.specs.declared.Refusal.TheVariants.{Loop}
-use Rattle.panel.specs.declared.Reply.TheVariants.{Accepted}
+use Rattle.std.specs.Prelude.{Ok}
 use Rattle.panel.specs.Items.{Item, link, item_of, link_at, outputs_of, is_in_force, in_force, waits}
 use Rattle.panel.specs.Answers.{Answer, refused, reply_bytes}
 use Rattle.panel.specs.Panels.{freed}
@@ -143,7 +143,7 @@ module _ (p : Panel) (k n : ℕ) (place : List ℕ) (l : Link) (held : Standing)
           keeps = ch.keeps;
         };
         reply =
-            ap (λ (a : Answer). reply_bytes (counted (Accepted 0) (redrawn_by fields_changed 0 a.panel))) accept
+            ap (λ (a : Answer). reply_bytes (counted (Ok 0) (redrawn_by fields_changed 0 a.panel))) accept
             ∙ counted_none (redrawn_by fields_changed 0 r)
             ∙ ap (λ (m : ℕ). 0x00 ∷ size m ∷ []) (redrawn_by_lem p r fields_changed legal_after.few turns)
             ∙ ap (λ (a : Answer). a.reply) (sym accept);

@@ -9,7 +9,7 @@ use Rattle.ordering.specs.Walks.{Among}
 use Rattle.panel.specs.declared.Standing.{Standing}
 use Rattle.panel.specs.declared.Standing.TheVariants.{Waiting, Holding}
 use Rattle.panel.specs.declared.Link.{Link}
-use Rattle.panel.specs.declared.Reply.TheVariants.{Accepted}
+use Rattle.std.specs.Prelude.{Ok}
 use Rattle.panel.specs.declared.Step.{Step}
 use Rattle.panel.specs.Commands.{any_of}
 use Rattle.panel.specs.Outcomes.{PathOf}
@@ -122,7 +122,7 @@ abbrev pub step_of : Verdict → ℕ → List ℕ → Link → Standing → ℕ 
 step_of verdict n place link held c =
     let changed = union (fields_by verdict) (held_field held) in
     record {
-      reply = Accepted 0;
+      reply = Ok 0;
       size = n;
       place = place;
       link = link;

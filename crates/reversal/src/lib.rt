@@ -1,13 +1,13 @@
 // Deciding on the reversal of a path, over the tables of a panel's setters.
 #![tactic(auto)]
 
-ghost use Rattle.std.specs.Prelude.{◌≡◌, length, take};
+ghost use Rattle.std.specs.Prelude.{◌≡◌, take};
 ghost use Rattle.panel.specs.Outcomes.{PathOf};
 ghost use Rattle.reversal.specs.Reversals.{reversed_reads, fields_of, with_path, resolved_path, Undecided, Decided, Unresolved, Resolved, HeldField, held_field, step_of};
 
-use fieldset::{only, union, wide, with, without};
+use fieldset::{only, union, with, without};
 use keeping::loops_through;
-use panel::{Link, Reply, STAY, Standing, Step};
+use panel::{Link, STAY, Standing, Step};
 use strength::{greatest, lowest_at, path_from};
 
 // What is to be done for an item: nothing where it is not blocked; else its path is reversed, which has so many fields, these, unless
@@ -21,17 +21,15 @@ pub enum Verdict {
 
 // The read fields after a path is reversed: `covered` are the covered fields of what sets its first field.
 fn reverse_reads(reads: &mut [u64; 64], covered: u64, path: &[u8; 64], count: usize)
-    requires { PathOf path.now count × (length reads.old ≡ 64) }
+    requires { PathOf path.now count }
     ensures { reads.new ≡ reversed_reads reads.old covered (take count path.now) }
 {
     let mut cover = covered;
-    let mut i: usize = 0;
-    while i < count {
-        let f = wide(path[i]);
+    for &field in &path[..count] {
+        let f = usize::from(field);
         let old = with(reads[f], f);
         reads[f] = without(cover, f);
         cover = old;
-        i += 1;
     }
 }
 
@@ -40,15 +38,14 @@ fn path_fields(path: &[u8; 64], count: usize) -> u64
     requires { PathOf path.now count }
     ensures { result ≡ fields_of (take count path.now) }
 {
-    let mut set = 0u64;
-    let mut i: usize = 0;
-    while i < count {
-        set = with(set, wide(path[i]));
-        i += 1;
+    let mut set = 0;
+    for &f in &path[..count] {
+        set = with(set, usize::from(f));
     }
     set
 }
 
+// The tables come one by one here and in `resolve`: a touch goes by its new levels and the panel's other tables.
 // Finds the reversible path for a blocked item with these outputs and covered fields, from its lowest-numbered output of the strength s, and
 // whether there is a loop when it is reversed.
 pub fn decide(
@@ -111,7 +108,7 @@ fn held_field(s: Standing) -> u64
 {
     match s {
         Standing::Waiting => 0,
-        Standing::Holding(v) => only(wide(v)),
+        Standing::Holding(v) => only(usize::from(v)),
     }
 }
 
@@ -125,28 +122,22 @@ pub fn step_of(
     held: Standing,
     c: u8,
 ) -> Step
-    requires { (length place.now ≡ 64) × HeldField held }
+    requires { HeldField held }
     ensures { result ≡ step_of verdict n place.now link held c }
 {
-    let mut setter = STAY;
-    let mut count: usize = 0;
-    let mut fields = 0u64;
-    if let Verdict::Path(k, set) = verdict {
-        setter = c;
-        count = k;
-        fields = set;
-    }
-    let places = *place;
-    let changed = union(fields, held_field(held));
+    let (setter, count, fields) = match verdict {
+        Verdict::Path(count, fields) => (c, count, fields),
+        Verdict::Free | Verdict::Looped => (STAY, 0, 0),
+    };
     Step {
-        reply: Reply::Accepted(0),
+        reply: Ok(0),
         size: n,
-        place: places,
-        link: link,
+        place: *place,
+        link,
         freed: held,
-        setter: setter,
-        count: count,
-        changed: changed,
+        setter,
+        count,
+        changed: union(fields, held_field(held)),
         revalued: 0,
     }
 }

@@ -1,29 +1,31 @@
 -- Texts written one behind the other (`wrote_more`), and `Growing`, what every loop keeps: of a text that grows by a piece at each number, the part of
--- the numbers below i is written. Assumes nothing.
-use Prim.Native.Nat.{ℕ, zero, suc, ◌+◌, ◌*◌, ◌≤◌, ◌<◌}
+-- the numbers below i is written.
+use Prim.Native.Nat.{ℕ, zero, suc, ◌+◌, ◌*◌, ◌/◌, ◌%◌, ◌≤◌, ◌<◌}
 use mathlib.Core.Path.{◌≡◌, refl, sym, ap, ap₂, ◌∙◌}
 use mathlib.Core.Bool.{Bool, true, false, cond}
 use mathlib.Core.List.{List, [], ◌∷◌, ◌++◌, append-nil}
-use native.Mathlib.Nat.{add-zero, mul-suc, not-suc-le-zero}
+use native.Mathlib.Nat.{add-zero, mul-suc}
 use native.Mathlib.Numerals.{add-one}
 use native.Mathlib.Omega.{arith}
-use lib.Dec.{eqb}
+use lib.Dec.{eqb, ltb}
 use lib.IntN.{ℤ}
-use lib.ListN.{length, length-append}
-use lib.Seq.{sets, length-sets}
-use borrow.Author.Tests.{eq-eqb, ne_eqb, lt-ltb, le-ltb}
+use lib.ListN.{length, get_or, take, length-append}
+use lib.Seq.{sets, length-sets, length-take-le, get_or-take}
+use borrow.Author.Tests.{ltb-false, ne_eqb, lt-ltb, le-ltb}
+use Rattle.std.specs.Prelude.{Option, Some, None, position}
+use Rattle.std.proofs.lemmas.List.Quantifiers.{position-Some}
+use Rattle.std.proofs.lemmas.List.Sums.{fails_before_first}
 use Rattle.fieldset.specs.Tables.{at, tabulate}
 use Rattle.fieldset.specs.Fields.{member}
 use Rattle.fieldset.proofs.Tables.{sets_append, length_tabulate}
-use Rattle.fieldset.proofs.Numbers.{below_suc, lowest_unique, lowest_none}
+use Rattle.fieldset.proofs.Numbers.{lowest_unique, lowest_none}
 use Rattle.panel.specs.declared.Link.{Link}
 use Rattle.panel.specs.Items.{link_at}
 use Rattle.panel.specs.Commands.{is_open}
 use Rattle.values.specs.Limits.{value_at}
 use Rattle.values.specs.Words.{bits_of}
-use Rattle.formulas.specs.declared.Formula.{Formula}
-use Rattle.formulas.specs.declared.Formula.TheVariants.{None, Ratio, Sum}
-use Rattle.formulas.specs.declared.Formulas.{Formulas}
+use Rattle.formulas.specs.Formulas.{Rule}
+use Rattle.formulas.specs.declared.Formula.TheVariants.{Ratio, Sum}
 use Rattle.sheet.specs.declared.Sheet.{Sheet}
 use Rattle.sheet.specs.Sheets.{formula_at}
 use Rattle.hexadecimal.specs.Hex.{hex_of, line_of, lf}
@@ -34,7 +36,6 @@ use Rattle.frames.specs.Frames.{formula_bytes}
 use Rattle.frames.proofs.Outputs.{written_append}
 use Rattle.images.specs.Images.{gather, field_at, stay_order, field_byte, field_piece, field_bytes, standing_byte, link_frame, link_frames, link_piece, formula_frames, formula_piece, four_bytes, value_frames, value_piece, frames_of, image_of}
 use Rattle.images.specs.Reading.{version}
-use Rattle.saving.specs.declared.Saved.TheVariants.{NotOpen, Length}
 use Rattle.saving.specs.Wrote.{Wrote}
 use Rattle.saving.specs.Saves.{SavedAs}
 
@@ -74,25 +75,23 @@ wrote_ended b A B = wrote_as (written_one b) (wrote_more A B)
 
 -- ---- a text that grows
 
--- of the pieces of the first n numbers, each at most k long, those of the numbers below i are written
-pub record Growing (text : ℕ → List ℕ) (k n : ℕ) (o : List ℕ) (p : ℕ) (o' : List ℕ) (q i : ℕ) : Type 0 where
-  pub within : i ≤ n
+-- of pieces that are each at most k long, those of the numbers below i are written
+pub record Growing (text : ℕ → List ℕ) (k : ℕ) (o : List ℕ) (p : ℕ) (o' : List ℕ) (q i : ℕ) : Type 0 where
   pub near : q ≤ p + k * i
   pub wrote : Wrote o p o' q (text i)
 
-pub growing_none : (text : ℕ → List ℕ) (k n : ℕ) (o : List ℕ) (p : ℕ) → text 0 ≡ [] → Growing text k n o p o p 0
-growing_none text k n o p e = record { within = omega arith; near = omega arith; wrote = wrote_as (sym e) (wrote_none o p) }
+pub growing_none : (text : ℕ → List ℕ) (k : ℕ) (o : List ℕ) (p : ℕ) → text 0 ≡ [] → Growing text k o p o p 0
+growing_none text k o p e = record { near = omega arith; wrote = wrote_as (sym e) (wrote_none o p) }
 
-pub growing_on : {text : ℕ → List ℕ} {k n : ℕ} {o o₁ o₂ : List ℕ} {p q r i : ℕ} {u : List ℕ} → text (suc i) ≡ text i ++ u → length u ≤ k → i < n
-    → Growing text k n o p o₁ q i → Wrote o₁ q o₂ r u → Growing text k n o p o₂ r (i + 1)
-growing_on {text} {k} {i = i} e short l G W = record {
-  within = omega arith;
+pub growing_on : {text : ℕ → List ℕ} {k : ℕ} {o o₁ o₂ : List ℕ} {p q r i : ℕ} {u : List ℕ} → text (suc i) ≡ text i ++ u → length u ≤ k
+    → Growing text k o p o₁ q i → Wrote o₁ q o₂ r u → Growing text k o p o₂ r (i + 1)
+growing_on {text} {k} {i = i} e short G W = record {
   near = omega (arith, mul-suc k i, ap (λ (x : ℕ). k * x) (add-one i), G.near, W.position);
   wrote = wrote_as (sym (ap text (add-one i) ∙ e)) (wrote_more G.wrote W);
 }
 
-pub growing_all : {text : ℕ → List ℕ} {k n : ℕ} {o o' : List ℕ} {p q i : ℕ} → n ≤ i → Growing text k n o p o' q i → Wrote o p o' q (text n)
-growing_all {text} {n = n} {i = i} l G = let e : i ≡ n = omega (arith, G.within) in wrote_as (ap text e) G.wrote
+pub growing_all : {text : ℕ → List ℕ} {k : ℕ} {o o' : List ℕ} {p q i n : ℕ} → i ≡ n → Growing text k o p o' q i → Growing text k o p o' q n
+growing_all e G = rw e at G
 
 -- how far it is to its end
 pub growing_length : (text : ℕ → List ℕ) (k : ℕ) (piece : ℕ → List ℕ) → text 0 ≡ [] → ((i : ℕ) → text (suc i) ≡ text i ++ piece i)
@@ -142,33 +141,37 @@ byte_short b = omega (arith, length_hex (b ∷ []))
 
 -- ---- the stays' order
 
--- no field before f has its stay at the place p
-pub record Sought (place : List ℕ) (n p f : ℕ) : Type 0 where
-  pub within : f ≤ n
-  pub none_before : (g : ℕ) → g < f → eqb (at place g) p ≡ false
+-- the first field with its stay at the place p, or none
+module _ (place : List ℕ) (n p : ℕ) (fits : n ≤ length place) where
+  abbrev there : ℕ → Bool
+  there = λ q. eqb q p
 
-pub sought_none : (place : List ℕ) (n p : ℕ) → Sought place n p 0
-sought_none place n p = record { within = omega arith; none_before = λ g l. absurd (not-suc-le-zero l) }
+  count_is : length (take n place) ≡ n
+  count_is = length-take-le n place fits
 
-pub sought_on : (place : List ℕ) (n p f : ℕ) → f < n → (at place f ≡ p → ⊥) → Sought place n p f → Sought place n p (f + 1)
-sought_on place n p f l e S = record {
-  within = omega arith;
-  none_before = λ g h. below_suc (λ g. eqb (at place g) p ≡ false) f S.none_before (ne_eqb (at place f) p e) g (omega arith);
-}
+  same_at : (f : ℕ) {b : Bool} → f < n → there (get_or (take n place) f 0) ≡ b → there (at place f) ≡ b
+  same_at f l e = ap there (sym (get_or-take n place f 0 l)) ∙ e
 
-pub sought_found : (place : List ℕ) (n p f : ℕ) → f < n → at place f ≡ p → Sought place n p f → f ≡ field_at place n p
-unfolding field_at
-sought_found place n p f l e S = sym (lowest_unique (λ f. eqb (at place f) p) n 64 f l (eq-eqb (at place f) p e) S.none_before)
+  pub field_found : {f : ℕ} → Some f ≡ position there (take n place) → f ≡ field_at place n p
+  unfolding field_at
+  field_found {f} e =
+      let h = position-Some there (take n place) f 0 (sym e) in
+      let l : f < n = omega (arith, h.0, count_is) in
+      sym (lowest_unique (λ g. there (at place g)) n 64 f l (same_at f l h.1) (λ g k. same_at g (omega arith) (h.2 g k)))
 
-pub sought_end : (place : List ℕ) (n p f : ℕ) → n ≤ f → Sought place n p f → 64 ≡ field_at place n p
-unfolding field_at
-sought_end place n p f l S = sym (lowest_none (λ f. eqb (at place f) p) n 64 (λ g h. S.none_before g (omega arith)))
+  pub field_none : ◌≡◌ {A = Option ℕ} None (position there (take n place)) → 64 ≡ field_at place n p
+  unfolding field_at
+  field_none e = sym (lowest_none (λ g. there (at place g)) n 64 (λ g l. same_at g l (fails_before_first there (take n place) g 0 (past g l _ _ refl e))))
+    where
+      past : (g : ℕ) → g < n → (r : ℕ) (b : Bool) → b ≡ ltb r (length (take n place)) → ◌≡◌ {A = Option ℕ} None (cond b (Some r) None) → g < r
+      past g l r true t e = absurd (grind arith)
+      past g l r false t e = omega (arith, ltb-false _ _ (sym t), count_is)
 
 -- its line: 0B, the fields, LF
-pub order_written : (place : List ℕ) (n : ℕ) {o o₀ o₁ o₂ : List ℕ} {p q₀ q r i : ℕ} → Wrote o p o₀ q₀ (hex_of (0x0B ∷ []))
-    → n ≤ i → Growing (table_to (field_at place n)) 2 n o₀ q₀ o₁ q i → Wrote o₁ q o₂ r (lf ∷ []) → Wrote o p o₂ r (written ((0x0B ∷ stay_order place n) ∷ []))
+pub order_written : (place : List ℕ) (n : ℕ) {o o₀ o₁ o₂ : List ℕ} {p q₀ q r : ℕ} → Wrote o p o₀ q₀ (hex_of (0x0B ∷ []))
+    → Growing (table_to (field_at place n)) 2 o₀ q₀ o₁ q n → Wrote o₁ q o₂ r (lf ∷ []) → Wrote o p o₂ r (written ((0x0B ∷ stay_order place n) ∷ []))
 unfolding stay_order hex_of
-order_written place n Z l G W = wrote_ended (0x0B ∷ tabulate (field_at place n) n) (wrote_more Z (growing_all l G)) W
+order_written place n Z G W = wrote_ended (0x0B ∷ tabulate (field_at place n) n) (wrote_more Z G.wrote) W
 
 pub order_length : (place : List ℕ) (n : ℕ) → length (written ((0x0B ∷ stay_order place n) ∷ [])) ≡ 2 * n + 3
 unfolding stay_order
@@ -226,34 +229,34 @@ link_length i l = go l.used
 
 -- ---- formulas and values
 
-pub formula_none : (i : ℕ) {x : Formula} (o : List ℕ) (p : ℕ) → x ≡ None → Wrote o p o p (written (formula_frames i x))
+pub formula_none : (i : ℕ) {x : Rule} (o : List ℕ) (p : ℕ) → x ≡ None → Wrote o p o p (written (formula_frames i x))
 unfolding written
 formula_none i o p e = rw e (wrote_none o p)
 
-pub formula_ratio : (i : ℕ) {x : Formula} {p q : ℕ} (o o' : List ℕ) (at r : ℕ) → x ≡ Ratio p q
-    → (o' ≡ sets o at (line_of (0x08 ∷ i ∷ formula_bytes (Ratio p q)))) × (r ≡ at + length (line_of (0x08 ∷ i ∷ formula_bytes (Ratio p q))))
+pub formula_ratio : (i : ℕ) {x : Rule} {p q : ℕ} (o o' : List ℕ) (at r : ℕ) → x ≡ Some (Ratio p q)
+    → (o' ≡ sets o at (line_of (0x08 ∷ i ∷ formula_bytes (Some (Ratio p q))))) × (r ≡ at + length (line_of (0x08 ∷ i ∷ formula_bytes (Some (Ratio p q)))))
     → Wrote o at o' r (written (formula_frames i x))
-formula_ratio i {p = p} {q = q} o o' at r e h = rw e (wrote_line o o' at r (0x08 ∷ i ∷ formula_bytes (Ratio p q)) h)
+formula_ratio i {p = p} {q = q} o o' at r e h = rw e (wrote_line o o' at r (0x08 ∷ i ∷ formula_bytes (Some (Ratio p q))) h)
 
-pub formula_sum : (i : ℕ) {x : Formula} {f : ℕ} (o o' : List ℕ) (at r : ℕ) → x ≡ Sum f
-    → (o' ≡ sets o at (line_of (0x08 ∷ i ∷ formula_bytes (Sum f)))) × (r ≡ at + length (line_of (0x08 ∷ i ∷ formula_bytes (Sum f))))
+pub formula_sum : (i : ℕ) {x : Rule} {f : ℕ} (o o' : List ℕ) (at r : ℕ) → x ≡ Some (Sum f)
+    → (o' ≡ sets o at (line_of (0x08 ∷ i ∷ formula_bytes (Some (Sum f))))) × (r ≡ at + length (line_of (0x08 ∷ i ∷ formula_bytes (Some (Sum f)))))
     → Wrote o at o' r (written (formula_frames i x))
-formula_sum i {f = f} o o' at r e h = rw e (wrote_line o o' at r (0x08 ∷ i ∷ formula_bytes (Sum f)) h)
+formula_sum i {f = f} o o' at r e h = rw e (wrote_line o o' at r (0x08 ∷ i ∷ formula_bytes (Some (Sum f))) h)
 
-formula_length : (i : ℕ) (x : Formula) → length (written (formula_frames i x)) ≤ 15
+formula_length : (i : ℕ) (x : Rule) → length (written (formula_frames i x)) ≤ 15
 unfolding written
 formula_length i None = omega arith
-formula_length i (Ratio p q) = omega (arith, line_length_lem (0x08 ∷ i ∷ formula_bytes (Ratio p q)))
-formula_length i (Sum f) = omega (arith, line_length_lem (0x08 ∷ i ∷ formula_bytes (Sum f)))
-
-pub value_zero : (f bits : ℕ) (o : List ℕ) (p : ℕ) → bits ≡ 0 → Wrote o p o p (written (value_frames f bits))
-unfolding written
-value_zero f bits o p e = rw (eq-eqb bits 0 e) (wrote_none o p)
+formula_length i (Some (Ratio p q)) = omega (arith, line_length_lem (0x08 ∷ i ∷ formula_bytes (Some (Ratio p q))))
+formula_length i (Some (Sum f)) = omega (arith, line_length_lem (0x08 ∷ i ∷ formula_bytes (Some (Sum f))))
 
 pub value_written : (f bits : ℕ) (o o' : List ℕ) (p q : ℕ) → (bits ≡ 0 → ⊥)
     → (o' ≡ sets o p (line_of (0x0D ∷ f ∷ four_bytes bits))) × (q ≡ p + length (line_of (0x0D ∷ f ∷ four_bytes bits)))
     → Wrote o p o' q (written (value_frames f bits))
 value_written f bits o o' p q n h = rw (ne_eqb bits 0 n) (wrote_line o o' p q (0x0D ∷ f ∷ four_bytes bits) h)
+
+-- the bytes of a number of 32 bits
+pub four_bytes_are : (n : ℕ) {b : List ℕ} → n < 4294967296 → b ≡ n / 16777216 % 256 ∷ n / 65536 % 256 ∷ n / 256 % 256 ∷ n % 256 ∷ [] → b ≡ four_bytes n
+four_bytes_are n h e = e ∙ ap (λ (x : ℕ). x ∷ n / 65536 % 256 ∷ n / 256 % 256 ∷ n % 256 ∷ []) (omega arith)
 
 value_length : (f bits : ℕ) → length (written (value_frames f bits)) ≤ 13
 unfolding written
@@ -271,16 +274,16 @@ Short f k = (i : ℕ) → length (written (f i)) ≤ k
 pub link_short : (links : List Link) → Short (link_piece links) 137
 link_short links i = link_length i (link_at links i)
 
-pub formula_short : (formulas : Formulas) → Short (formula_piece formulas) 15
+pub formula_short : (formulas : List Rule) → Short (formula_piece formulas) 15
 formula_short formulas i = formula_length i (formula_at formulas i)
 
 pub value_short : (values : List ℤ) → Short (value_piece values) 13
 value_short values f = value_length f (bits_of (value_at values f))
 
 -- one more line
-pub lines_on : (f : ℕ → List (List ℕ)) {k n : ℕ} {o o₁ o₂ : List ℕ} {p q r i : ℕ} → Short f k → i < n
-    → Growing (lines_to f) k n o p o₁ q i → Wrote o₁ q o₂ r (written (f i)) → Growing (lines_to f) k n o p o₂ r (i + 1)
-lines_on f {i = i} short l G W = growing_on (lines_more f i) (short i) l G W
+pub lines_on : (f : ℕ → List (List ℕ)) {k : ℕ} {o o₁ o₂ : List ℕ} {p q r i : ℕ} → Short f k
+    → Growing (lines_to f) k o p o₁ q i → Wrote o₁ q o₂ r (written (f i)) → Growing (lines_to f) k o p o₂ r (i + 1)
+lines_on f {i = i} short G W = growing_on (lines_more f i) (short i) G W
 
 pub lines_short : (f : ℕ → List (List ℕ)) (k : ℕ) → Short f k → (n : ℕ) → length (lines_to f n) ≤ k * n
 lines_short f k short = growing_length (lines_to f) k (λ i. written (f i)) (lines_none f) (lines_more f) short
@@ -309,11 +312,11 @@ image_written v s A B C D E =
 
 -- ---- saving
 
-pub saved_none : (s : Sheet) (o : List ℕ) → s.panel.size ≡ 0 → SavedAs s o o NotOpen
+pub saved_none : (s : Sheet) (o : List ℕ) → s.panel.size ≡ 0 → SavedAs s o o None
 saved_none s o e = let h : is_open s.panel ≡ false = le-ltb 0 s.panel.size (omega arith) in record { answer = rw h; buffer = rw h }
 
 pub saved_text_lem : (s : Sheet) (o o' : List ℕ) (n : ℕ) → (s.panel.size ≡ 0 → ⊥) → (o' ≡ sets o 0 (image_of version s)) × (n ≡ length (image_of version s))
-    → SavedAs s o o' (Length n)
+    → SavedAs s o o' (Some n)
 saved_text_lem s o o' n z h =
     let k : is_open s.panel ≡ true = lt-ltb 0 s.panel.size (omega arith) in
     record { answer = rw (k, h.1); buffer = rw k h.0 }

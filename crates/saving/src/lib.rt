@@ -1,7 +1,7 @@
 // Writes the saved text of a sheet into a lent buffer, as many of its first bytes as fit.
 #![tactic(auto)]
 
-ghost use Rattle.std.specs.Prelude.{◌≡◌, [], ◌∷◌, ◌≤◌, ◌<◌, ◌+◌, ◌^◌, length};
+ghost use Rattle.std.specs.Prelude.{◌≡◌, [], ◌∷◌, ◌≤◌, ◌<◌, ◌+◌, ◌^◌, length, position, nat_eq};
 ghost use Rattle.std.proofs.lemmas.List.Edits.{sets};
 ghost use Rattle.hexadecimal.specs.Hex.{hex_of, lf};
 ghost use Rattle.frames.specs.Texts.{written};
@@ -9,9 +9,9 @@ ghost use Rattle.images.specs.Images.{gather, field_at, stay_order, field_byte, 
 ghost use Rattle.saving.specs.Wrote.{Wrote};
 ghost use Rattle.saving.specs.Saves.{SavedAs};
 
-use fieldset::{member, wide};
-use formulas::{Formula, Formulas};
-use panel::{Link, Panel, Standing};
+use fieldset::member;
+use formulas::{Formula, Rule};
+use panel::{Link, Standing};
 use sheet::Sheet;
 use values::bits_of;
 use writing::{put, put_bytes, put_line, store};
@@ -21,13 +21,6 @@ pub const LONGEST: usize = 5322;
 
 // The version that is written.
 pub const VERSION: u8 = 1;
-
-// What saving answers: that the panel is not open, or the length of the whole text.
-#[derive(Clone, Copy)]
-pub enum Saved {
-    NotOpen,
-    Length(usize),
-}
 
 // A byte as two digits; the position behind them.
 fn put_byte(out: &mut [u8], at: usize, b: u8) -> usize
@@ -47,19 +40,22 @@ fn put_lf(out: &mut [u8], at: usize) -> usize
     at + 1
 }
 
+// The first field whose stay stands at the place p.
+fn first_at(place: &[u8], p: usize) -> Option<usize>
+    ensures { result ≡ position (λ q. nat_eq q p) place.now }
+{
+    place.iter().position(|q| usize::from(*q) == p)
+}
+
 // The field of the stay at a place; 64 where there is none.
 pub fn field_at(place: &[u8; 64], n: usize, p: usize) -> u8
     requires { n ≤ 64 }
     ensures { result ≡ field_at place.now n p }
 {
-    let mut f: usize = 0;
-    while f < n {
-        if wide(place[f]) == p {
-            return f as u8;
-        }
-        f += 1;
+    match first_at(&place[..n], p) {
+        Some(f) => f as u8,
+        None => 64,
     }
-    64
 }
 
 // The line of the stays' order.
@@ -68,10 +64,8 @@ fn put_order(out: &mut [u8], at: usize, place: &[u8; 64], n: usize) -> usize
     ensures { Wrote out.old at out.new result (written ((0x0B ∷ stay_order place.now n) ∷ [])) }
 {
     let mut q = put_byte(out, at, 0x0B);
-    let mut p: usize = 0;
-    while p < n {
+    for p in 0..n {
         q = put_byte(out, q, field_at(place, n, p));
-        p += 1;
     }
     put_lf(out, q)
 }
@@ -103,10 +97,8 @@ fn put_fields(out: &mut [u8], at: usize, covered: u64, outputs: u64) -> usize
     ensures { Wrote out.old at out.new result (hex_of (field_bytes covered outputs)) }
 {
     let mut q = at;
-    let mut f: usize = 0;
-    while f < 64 {
+    for f in 0..64 {
         q = put_field(out, q, covered, outputs, f);
-        f += 1;
     }
     q
 }
@@ -122,43 +114,39 @@ fn standing_byte(s: Standing) -> u8
 }
 
 // The line of the link of a number, if it is in use.
-fn put_link(out: &mut [u8], at: usize, i: usize, l: Link) -> usize
+fn put_link(out: &mut [u8], at: usize, i: usize, l: &Link) -> usize
     requires { (at < 2 ^ 32) × (i < 128) }
-    ensures { Wrote out.old at out.new result (written (link_frames i l)) }
+    ensures { Wrote out.old at out.new result (written (link_frames i l.now)) }
 {
     if !l.used {
         return at;
     }
-    let s = l.standing;
-    let start = [0x0C, i as u8, l.level, standing_byte(s)];
+    let start = [0x0C, i as u8, l.level, standing_byte(l.standing)];
     put_bytes(out, at, &start);
     let q = put_fields(out, at + 8, l.covered, l.outputs);
     put_lf(out, q)
 }
 
 // The lines of all links.
-fn put_links(out: &mut [u8], at: usize, p: Panel) -> usize
+fn put_links(out: &mut [u8], at: usize, links: &[Link; 128]) -> usize
     requires { at < 2 ^ 20 }
-    ensures { Wrote out.old at out.new result (written (gather (link_piece p.links) 128)) }
+    ensures { Wrote out.old at out.new result (written (gather (link_piece links.now) 128)) }
 {
     let mut q = at;
-    let mut i: usize = 0;
-    while i < 128 {
-        let l = p.links[i];
+    for (i, l) in links.iter().enumerate() {
         q = put_link(out, q, i, l);
-        i += 1;
     }
     q
 }
 
 // The line of the formula of a link, if it has one.
-fn put_formula(out: &mut [u8], at: usize, i: usize, formula: Formula) -> usize
+fn put_formula(out: &mut [u8], at: usize, i: usize, formula: Rule) -> usize
     requires { (at < 2 ^ 32) × (i < 128) }
     ensures { Wrote out.old at out.new result (written (formula_frames i formula)) }
 {
     match formula {
-        Formula::None => at,
-        Formula::Ratio(p, q) => {
+        None => at,
+        Some(Formula::Ratio(p, q)) => {
             let rest = [
                 0x01,
                 (p / 256) as u8,
@@ -168,30 +156,24 @@ fn put_formula(out: &mut [u8], at: usize, i: usize, formula: Formula) -> usize
             ];
             put_line(out, at, 0x08, i as u8, &rest)
         }
-        Formula::Sum(f) => {
-            let rest = [0x02, f];
-            put_line(out, at, 0x08, i as u8, &rest)
-        }
+        Some(Formula::Sum(f)) => { put_line(out, at, 0x08, i as u8, &[0x02, f]) }
     }
 }
 
 // The lines of all formulas.
-fn put_formulas(out: &mut [u8], at: usize, formulas: Formulas) -> usize
+fn put_formulas(out: &mut [u8], at: usize, formulas: &[Rule; 128]) -> usize
     requires { at < 2 ^ 20 }
-    ensures { Wrote out.old at out.new result (written (gather (formula_piece formulas) 128)) }
+    ensures { Wrote out.old at out.new result (written (gather (formula_piece formulas.now) 128)) }
 {
     let mut q = at;
-    let mut i: usize = 0;
-    while i < 128 {
-        let rule = formulas.of[i];
-        let formula = rule.formula;
-        q = put_formula(out, q, i, formula);
-        i += 1;
+    for (i, formula) in formulas.iter().enumerate() {
+        q = put_formula(out, q, i, *formula);
     }
     q
 }
 
 // The line of the value of a field, if it is not zero.
+#[tactic(auto, using(crate::proofs::Writing::wrote_none), unfolding(frames::specs::Texts::written))]
 fn put_value(out: &mut [u8], at: usize, f: usize, bits: u32) -> usize
     requires { (at < 2 ^ 32) × (f < 64) }
     ensures { Wrote out.old at out.new result (written (value_frames f bits)) }
@@ -199,13 +181,7 @@ fn put_value(out: &mut [u8], at: usize, f: usize, bits: u32) -> usize
     if bits == 0 {
         return at;
     }
-    let rest = [
-        (bits / 16777216) as u8,
-        (bits / 65536 % 256) as u8,
-        (bits / 256 % 256) as u8,
-        (bits % 256) as u8,
-    ];
-    put_line(out, at, 0x0D, f as u8, &rest)
+    put_line(out, at, 0x0D, f as u8, &bits.to_be_bytes())
 }
 
 // The lines of the values of n fields.
@@ -214,11 +190,8 @@ fn put_values(out: &mut [u8], at: usize, values: &[i32; 64], n: usize) -> usize
     ensures { Wrote out.old at out.new result (written (gather (value_piece values.now) n)) }
 {
     let mut q = at;
-    let mut f: usize = 0;
-    while f < n {
-        let bits = bits_of(values[f]);
-        q = put_value(out, q, f, bits);
-        f += 1;
+    for (f, x) in values[..n].iter().enumerate() {
+        q = put_value(out, q, f, bits_of(*x));
     }
     q
 }
@@ -226,32 +199,29 @@ fn put_values(out: &mut [u8], at: usize, values: &[i32; 64], n: usize) -> usize
 // The whole text, as many of its first bytes as fit; its length.
 // The contract rules out, for instance, another byte than FF for a waiting link and a line for a value that is zero (must-fail: waiting_written_as_fe,
 // zero_value_written).
-pub fn write(out: &mut [u8], version: u8, s: Sheet) -> usize
-    requires { s.panel.size ≤ 64 }
-    ensures out_after { out.new ≡ sets out.old 0 (image_of version s) }
-    ensures value { result ≡ length (image_of version s) }
-{
-    let p = s.panel;
-    let n = p.size;
-    let size = [n as u8];
-    let a = put_line(out, 0, 0x0A, version, &size);
-    let place = p.place;
-    let b = put_order(out, a, &place, n);
-    let c = put_links(out, b, p);
-    let d = put_formulas(out, c, s.formulas);
-    let values = s.values;
-    put_values(out, d, &values, n)
-}
-
-// The text of an open panel in the lent buffer, as many of its first bytes as fit, and its length; of a panel that is not open nothing is written.
-// The contract rules out, for instance, the text of a panel that is not open (must-fail: unopened_saved).
-pub fn save(s: Sheet, out: &mut [u8]) -> Saved
-    requires { s.panel.size ≤ 64 }
-    ensures { SavedAs s out.old out.new result }
+pub fn write(out: &mut [u8], version: u8, s: &Sheet) -> usize
+    requires { s.now.panel.size ≤ 64 }
+    ensures out_after { out.new ≡ sets out.old 0 (image_of version s.now) }
+    ensures value { result ≡ length (image_of version s.now) }
 {
     let n = s.panel.size;
-    if n == 0 {
-        return Saved::NotOpen;
+    let a = put_line(out, 0, 0x0A, version, &[n as u8]);
+    let b = put_order(out, a, &s.panel.place, n);
+    let c = put_links(out, b, &s.panel.links);
+    let d = put_formulas(out, c, &s.formulas);
+    put_values(out, d, &s.values, n)
+}
+
+// The text of an open panel in the lent buffer, as many of its first bytes as fit, and its length; a panel that is not open has none, and nothing is
+// written.
+// The contract rules out, for instance, the text of a panel that is not open (must-fail: unopened_saved).
+#[tactic(auto, using(crate::proofs::Writing::saved_none))]
+pub fn save(s: &Sheet, out: &mut [u8]) -> Option<usize>
+    requires { s.now.panel.size ≤ 64 }
+    ensures { SavedAs s.now out.old out.new result }
+{
+    if s.panel.size == 0 {
+        return None;
     }
-    Saved::Length(write(out, VERSION, s))
+    Some(write(out, VERSION, s))
 }

@@ -17,6 +17,7 @@ use Rattle.fieldset.proofs.Fields.{without_only}
 use Rattle.fieldset.proofs.Maps.{table_of}
 use Rattle.strength.specs.Strength.{strength}
 use Rattle.strength.specs.Filling.{Acyclic}
+use Rattle.std.specs.Prelude.{Option as Answer, Some, None}
 use Rattle.panel.specs.declared.Standing.TheVariants.{Holding}
 use Rattle.panel.specs.declared.Link.{Link}
 use Rattle.panel.specs.declared.Panel.{Panel}
@@ -31,9 +32,9 @@ use Rattle.panel.proofs.Least.{least_passes, blocked_force}
 use Rattle.panel.proofs.Changes.{legal_dropped}
 use Rattle.tables.specs.Tables.{Tabled, StrengthsOf}
 use Rattle.tables.proofs.Settings.{same_setting, tabled_set}
-use Rattle.tables.proofs.Tables.{panel_acyclic, panel_table, table_strengths}
+use Rattle.tables.proofs.Agreement.{panel_acyclic, panel_table, table_strengths}
 use Rattle.scanning.specs.declared.Blocked.{Blocked}
-use Rattle.scanning.specs.declared.Blocked.TheVariants.{Nothing, Link as ALink, Stay as AStay}
+use Rattle.scanning.specs.declared.Blocked.TheVariants.{Link as ALink, Stay as AStay}
 use Rattle.scanning.specs.Scan.{with_setters, is_blocked_link, is_blocked_by, least_blocked_by, found_of, Recorded, Names, Finds, Scanned}
 use Rattle.scanning.proofs.Over.{strengths_block, link_holds}
 
@@ -156,14 +157,14 @@ module _ {p : Panel} {id v : ℕ} {levels others reads : List ℕ} (x : Held p i
         ∙ least_same (is_blocked rest) (level stepped) (level rest) (λ d b. sym (level_kept d (blocked_other d b))) (items_of p.size)
 
     -- what is found in the one is found in the other
-    finds_kept : (b : Blocked) → Names p.links (least_blocked_by table stepped) b → Finds rest b
+    finds_kept : (b : Answer Blocked) → Names p.links (least_blocked_by table stepped) b → Finds rest b
     finds_kept b (e, is) = (sym found_kept ∙ e, kept b e is)
       where
-        kept : (b : Blocked) → least_blocked_by table stepped ≡ found_of b → Recorded p.links b → Recorded rest.links b
-        kept Nothing e is = tt
-        kept (ALink i l) e is =
+        kept : (b : Answer Blocked) → least_blocked_by table stepped ≡ found_of b → Recorded p.links b → Recorded rest.links b
+        kept None e is = tt
+        kept (Some (ALink i l)) e is =
             is ∙ sym (link_there p.links id i no_link (λ d. blocked_other (link i) (found_blocked (link i) (sym found_kept ∙ e)) (ap link d)))
-        kept (AStay f) e is = tt
+        kept (Some (AStay f)) e is = tt
 
   -- the tables with the stay of v are those of the panel without the link: its strengths are those that the scan reads
   pub rest_acyclic : Acyclic (set others v 0) p.size
@@ -174,7 +175,7 @@ module _ {p : Panel} {id v : ℕ} {levels others reads : List ℕ} (x : Held p i
     rest_table : table ≡ table_of (strength_of rest) p.size before
     rest_table = is ∙ panel_table rest legal_rest _ _ _ tabled_rest before
 
-    pub scanned : (worked : ℕ) → worked ≡ p.size → (b : Blocked) → Names p.links (least_blocked_by table stepped) b
+    pub scanned : (worked : ℕ) → worked ≡ p.size → (b : Answer Blocked) → Names p.links (least_blocked_by table stepped) b
         → Scanned (dropped p id) before table b worked
     scanned worked n b names =
         let finds = finds_kept table (table_strengths rest table before rest_table) b names in

@@ -22,7 +22,7 @@ use Rattle.panel.proofs.Reversal.{blocking, blocked_by}
 use Rattle.panel.proofs.Least.{blocked_force, LeastBlocked, least_blocked_lem, none_least}
 use Rattle.panel.specs.Panels.{dropped}
 use Rattle.panel.proofs.Changes.{legal_dropped}
-use Rattle.tables.proofs.Tables.{table_strengths}
+use Rattle.tables.proofs.Agreement.{table_strengths}
 use Rattle.scanning.specs.Scan.{found_of}
 use Rattle.scanning.proofs.Over.{link_level}
 use Rattle.scanning.specs.Exactly.{IsTaken, ScanExactly, ScansExactly, RemovalScans}

@@ -10,11 +10,11 @@ use native.Mathlib.Omega.{arith}
 use borrow.Author.Tests.{le-leb, lt-leb, leb-true, leb-false}
 use lib.Dec.{leb}
 use Rattle.fieldset.specs.Tables.{tabulate}
+use Rattle.std.specs.Prelude.{Option as Answer, None}
 use Rattle.panel.specs.declared.Panel.{Panel}
 use Rattle.panel.specs.Items.{Item, link, stay, items_of}
 use Rattle.panel.specs.Solution.{level, lesser, least}
 use Rattle.scanning.specs.declared.Blocked.{Blocked}
-use Rattle.scanning.specs.declared.Blocked.TheVariants.{Nothing}
 use Rattle.scanning.specs.Scan.{is_blocked_by, least_blocked_by, found_of, Recorded, Names}
 
 -- the level of what may be; 255 where there is none
@@ -59,18 +59,18 @@ module _ (q : Item → Bool) (lev : Item → ℕ) where
 -- ---- the scan
 
 -- a list is looked over: what is found is the first of least level that the table blocks, and low is its level
-pub record Looked (table : List ℕ) (p : Panel) (xs : List Item) (found : Blocked) (low : ℕ) : Type 0 where
+pub record Looked (table : List ℕ) (p : Panel) (xs : List Item) (found : Answer Blocked) (low : ℕ) : Type 0 where
   pub result : least (is_blocked_by table p) (level p) xs ≡ found_of found
   pub low_is : low ≡ level_or (level p) (found_of found)
   pub recorded : Recorded p.links found
 
 -- the next is c
-module _ {table : List ℕ} {p : Panel} {xs ys : List Item} {found : Blocked} {low : ℕ} (s : Looked table p xs found low) (c : Item) (e : ys ≡ xs ++ c ∷ []) where
+module _ {table : List ℕ} {p : Panel} {xs ys : List Item} {found : Answer Blocked} {low : ℕ} (s : Looked table p xs found low) (c : Item) (e : ys ≡ xs ++ c ∷ []) where
   behind : least (is_blocked_by table p) (level p) ys ≡ joined (is_blocked_by table p) (level p) (found_of found) (cond (is_blocked_by table p c) (some c) none)
   unfolding least
   behind = rw (e, least_append (is_blocked_by table p) (level p) xs (c ∷ []), s.result)
 
-  module _ {found' : Blocked} {low' : ℕ} where
+  module _ {found' : Answer Blocked} {low' : ℕ} where
     -- it is blocked and has a lesser level
     pub scan_takes : found_of found' ≡ some c → Recorded p.links found' → low' ≡ level p c → is_blocked_by table p c ≡ true → level p c < low
         → Looked table p ys found' low'
@@ -116,18 +116,18 @@ unfolding tabulate
 next_stay f = rw (add-one f, map-append stay (tabulate (λ f. f) f) (f ∷ []), append_assoc (first_links 128) (map stay (tabulate (λ f. f) f)) (stay f ∷ []))
 
 -- nothing is scanned
-pub scan_none : (table : List ℕ) (p : Panel) → Looked table p (first_links 0) Nothing 255
+pub scan_none : (table : List ℕ) (p : Panel) → Looked table p (first_links 0) None 255
 unfolding least tabulate
 scan_none table p = record { result = refl; low_is = refl; recorded = tt }
 
 -- the links are scanned, and no stay
-pub stays_start : {table : List ℕ} {p : Panel} {found : Blocked} {low i : ℕ} → i ≡ 128 → Looked table p (first_links i) found low
+pub stays_start : {table : List ℕ} {p : Panel} {found : Answer Blocked} {low i : ℕ} → i ≡ 128 → Looked table p (first_links i) found low
     → Looked table p (first_stays 0) found low
 unfolding tabulate
 stays_start {table} {p} {found} {low} e s = rw (append-nil (first_links 128)) (rw e at s)
 
 -- all are scanned
-pub scan_done : {table : List ℕ} {p : Panel} {found : Blocked} {low f : ℕ} → f ≡ p.size → Looked table p (first_stays f) found low
+pub scan_done : {table : List ℕ} {p : Panel} {found : Answer Blocked} {low f : ℕ} → f ≡ p.size → Looked table p (first_stays f) found low
     → Names p.links (least_blocked_by table p) found
 unfolding least_blocked_by items_of
 scan_done e s = (rw e at s.result, s.recorded)

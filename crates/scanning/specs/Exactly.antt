@@ -1,5 +1,5 @@
 -- What the scan for blocked links and stays finds, in the words of document 01: statements.
-use Rattle.std.specs.Prelude.{ℕ, ◌≤◌, ◌<◌, max, ◌≡◌, true, false, ◌↔◌, List}
+use Rattle.std.specs.Prelude.{ℕ, ◌≤◌, ◌<◌, max, ◌≡◌, true, false, ◌↔◌, List, Option as Answer}
 use Rattle.std.proofs.Math.Option.{none, some}
 use Rattle.fieldset.specs.Tables.{at}
 use Rattle.fieldset.specs.Fields.{member}
@@ -36,7 +36,7 @@ abbrev pub ScansExactly : Type 0
 ScansExactly = (p : Panel) → Legal p → ScanExactly p
 
 -- what the scan of a removal answers, in these words; p is the panel without the link
-pub record RemovalScan (p : Panel) (table : List ℕ) (found : Blocked) (worked : ℕ) : Type 0 where
+pub record RemovalScan (p : Panel) (table : List ℕ) (found : Answer Blocked) (worked : ℕ) : Type 0 where
   -- "every entry is document 01's strength"
   pub entries : (f : ℕ) → f < p.size → at table f ≡ strength_of p f
   -- "n strengths worked out"
@@ -52,5 +52,5 @@ pub record RemovalScan (p : Panel) (table : List ℕ) (found : Blocked) (worked 
 -- of every removal of a link, from what `scan_without` promises (`Scanned`)
 abbrev pub RemovalScans : Type 0
 RemovalScans =
-    (p : Panel) → Legal p → (id : ℕ) → id < 128 → (before table : List ℕ) (found : Blocked) (worked : ℕ) → Scanned (dropped p id) before table found worked
+    (p : Panel) → Legal p → (id : ℕ) → id < 128 → (before table : List ℕ) (found : Answer Blocked) (worked : ℕ) → Scanned (dropped p id) before table found worked
     → RemovalScan (dropped p id) table found worked

@@ -9,9 +9,10 @@ use lib.ListN.{length, take, drop, set, length-append, length-drop}
 use lib.Seq.{sets, take_all, drop-length}
 use borrow.Rule.Slice.PartMut.{put_mid, post_of, Post-is}
 use Rattle.fieldset.proofs.Tables.{sets_append}
-use Rattle.panel.specs.declared.Reply.{Reply}
-use Rattle.panel.specs.declared.Reply.TheVariants.{Accepted, Refused}
+use Rattle.panel.specs.Answers.{Reply}
+use Rattle.std.specs.Prelude.{Option, Some, None, Ok, Err}
 use Rattle.panel.proofs.Answers.{refusal_length}
+use Rattle.panel.specs.declared.Refusal.{Refusal}
 use Rattle.panel.specs.declared.Refusal.TheVariants.{TextTooLong as TooLong}
 use Rattle.panel.specs.Answers.{refusal_bytes, reply_bytes, is_refusal}
 use Rattle.hexadecimal.specs.Hex.{line_of}
@@ -25,13 +26,10 @@ use Rattle.tally.specs.declared.Tally.{Tally}
 use Rattle.tally.specs.Tallies.{no_tally}
 use Rattle.frames.specs.Texts.{output_of}
 use Rattle.frames.specs.Frames.{line_answer}
-use Rattle.text.specs.declared.Outcome.{Outcome}
-use Rattle.text.specs.declared.Outcome.TheVariants.{Length, TextTooLong}
 use Rattle.text.specs.Outcomes.{Bounded, Told, AsWritten}
 use Rattle.text.proofs.Outcomes.{told_output}
 use Rattle.images.specs.Reading.{read}
 use Rattle.images.proofs.Reading.{took}
-use Rattle.loading.specs.declared.Loaded.{Loaded}
 use Rattle.loading.specs.Loaded.{answer_of}
 use Rattle.sessions.specs.Sessions.{resumed_from, resumed_output}
 
@@ -42,19 +40,19 @@ pub reply_line : (reply : Reply) (bytes before after : List ℕ) (n : ℕ) → r
 reply_line reply bytes before after n e put size = (put ∙ ap (λ (b : List ℕ). sets before 0 (line_of b)) (sym e), omega (arith, size, ap (λ (b : List ℕ). length (line_of b)) e))
 
 pub reply_short : (reply : Reply) → length (line_of (reply_bytes reply)) ≤ 9
-reply_short (Accepted m) = omega (arith, length_line (reply_bytes (Accepted m)))
-reply_short (Refused r) = omega (arith, length_line (reply_bytes (Refused r)), (refusal_length r).1)
+reply_short (Ok m) = omega (arith, length_line (reply_bytes (Ok m)))
+reply_short (Err r) = omega (arith, length_line (reply_bytes (Err r)), (refusal_length r).1)
 
 -- ---- the output of a text from a sheet on
 
-module _ (s : Sheet) (text before after : List ℕ) (u : Tally) (r : Outcome) (told : Told line_answer s no_tally text u before after r) where
-  pub length_told : (n : ℕ) → r ≡ Length n → Bounded r
+module _ (s : Sheet) (text before after : List ℕ) (u : Tally) (r : Option ℕ) (told : Told line_answer s no_tally text u before after r) where
+  pub length_told : (n : ℕ) → r ≡ Some n → Bounded r
       → (after ≡ sets before 0 (output_of line_answer s text)) × ((n ≡ length (output_of line_answer s text)) × (n < 2 ^ 63))
   length_told n e b =
       let w = subst (AsWritten line_answer s text before after) e (told_output line_answer s text u before after r told) in
       (w.1, (w.0, subst Bounded e b))
 
-  pub too_long_told : r ≡ TextTooLong → (last : List ℕ) (n : ℕ) → last ≡ sets after 0 (line_of (0xFF ∷ refusal_bytes TooLong)) → n ≡ length (line_of (0xFF ∷ refusal_bytes TooLong))
+  pub too_long_told : r ≡ None → (last : List ℕ) (n : ℕ) → last ≡ sets after 0 (line_of (0xFF ∷ refusal_bytes TooLong)) → n ≡ length (line_of (0xFF ∷ refusal_bytes TooLong))
       → (last ≡ sets before 0 (output_of line_answer s text)) × ((n ≡ length (output_of line_answer s text)) × (n < 2 ^ 63))
   too_long_told e last n put size =
       let w = subst (AsWritten line_answer s text before after) e (told_output line_answer s text u before after r told) in (
@@ -75,47 +73,44 @@ sets_behind (suc n) (x ∷ l) vs h = ap (λ (t : List ℕ). x ∷ t) (sets_behin
 
 -- ---- all of it
 
-module _ (saved text : List ℕ) (r : Loaded) (is : answer_of r ≡ read unopened saved) where
-  bytes : reply_bytes r.reply ≡ (read unopened saved).reply
-  bytes = ap (λ (a : Answer). a.reply) is
+-- a saved text that is refused
+pub refused_resumed : (saved text : List ℕ) (r : Refusal) → answer_of unopened (Err r) ≡ read unopened saved
+    → resumed_output saved text ≡ line_of (reply_bytes (Err r))
+unfolding resumed_output
+refused_resumed saved text r is =
+    ap (λ (a : Answer). resumed_from a text) (sym is) ∙ append-nil (line_of (reply_bytes (Err r)))
 
-  sheet : r.sheet ≡ (read unopened saved).sheet
-  sheet = ap (λ (a : Answer). a.sheet) is
+-- one whose sheet is taken in
+module _ (saved text : List ℕ) (s : Sheet) (is : answer_of unopened (Ok s) ≡ read unopened saved) where
+  abbrev line : List ℕ
+  line = line_of (reply_bytes (Ok 0))
 
-  output : resumed_output saved text ≡ resumed_from (answer_of r) text
+  pub taken_legal : LegalSheet s
+  taken_legal =
+      let t = took unopened saved (ap (λ (a : Answer). is_refusal a.reply) (sym is)) in
+      subst LegalSheet (sym (ap (λ (a : Answer). a.sheet) is ∙ t.sheet)) t.legal
+
+  pub taken_resumed : resumed_output saved text ≡ line ++ output_of line_answer s text
   unfolding resumed_output
-  output = ap (λ (a : Answer). resumed_from a text) (sym is)
+  taken_resumed = ap (λ (a : Answer). resumed_from a text) (sym is)
 
-  pub refused_resumed : is_refusal (reply_bytes r.reply) ≡ true → resumed_output saved text ≡ line_of (reply_bytes r.reply)
-  refused_resumed e = output ∙ rw e (append-nil (line_of (reply_bytes r.reply)))
+  module _ (before middle : List ℕ) (n m : ℕ) (put : middle ≡ sets before 0 line) (size : n ≡ length line) (count : m ≡ length (output_of line_answer s text)) where
+    whole : sets middle n (output_of line_answer s text) ≡ sets before 0 (resumed_output saved text)
+    whole =
+        let behind : n ≡ 0 + length line = omega (arith, size) in
+        ap₂ (λ (l : List ℕ) (k : ℕ). sets l k (output_of line_answer s text)) put behind
+        ∙ sets_append before 0 line (output_of line_answer s text) ∙ ap (sets before 0) (sym taken_resumed)
 
-  module _ (e : is_refusal (reply_bytes r.reply) ≡ false) where
-    pub taken_legal : LegalSheet r.sheet
-    taken_legal =
-        let t = took unopened saved (ap is_refusal (sym bytes) ∙ e) in
-        subst LegalSheet (sym (sheet ∙ t.sheet)) t.legal
+    pub resumed_length : n + m ≡ length (resumed_output saved text)
+    resumed_length = omega (arith, size, count, ap length taken_resumed, length-append line (output_of line_answer s text))
 
-    pub taken_resumed : resumed_output saved text ≡ line_of (reply_bytes r.reply) ++ output_of line_answer r.sheet text
-    taken_resumed = output ∙ rw e refl
+    pub resumed_behind : n ≤ length middle → (rest : List ℕ) → rest ≡ sets (take (length middle - n) (drop n middle)) 0 (output_of line_answer s text)
+        → put_mid n (length middle - n) middle rest ≡ sets before 0 (resumed_output saved text)
+    resumed_behind h rest f =
+        let part : take (length middle - n) (drop n middle) ≡ drop n middle = take_all (length middle - n) (drop n middle) (omega (arith, length-drop n middle)) in
+        let end : post_of n (length middle - n) middle ≡ [] = Post-is n (length middle) middle h ∙ drop-length middle in
+        ap (λ (x : List ℕ). take n middle ++ (rest ++ x)) end ∙ ap (λ (x : List ℕ). take n middle ++ x) (append-nil rest ∙ f ∙ ap (λ (x : List ℕ). sets x 0 (output_of line_answer s text)) part)
+        ∙ sets_behind n middle (output_of line_answer s text) h ∙ whole
 
-    module _ (before middle : List ℕ) (n m : ℕ) (put : middle ≡ sets before 0 (line_of (reply_bytes r.reply))) (size : n ≡ length (line_of (reply_bytes r.reply))) (count : m ≡ length (output_of line_answer r.sheet text)) where
-      whole : sets middle n (output_of line_answer r.sheet text) ≡ sets before 0 (resumed_output saved text)
-      whole =
-          let behind : n ≡ 0 + length (line_of (reply_bytes r.reply)) = omega (arith, size) in
-          ap₂ (λ (l : List ℕ) (k : ℕ). sets l k (output_of line_answer r.sheet text)) put behind
-          ∙ sets_append before 0 (line_of (reply_bytes r.reply)) (output_of line_answer r.sheet text) ∙ ap (sets before 0) (sym taken_resumed)
-
-      pub resumed_length : n + m ≡ length (resumed_output saved text)
-      resumed_length =
-          omega (arith, size, count, ap length taken_resumed, length-append (line_of (reply_bytes r.reply)) (output_of line_answer r.sheet text))
-
-      pub resumed_behind : n ≤ length middle → (rest : List ℕ) → rest ≡ sets (take (length middle - n) (drop n middle)) 0 (output_of line_answer r.sheet text)
-          → put_mid n (length middle - n) middle rest ≡ sets before 0 (resumed_output saved text)
-      resumed_behind h rest f =
-          let part : take (length middle - n) (drop n middle) ≡ drop n middle = take_all (length middle - n) (drop n middle) (omega (arith, length-drop n middle)) in
-          let end : post_of n (length middle - n) middle ≡ [] = Post-is n (length middle) middle h ∙ drop-length middle in
-          ap (λ (x : List ℕ). take n middle ++ (rest ++ x)) end ∙ ap (λ (x : List ℕ). take n middle ++ x) (append-nil rest ∙ f ∙ ap (λ (x : List ℕ). sets x 0 (output_of line_answer r.sheet text)) part)
-          ∙ sets_behind n middle (output_of line_answer r.sheet text) h ∙ whole
-
-      pub resumed_full : length middle < n → middle ≡ sets before 0 (resumed_output saved text)
-      resumed_full h = sym (sets_out middle n (output_of line_answer r.sheet text) (omega arith)) ∙ whole
+    pub resumed_full : length middle < n → middle ≡ sets before 0 (resumed_output saved text)
+    resumed_full h = sym (sets_out middle n (output_of line_answer s text) (omega arith)) ∙ whole

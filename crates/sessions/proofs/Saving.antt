@@ -21,8 +21,8 @@ use Rattle.frames.specs.Frames.{sheet_after}
 use Rattle.images.specs.Images.{image_of}
 use Rattle.images.specs.Reading.{version, longest}
 use Rattle.images.proofs.Lengths.{legal_length}
-use Rattle.saving.specs.declared.Saved.{Saved}
-use Rattle.saving.specs.declared.Saved.TheVariants.{NotOpen, Length}
+use Rattle.std.specs.Prelude.{Option, unwrap_or}
+use Rattle.std.specs.Prelude.{Some, None}
 use Rattle.saving.specs.Saves.{SavedAs, length_bytes, not_open}
 use Rattle.sessions.specs.Sessions.{Short, text_of, saved_text, saved_of, saved_output}
 
@@ -54,7 +54,7 @@ module _ (text before after : List ℕ) (short : is_too_long text ≡ false) whe
   image = rw short
 
   -- by what saving answers it is known whether the panel is open
-  module _ (n : ℕ) (a : SavedAs sheet before after (Length n)) where
+  module _ (n : ℕ) (a : SavedAs sheet before after (Some n)) where
     opened : (is_open sheet.panel ≡ true) × ((n ≡ length (image_of version sheet)) × (after ≡ sets before 0 (image_of version sheet)))
     opened = go (is_open sheet.panel) refl a.answer a.buffer
       where
@@ -72,12 +72,12 @@ module _ (text before after : List ℕ) (short : is_too_long text ≡ false) whe
         let whole : saved_output text ≡ image_of version sheet = output ∙ rw opened.0 refl in
         (opened.1.1 ∙ ap (sets before 0) (sym whole), (opened.1.0 ∙ ap length (sym whole), few))
 
-    pub length_text_lem : (after ≡ sets before 0 (saved_text text)) × (n ≡ length (saved_text text))
+    length_text_lem : (after ≡ sets before 0 (saved_text text)) × (n ≡ length (saved_text text))
     length_text_lem =
         let whole : saved_text text ≡ image_of version sheet = image ∙ rw opened.0 refl in
         (opened.1.1 ∙ ap (sets before 0) (sym whole), opened.1.0 ∙ ap length (sym whole))
 
-  module _ (a : SavedAs sheet before after NotOpen) where
+  module _ (a : SavedAs sheet before after None) where
     closed : (is_open sheet.panel ≡ false) × (after ≡ before)
     closed = go (is_open sheet.panel) refl a.answer a.buffer
       where
@@ -92,15 +92,20 @@ module _ (text before after : List ℕ) (short : is_too_long text ≡ false) whe
         let whole : saved_output text ≡ line_of not_open = output ∙ rw closed.0 refl in
         (put ∙ ap₂ (λ (l v : List ℕ). sets l 0 v) closed.1 (sym whole), (omega (arith, size, ap length whole), omega (arith, size, length_line not_open)))
 
-    pub not_open_text : (after ≡ sets before 0 (saved_text text)) × (0 ≡ length (saved_text text))
+    not_open_text : (after ≡ sets before 0 (saved_text text)) × (0 ≡ length (saved_text text))
     not_open_text =
         let whole : saved_text text ≡ [] = image ∙ rw closed.0 refl in
         (closed.1 ∙ ap (sets before 0) (sym whole), ap length (sym whole))
 
+  -- the length that is told, 0 for none
+  pub text_told : (r : Option ℕ) → SavedAs sheet before after r → (after ≡ sets before 0 (saved_text text)) × (unwrap_or r 0 ≡ length (saved_text text))
+  text_told None a = not_open_text a
+  text_told (Some n) a = length_text_lem n a
+
   -- a length that is told is that of no longer text
-  pub saved_short : (r : Saved) → SavedAs sheet before after r → LegalSheet sheet → Short r
-  saved_short NotOpen a legal = tt
-  saved_short (Length n) a legal = length_short n a legal
+  pub saved_short : (r : Option ℕ) → SavedAs sheet before after r → LegalSheet sheet → Short r
+  saved_short None a legal = tt
+  saved_short (Some n) a legal = length_short n a legal
 
 pub too_long_text : (text before : List ℕ) → is_too_long text ≡ true → (before ≡ sets before 0 (saved_text text)) × (0 ≡ length (saved_text text))
 unfolding saved_text

@@ -1,5 +1,5 @@
 -- What is written of a text whose panel is saved, and of a text that goes on from a saved panel (document 02, request 7).
-use Rattle.std.specs.Prelude.{ℕ, ◌≤◌, cond, List, [], ◌∷◌, ◌++◌}
+use Rattle.std.specs.Prelude.{ℕ, ◌≤◌, cond, List, [], ◌∷◌, ◌++◌, Option, Some, None}
 use Rattle.panel.specs.declared.Refusal.TheVariants.{TextTooLong, NotOpen as Closed}
 use Rattle.panel.specs.Answers.{refusal_bytes, is_refusal}
 use Rattle.panel.specs.Commands.{is_open}
@@ -10,15 +10,13 @@ use Rattle.hexadecimal.specs.Hex.{line_of}
 use Rattle.lines.specs.Lines.{lines_of}
 use Rattle.frames.specs.Texts.{is_too_long, output_of}
 use Rattle.frames.specs.Frames.{line_answer, sheet_after}
-use Rattle.saving.specs.declared.Saved.{Saved}
-use Rattle.saving.specs.declared.Saved.TheVariants.{NotOpen, Length}
 use Rattle.images.specs.Images.{image_of}
 use Rattle.images.specs.Reading.{version, longest, read}
 
 -- a length that is told is that of no text longer than the longest
-abbrev pub Short : Saved → Type 0
-Short NotOpen = Unit {0}
-Short (Length n) = n ≤ longest
+abbrev pub Short : Option ℕ → Type 0
+Short None = Unit {0}
+Short (Some n) = n ≤ longest
 
 -- the saved text of an open panel, else nothing
 abbrev pub text_of : Sheet → List ℕ

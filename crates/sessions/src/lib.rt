@@ -3,7 +3,7 @@
 
 ghost use Rattle.std.specs.Prelude.{◌≡◌, false, ◌^◌, ◌≤◌, ◌<◌, length};
 ghost use Rattle.std.proofs.lemmas.List.Edits.{sets};
-ghost use Rattle.panel.specs.Answers.{reply_bytes, is_refusal};
+ghost use Rattle.panel.specs.Answers.{reply_bytes};
 ghost use Rattle.sheet.specs.Legal.{LegalSheet};
 ghost use Rattle.hexadecimal.specs.Hex.{line_of};
 ghost use Rattle.lines.specs.Lines.{lines_of};
@@ -18,19 +18,18 @@ use frames::is_too_long;
 use loading::load;
 use panel::{Refusal, Reply};
 use replies::put_refusal;
-use saving::{Saved, save};
+use saving::save;
 use sheet::{Sheet, unopened};
 use tally::Tally;
-use text::{Outcome, put_too_long, run_from, sheet_after};
+use text::{put_too_long, run_from, sheet_after};
 
 // Saves the panel that the lines of a text leave, from an unopened panel on.
-fn save_lines(text: &[u8], out: &mut [u8]) -> Saved
+fn save_lines(text: &[u8], out: &mut [u8]) -> Option<usize>
     requires { is_too_long text.now ≡ false }
     ensures saved_as { SavedAs (sheet_after unopened (lines_of text.now)) out.old out.new result }
     ensures short { Short result }
 {
-    let s = sheet_after(text);
-    save(s, out)
+    save(&sheet_after(text), out)
 }
 
 // The saved panel after the lines of a text: its length, and as many of its first bytes as fit the buffer. Where the text is too long, or no panel is
@@ -42,11 +41,7 @@ pub fn save_text(text: &[u8], out: &mut [u8]) -> usize
     if is_too_long(text) {
         return 0;
     }
-    let saved = save_lines(text, out);
-    match saved {
-        Saved::NotOpen => 0,
-        Saved::Length(n) => n,
-    }
+    save_lines(text, out).unwrap_or(0)
 }
 
 // The same with the line of the refusal where there is one: its length, and as many of its first bytes as fit the buffer.
@@ -59,10 +54,9 @@ pub fn save_after(text: &[u8], out: &mut [u8]) -> usize
     if is_too_long(text) {
         return put_too_long(out);
     }
-    let saved = save_lines(text, out);
-    match saved {
-        Saved::NotOpen => put_refusal(out, 0, Refusal::NotOpen),
-        Saved::Length(n) => n,
+    match save_lines(text, out) {
+        Some(n) => n,
+        None => put_refusal(out, 0, Refusal::NotOpen),
     }
 }
 
@@ -72,18 +66,8 @@ pub fn put_answer(out: &mut [u8], reply: Reply) -> usize
     ensures value { result ≡ length (line_of (reply_bytes reply)) }
 {
     match reply {
-        Reply::Accepted(m) => writing::put_line(out, 0, 0x00, m, b""),
-        Reply::Refused(r) => put_refusal(out, 0, r),
-    }
-}
-
-// Whether a reply is a refusal.
-pub fn is_refusal(reply: Reply) -> bool
-    ensures { result ≡ is_refusal (reply_bytes reply) }
-{
-    match reply {
-        Reply::Accepted(_) => false,
-        Reply::Refused(_) => true,
+        Ok(m) => writing::put_line(out, 0, 0x00, m, b""),
+        Err(r) => put_refusal(out, 0, r),
     }
 }
 
@@ -93,17 +77,9 @@ fn output_from(text: &[u8], s: Sheet, out: &mut [u8]) -> usize
     ensures out_after { out.new ≡ sets out.old 0 (output_of line_answer s text.now) }
     ensures value { (result ≡ length (output_of line_answer s text.now)) × (result < 2 ^ 63) }
 {
-    let t = Tally {
-        lines: 0,
-        accepted: 0,
-        refused: 0,
-        last: 0,
-    };
-    let r = run_from(text, s, out, t);
-    let outcome = r.outcome;
-    match outcome {
-        Outcome::Length(n) => n,
-        Outcome::TextTooLong => put_too_long(out),
+    match run_from(text, s, out, &mut Tally::default()) {
+        Some(n) => n,
+        None => put_too_long(out),
     }
 }
 
@@ -115,18 +91,16 @@ pub fn resume(saved: &[u8], text: &[u8], out: &mut [u8]) -> usize
     ensures out_after { out.new ≡ sets out.old 0 (resumed_output saved.now text.now) }
     ensures value { result ≡ length (resumed_output saved.now text.now) }
 {
-    let r = load(saved, unopened());
-    let reply = r.reply;
-    let n = put_answer(out, reply);
-    if is_refusal(reply) {
-        return n;
-    }
-    let s = r.sheet;
+    let s = match load(saved, &unopened()) {
+        Ok(s) => s,
+        Err(r) => return put_refusal(out, 0, r),
+    };
+    let n = put_answer(out, Ok(0));
     if n <= out.len() {
         n + output_from(text, s, &mut out[n..])
     } else {
         // nothing of it fits; it is counted
-        let mut none = [0u8; 1];
+        let mut none = [0; 1];
         n + output_from(text, s, &mut none)
     }
 }

@@ -1,4 +1,5 @@
 -- A formula of a field's setter was given to its link, which covers the field and reads its other covered fields. Assumes nothing.
+use mathlib.Core.List.{List}
 use Prim.Native.Nat.{ℕ, ◌<◌}
 use mathlib.Core.Path.{◌≡◌, refl, ap}
 use mathlib.Core.Bool.{Bool, true, false}
@@ -6,15 +7,14 @@ use mathlib.Core.Logic.{inl, inr, ◌≢◌}
 use native.Mathlib.Omega.{arith}
 use borrow.Author.Tests.{ltb-true}
 use lib.Dec.{ltb}
+use Rattle.std.specs.Prelude.{None}
 use Rattle.fieldset.specs.Tables.{at}
 use Rattle.panel.specs.declared.Panel.{Panel}
 use Rattle.panel.specs.Items.{Item, link_at, reads_of}
 use Rattle.panel.specs.Solution.{setter_reads}
 use Rattle.panel.specs.Legal.{Legal}
 use Rattle.panel.proofs.Reversed.{setter_link}
-use Rattle.formulas.specs.declared.Formula.TheVariants.{None}
-use Rattle.formulas.specs.declared.Formulas.{Formulas}
-use Rattle.formulas.specs.Formulas.{formula_of, Held}
+use Rattle.formulas.specs.Formulas.{Rule, formula_of, Held}
 use Rattle.evaluation.proofs.Settled.{HeldAt}
 use Rattle.sheet.specs.Sheets.{formula_at}
 use Rattle.sheet.specs.Legal.{Fits}
@@ -23,8 +23,8 @@ use Rattle.sheet.specs.Legal.{Fits}
 abbrev pub setter_covered : Panel → ℕ → ℕ
 setter_covered p f = (link_at p.links (at p.setter f)).covered
 
-pub setter_held : (p : Panel) (formulas : Formulas) → Legal p → ((k : ℕ) → Fits (formula_at formulas k) (link_at p.links k))
-    → (f : ℕ) → f < p.size → HeldAt (formula_of formulas.of p.setter) (setter_reads p) (setter_covered p) f
+pub setter_held : (p : Panel) (formulas : List Rule) → Legal p → ((k : ℕ) → Fits (formula_at formulas k) (link_at p.links k))
+    → (f : ℕ) → f < p.size → HeldAt (formula_of formulas p.setter) (setter_reads p) (setter_covered p) f
 setter_held p formulas h fits f l = go (ltb (at p.setter f) 128) refl
   where
     i : ℕ
@@ -46,6 +46,6 @@ setter_held p formulas h fits f l = go (ltb (at p.setter f) 128) refl
           fitting = a;
         }
 
-    go : (b : Bool) → ltb i 128 ≡ b → HeldAt (formula_of formulas.of p.setter) (setter_reads p) (setter_covered p) f
+    go : (b : Bool) → ltb i 128 ≡ b → HeldAt (formula_of formulas p.setter) (setter_reads p) (setter_covered p) f
     go true t = rw t (held t (fits i))
     go false t = rw t (λ n. absurd (n refl))

@@ -13,6 +13,7 @@ use lib.Dec.{eqb}
 use lib.IntN.{ℤ, pos}
 use lib.ListN.{length, set, length-set, length-replicate, get_or-replicate, get_or-eq_default}
 use lib.Seq.{get_or-set_same, get_or-set_other}
+use Rattle.std.specs.Prelude.{None}
 use Rattle.fieldset.specs.Lists.{In}
 use Rattle.fieldset.proofs.Numbers.{clash}
 use Rattle.fieldset.proofs.Lists.{all_map, whole_in}
@@ -32,10 +33,7 @@ use Rattle.panel.proofs.Changes.{unopened_links, dropped_parts}
 use Rattle.panel.proofs.Checks.{addable, removable, changeable, touchable, openable, new_link}
 use Rattle.panel.proofs.Performed.{legal_performed, Keeps, Without, AfterChange, kept_performed, performed_size}
 use Rattle.values.specs.Limits.{value_at, outside}
-use Rattle.formulas.specs.declared.Formula.{Formula}
-use Rattle.formulas.specs.declared.Formula.TheVariants.{None}
-use Rattle.formulas.specs.declared.Rule.{Rule}
-use Rattle.formulas.specs.Formulas.{formula_of, accepted}
+use Rattle.formulas.specs.Formulas.{Rule, formula_of, accepted}
 use Rattle.evaluation.specs.Runs.{Run}
 use Rattle.evaluation.proofs.Settled.{run_within, run_others, run_length}
 use Rattle.sheet.specs.declared.Sheet.{Sheet}
@@ -45,19 +43,16 @@ use Rattle.sheet.specs.Legal.{Fits, LegalSheet}
 
 -- ---- formulas that fit
 
-abbrev no_rule : Rule
-no_rule = record { formula = None }
-
-abbrev FitsAll : (ℕ → Formula) → List Link → Type 0
+abbrev FitsAll : (ℕ → Rule) → List Link → Type 0
 FitsAll formula links = (k : ℕ) → Fits (formula k) (link_at links k)
 
 -- they go by the covered fields and the numbers in use
-fits_alike : {formula : Formula} (a b : List Link) → AllAlike a b → (k : ℕ) → Fits formula (link_at b k) → Fits formula (link_at a k)
+fits_alike : {formula : Rule} (a b : List Link) → AllAlike a b → (k : ℕ) → Fits formula (link_at b k) → Fits formula (link_at a k)
 fits_alike a b h k (inl e) = inl e
 fits_alike {formula} a b h k (inr (u, e)) = inr (alike_used a b h k ∙ u, ap (accepted formula) (alike_covered a b h k) ∙ e)
 
 -- a link may be another that its formula fits
-fits_set : (formula : ℕ → Formula) (links : List Link) (i : ℕ) (l : Link) → i < length links → Fits (formula i) l
+fits_set : (formula : ℕ → Rule) (links : List Link) (i : ℕ) (l : Link) → i < length links → Fits (formula i) l
     → ((k : ℕ) → k ≢ i → Fits (formula k) (link_at links k)) → FitsAll formula (set links i l)
 fits_set formula links i l here fits f k = go (ℕ_discrete k i)
   where
@@ -66,7 +61,7 @@ fits_set formula links i l here fits f k = go (ℕ_discrete k i)
     go (no d) = subst (Fits (formula k)) (sym (link_there links i k l d)) (f k d)
 
 -- a number that is not in use has no formula
-unused_none : (formula : Formula) (l : Link) → Fits formula l → l.used ≡ false → formula ≡ None
+unused_none : (formula : Rule) (l : Link) → Fits formula l → l.used ≡ false → formula ≡ None
 unused_none formula l (inl e) u = e
 unused_none formula l (inr (t, e)) u = absurd (clash t u)
 
@@ -123,15 +118,15 @@ entered_formulas s f v = go (entering_cases s f v)
     go (inr a) = ap (λ (x : Answer). x.sheet.formulas) a.is
 
 module _ (s : Sheet) (h : LegalSheet s) where
-  abbrev after : panel.Command → ℕ → Formula
+  abbrev after : panel.Command → ℕ → Rule
   after c = formula_at (formulas_after s c)
 
   dropped_there : (id k : ℕ) → k ≢ id → after (removing id) k ≡ formula_at s.formulas k
-  dropped_there id k d = ap (λ (r : Rule). r.formula) (get_or-set_other s.formulas.of id k no_rule no_rule d)
+  dropped_there id k d = get_or-set_other s.formulas id k None None d
 
   dropped_here : (id : ℕ) → id < 128 → after (removing id) id ≡ None
   dropped_here id l =
-      ap (λ (r : Rule). r.formula) (get_or-set_same s.formulas.of id no_rule no_rule (omega (arith, h.formulas_length)))
+      get_or-set_same s.formulas id None None (omega (arith, h.formulas_length))
 
   -- the formula of a link that is changed fits it: the covered fields are the same, or there is none
   changed_here : (id level : ℕ) (bytes : List ℕ) → id < 128 → Fits (after (changing id level bytes) id) (new_link level bytes)
@@ -156,7 +151,7 @@ module _ (s : Sheet) (h : LegalSheet s) where
       go : (b : Bool) → Fits (formula_at s.formulas k) (link_at q.links k)
           → Fits (formula_at (cond b s.formulas (with_formula s.formulas id None)) k) (link_at q.links k)
       go true f = f
-      go false f = subst (λ (x : Formula). Fits x (link_at q.links k)) (sym (dropped_there id k d)) f
+      go false f = subst (λ (x : Rule). Fits x (link_at q.links k)) (sym (dropped_there id k d)) f
 
   fits_solved : (c : panel.Command) → AfterChange (λ q. FitsAll (after c) q.links) s.panel c
   unfolding opened to_front
@@ -169,7 +164,7 @@ module _ (s : Sheet) (h : LegalSheet s) where
       subst (FitsAll (after (removing id))) (sym (dropped_parts s.panel id).1)
       (fits_set (after (removing id)) s.panel.links id no_link (omega (arith, h.panel.links_length, (removable s.panel id a).number))
       (inl (dropped_here id (removable s.panel id a).number))
-      (λ k d. subst (λ (x : Formula). Fits x (link_at s.panel.links k)) (sym (dropped_there id k d)) (h.fits k)))
+      (λ k d. subst (λ (x : Rule). Fits x (link_at s.panel.links k)) (sym (dropped_there id k d)) (h.fits k)))
   fits_solved (touching f) = λ a. h.fits
   fits_solved planning = h.fits
   fits_solved (changing id level bytes) = λ a q w.
@@ -177,17 +172,17 @@ module _ (s : Sheet) (h : LegalSheet s) where
       fits_set (after (changing id level bytes)) q.links id (new_link level bytes) (omega (arith, w.full, h.panel.links_length)) (changed_here id level bytes small)
       (λ k d. changed_there id level bytes k d q w)
 
-  after_length : (c : panel.Command) → length (formulas_after s c).of ≡ 128
+  after_length : (c : panel.Command) → length (formulas_after s c) ≡ 128
   after_length (opening n) = h.formulas_length
   after_length (adding id level bytes) = h.formulas_length
-  after_length (removing id) = length-set s.formulas.of id no_rule ∙ h.formulas_length
+  after_length (removing id) = length-set s.formulas id None ∙ h.formulas_length
   after_length (touching f) = h.formulas_length
   after_length planning = h.formulas_length
   after_length (changing id level bytes) = go (eqb (link_at s.panel.links id).covered (covered_in bytes))
     where
-      go : (b : Bool) → length (cond b s.formulas (with_formula s.formulas id None)).of ≡ 128
+      go : (b : Bool) → length (cond b s.formulas (with_formula s.formulas id None)) ≡ 128
       go true = h.formulas_length
-      go false = length-set s.formulas.of id no_rule ∙ h.formulas_length
+      go false = length-set s.formulas id None ∙ h.formulas_length
 
   legal_solved : (c : panel.Command) → LegalSheet (performed s (solving c)).sheet
   legal_solved c =
@@ -239,7 +234,7 @@ module _ (s : Sheet) (h : LegalSheet s) where
     legal_run r e fits =
         let ends : evaluated q s.formulas (set s.values f v) ≡ record { fits = true; values = r.values } =
         e ∙ ap (λ (b : Bool). record { fits = b; values = r.values }) fits in
-        let formula : ℕ → Formula = formula_of s.formulas.of q.setter in
+        let formula : ℕ → Rule = formula_of s.formulas q.setter in
         let few = k.few in
         record {
           panel = k;
@@ -274,7 +269,7 @@ module _ (s : Sheet) (h : LegalSheet s) where
 
   -- ---- kind 08
 
-  legal_related : (id : ℕ) (formula : Formula) → LegalSheet (performed s (relating id formula)).sheet
+  legal_related : (id : ℕ) (formula : Rule) → LegalSheet (performed s (relating id formula)).sheet
   legal_related id formula = go (check_reply cs) refl (is_refusal (check_reply cs)) refl
     where
       cs : List Check
@@ -285,23 +280,22 @@ module _ (s : Sheet) (h : LegalSheet s) where
       fits_here (o, (n, (past, (u, (a, z))))) k (yes d) =
           let new : formula_at (with_formula s.formulas id formula) k ≡ formula =
           ap (λ (i : ℕ). formula_at (with_formula s.formulas id formula) i) d
-          ∙ ap (λ (r : Rule). r.formula)
-          (get_or-set_same s.formulas.of id (record { formula = formula }) no_rule (omega (arith, ltb-false 127 id n, h.formulas_length))) in
+          ∙ get_or-set_same s.formulas id formula None (omega (arith, ltb-false 127 id n, h.formulas_length)) in
           inr (
             ap (λ (i : ℕ). (link_at s.panel.links i).used) d ∙ not-false _ u,
-            ap (λ (x : Formula). accepted x (link_at s.panel.links k).covered) new
+            ap (λ (x : Rule). accepted x (link_at s.panel.links k).covered) new
                 ∙ ap (λ (i : ℕ). accepted formula (link_at s.panel.links i).covered) d ∙ not-false _ a,
           )
       fits_here passes k (no d) =
-          subst (λ (x : Formula). Fits x (link_at s.panel.links k))
-          (sym (ap (λ (r : Rule). r.formula) (get_or-set_other s.formulas.of id k (record { formula = formula }) no_rule d))) (h.fits k)
+          subst (λ (x : Rule). Fits x (link_at s.panel.links k))
+          (sym (get_or-set_other s.formulas id k formula None d)) (h.fits k)
 
       go : (reply : List ℕ) → check_reply cs ≡ reply → (b : Bool) → is_refusal reply ≡ b → LegalSheet (related s id formula reply).sheet
       go reply e true t = rw t h
       go reply e false t = rw t (record {
         panel = h.panel;
         fits = λ k. fits_here (reply_passes cs (rw e t)) k (ℕ_discrete k id);
-        formulas_length = length-set s.formulas.of id (record { formula = formula }) ∙ h.formulas_length;
+        formulas_length = length-set s.formulas id formula ∙ h.formulas_length;
         values_length = h.values_length;
         within = h.within;
         past = h.past;
@@ -317,14 +311,14 @@ pub blank_none : (p : Panel) (k : ℕ) → formula_at (blank p).formulas k ≡ N
 blank_none p k = go (dec_lt k 128)
   where
     go : Dec (k < 128) → formula_at (blank p).formulas k ≡ None
-    go (yes l) = ap (λ (r : Rule). r.formula) (get_or-replicate 128 k no_rule no_rule l)
-    go (no l) = ap (λ (r : Rule). r.formula) (get_or-eq_default (blank p).formulas.of no_rule {n = k} (omega (arith, length-replicate 128 no_rule)))
+    go (yes l) = get_or-replicate 128 k None None l
+    go (no l) = get_or-eq_default (blank p).formulas None {n = k} (omega (arith, length-replicate {A = Rule} 128 None))
 
 pub legal_blank : (p : Panel) → Legal p → LegalSheet (blank p)
 legal_blank p h = record {
   panel = h;
   fits = λ k. inl (blank_none p k);
-  formulas_length = length-replicate 128 no_rule;
+  formulas_length = length-replicate {A = Rule} 128 None;
   values_length = length-replicate 64 (pos 0);
   within = λ f. ap outside (zero f (dec_lt f 64));
   past = λ f l. zero f (dec_lt f 64);

@@ -1,5 +1,5 @@
 -- The panel's commands on a sheet, and the commands of document 02, request 2. Quotations are of that request if not of another.
-use Rattle.std.specs.Prelude.{ℕ, Bool, false, not, cond, List, [], ◌∷◌, eqb, leb, ltb, ℤ, set}
+use Rattle.std.specs.Prelude.{ℕ, Bool, false, not, cond, List, [], ◌∷◌, eqb, leb, ltb, ℤ, set, Some, None}
 use Rattle.fieldset.specs.Tables.{at}
 use Rattle.fieldset.specs.Fields.{union, size}
 use Rattle.panel.specs.declared.Panel.{Panel}
@@ -12,10 +12,8 @@ use Rattle.panel.specs.Moved as panels
 use Rattle.panel.specs.Commands as panel
 use Rattle.panel.specs.Commands.{opening, adding, removing, touching, planning, changing, covered_in, Check, check, check_reply}
 use Rattle.values.specs.Changes.{revalued}
-use Rattle.formulas.specs.declared.Formula.{Formula}
-use Rattle.formulas.specs.declared.Formula.TheVariants.{None, Ratio, Sum}
-use Rattle.formulas.specs.declared.Formulas.{Formulas}
-use Rattle.formulas.specs.Formulas.{accepted}
+use Rattle.formulas.specs.declared.Formula.TheVariants.{Ratio, Sum}
+use Rattle.formulas.specs.Formulas.{Rule, accepted}
 use Rattle.evaluation.specs.Runs.{Run}
 use Rattle.sheet.specs.declared.Sheet.{Sheet}
 use Rattle.sheet.specs.Sheets.{with_formula, evaluated}
@@ -26,7 +24,7 @@ pub data Command : Type 0 where
   -- "Frame 07 f and four bytes"
   entering : ℕ → ℤ → Command
   -- "Frame 08 id 01 pppp qqqq", "Frame 08 id 02 f"
-  relating : ℕ → Formula → Command
+  relating : ℕ → Rule → Command
 
 -- the sheet after a command, and the bytes of the reply
 pub record Answer : Type 0 where
@@ -40,7 +38,7 @@ refused s r = record { sheet = s; reply = 0xFF ∷ refusal_bytes r }
 
 -- the formulas after a command that is not refused: "removal drops it"; of a change, "its formula kept if the covered fields are the same, else dropped"
 -- (request 5)
-abbrev pub formulas_after : Sheet → panel.Command → Formulas
+abbrev pub formulas_after : Sheet → panel.Command → List Rule
 formulas_after s (opening n) = s.formulas
 formulas_after s (adding id level bytes) = s.formulas
 formulas_after s (removing id) = with_formula s.formulas id None
@@ -90,14 +88,14 @@ entered s f v touched =
 -- ---- kind 08
 
 -- the field of a sum is none of n fields
-abbrev pub sum_past : ℕ → Formula → Bool
+abbrev pub sum_past : ℕ → Rule → Bool
 sum_past n None = false
-sum_past n (Ratio p q) = false
-sum_past n (Sum f) = leb n f
+sum_past n (Some (Ratio p q)) = false
+sum_past n (Some (Sum f)) = leb n f
 
 -- "the link, open and field checks precede", then "BadFormula (p or q 0, wrong number of covered fields, f not covered)"; of a panel of n fields and
 -- the link of the number
-abbrev pub check_formula : ℕ → ℕ → Bool → ℕ → Formula → List Check
+abbrev pub check_formula : ℕ → ℕ → Bool → ℕ → Rule → List Check
 check_formula n id used covered formula =
     check (not (ltb 0 n)) NotOpen
     ∷ check (ltb 127 id) BadLink
@@ -106,11 +104,11 @@ check_formula n id used covered formula =
     ∷ check (not (accepted formula covered)) BadFormula
     ∷ []
 
-abbrev pub formula_checks : Panel → ℕ → Formula → List Check
+abbrev pub formula_checks : Panel → ℕ → Rule → List Check
 formula_checks p id formula = let l = link_at p.links id in check_formula p.size id l.used l.covered formula
 
 -- "A new formula replaces the old"; 00 "and the moved count, 0 for kind 08"
-abbrev pub related : Sheet → ℕ → Formula → List ℕ → Answer
+abbrev pub related : Sheet → ℕ → Rule → List ℕ → Answer
 related s id formula reply =
     record {
       sheet =

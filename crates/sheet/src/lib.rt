@@ -5,14 +5,14 @@ ghost use Rattle.std.specs.Prelude.{◌≡◌};
 ghost use Rattle.sheet.specs.Sheets.{blank, unopened};
 ghost use Rattle.sheet.specs.Legal.{LegalSheet};
 
-use formulas::{Formula, Formulas, Rule};
+use formulas::Rule;
 use panel::Panel;
 
 #[derive(Clone, Copy)]
 pub struct Sheet {
     pub panel: Panel,
     // for each link its formula; a number that is not in use has none
-    pub formulas: Formulas,
+    pub formulas: [Rule; 128],
     // for each field its value; past the panel's fields zero
     pub values: [i32; 64],
 }
@@ -21,13 +21,9 @@ pub struct Sheet {
 fn blank(p: Panel) -> Sheet
     ensures { result ≡ blank p }
 {
-    let rule = Rule {
-        formula: Formula::None,
-    };
-    let rules = Formulas { of: [rule; 128] };
     Sheet {
         panel: p,
-        formulas: rules,
+        formulas: [None; 128],
         values: [0i32; 64],
     }
 }

@@ -2,19 +2,13 @@
 // `others` the set of its setter's other outputs.
 #![tactic(auto)]
 
-ghost use Rattle.std.specs.Prelude.{◌≡◌, true, eqb, ◌++◌, ◌<◌, max, length, drop};
+ghost use Rattle.std.specs.Prelude.{◌≡◌, true, eqb, ◌++◌, ◌<◌, length, drop};
 ghost use Rattle.fieldset.specs.Tables.{at, tabulate};
 ghost use Rattle.fieldset.specs.Fields.{member, below, filter, Within};
 ghost use Rattle.strength.specs.Strength.{greatest, strength, lowest_at};
 ghost use Rattle.strength.specs.Filling.{Acyclic, Strengths, Fillable, Filled, Topped, PathFound};
 
-use fieldset::{below, first, lowest, member, minus, with, within, without_lowest};
-
-fn larger(a: u8, b: u8) -> u8
-    ensures { result ≡ max a b }
-{
-    if a < b { b } else { a }
-}
+use fieldset::{below, fields_of, first, lowest, member, minus, with, within, without_lowest};
 
 #[derive(Clone, Copy)]
 pub struct Top {
@@ -41,31 +35,28 @@ fn fill(
     let mut k = known;
     let mut top = 0u8;
     let mut count = 0u8;
-    let mut rest = set;
-    while rest != 0 {
-        let u = first(rest);
+    for u in fields_of(set) {
         if !member(k, u) {
             let mut s = levels[u];
             let more = others[u];
             if within(more, k) {
-                s = larger(s, top_of(table, more));
+                s = s.max(top_of(table, more));
             } else {
                 let t = fill(levels, others, k, table, more, depth - 1);
                 k = t.known;
                 count += t.count;
-                s = larger(s, t.strength);
+                s = s.max(t.strength);
             }
             table[u] = s;
             count += 1;
             k = with(k, u);
         }
-        top = larger(top, table[u]);
-        rest = without_lowest(rest);
+        top = top.max(table[u]);
     }
     Top {
         known: k,
         strength: top,
-        count: count,
+        count,
     }
 }
 
@@ -93,14 +84,12 @@ pub fn strengths(levels: &[u8; 64], others: &[u64; 64], n: usize, table: &mut [u
 {
     let mut known = 0u64;
     let mut count = 0u8;
-    let mut v = 0usize;
-    while v < n {
+    for v in 0..n {
         if others[v] == 0 {
             table[v] = levels[v];
             count += 1;
             known = with(known, v);
         }
-        v += 1;
     }
     let rest = fill(levels, others, known, table, minus(below(n), known), n);
     count + rest.count
@@ -111,11 +100,8 @@ pub fn top_of(table: &[u8; 64], set: u64) -> u8
     ensures { result ≡ greatest (member set) (at table.now) 64 }
 {
     let mut most = 0u8;
-    let mut rest = set;
-    while rest != 0 {
-        let u = first(rest);
-        most = larger(most, table[u]);
-        rest = without_lowest(rest);
+    for u in fields_of(set) {
+        most = most.max(table[u]);
     }
     most
 }
@@ -125,13 +111,10 @@ fn tied(table: &[u8; 64], s: u8, set: u64) -> u64
     ensures { result ≡ filter (λ u. eqb (at table.now u) s) set }
 {
     let mut ties = 0u64;
-    let mut rest = set;
-    while rest != 0 {
-        let u = first(rest);
+    for u in fields_of(set) {
         if table[u] == s {
             ties = with(ties, u);
         }
-        rest = without_lowest(rest);
     }
     ties
 }
@@ -160,11 +143,13 @@ pub fn path_from(
     let s = table[v];
     let mut at = v;
     let mut i: usize = 0;
+    // labelled, since the scan goes on with the walk, which yields where it ends by its `break`
     let end = 'walk: loop {
         path[i] = at as u8;
         if levels[at] != s {
             i += 1;
             let mut rest = others[at];
+            // not by `fields_of`: some field has this strength, so that the scan never comes to the set's end
             loop {
                 let next = first(rest);
                 if table[next] == s {

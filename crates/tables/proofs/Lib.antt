@@ -1,2 +1,2 @@
 pub mod Settings
-pub mod Tables
+pub mod Agreement

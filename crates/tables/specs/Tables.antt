@@ -1,11 +1,12 @@
 -- The tables of a panel's setters.
-use Rattle.std.specs.Prelude.{ℕ, ◌+◌, ◌<◌, ◌≡◌, cond, List, ltb, length}
+use Rattle.std.specs.Prelude.{ℕ, ◌+◌, ◌<◌, ◌≡◌, cond, List, ltb, length, set}
 use Rattle.fieldset.specs.Tables.{at}
 use Rattle.fieldset.specs.Fields.{without}
 use Rattle.panel.specs.declared.Link.{Link}
 use Rattle.panel.specs.declared.Panel.{Panel}
 use Rattle.panel.specs.Solution.{setter_level, setter_others, setter_reads, strength_of}
 use Rattle.tables.specs.declared.Entry.{Entry}
+use Rattle.tables.specs.declared.Tables.{Tables}
 
 -- the entry of field f whose setter has the number c: the link l, or a stay at this place
 pub record EntryOf (c : ℕ) (l : Link) (place f : ℕ) (e : Entry) : Type 0 where
@@ -29,6 +30,14 @@ pub record TabledTo (n : ℕ) (p : Panel) (levels others reads : List ℕ) : Typ
 -- the tables are the panel's own
 abbrev pub Tabled : Panel → List ℕ → List ℕ → List ℕ → Type 0
 Tabled = TabledTo 64
+
+-- the same, of the three as one value
+abbrev pub TablesOf : Panel → Tables → Type 0
+TablesOf p t = Tabled p t.levels t.others t.reads
+
+-- the tables with another entry of field f
+abbrev pub with_entry : Tables → ℕ → Entry → Tables
+with_entry t f e = record { levels = set t.levels f e.level; others = set t.others f e.others; reads = set t.reads f e.reads }
 
 -- the table has every field's strength
 abbrev pub StrengthsOf : Panel → List ℕ → Type 0

@@ -1,20 +1,20 @@
 -- The reversal of a path one field at a time, with the tables. By cases on whether a number is a link's or a stay's, the code's two stores are
 -- `holding` (`holds`) and its last one `waiting` (`waits`). A table then changes at the field that is set, to its setter's entry, and nowhere else
 -- (`tabled_holding`), since levels, outputs and reads do not go by standings (`alike_setting`).
-use Prim.Native.Nat.{ℕ, ◌+◌, ◌%◌, ◌≤◌, ◌<◌}
+use Prim.Native.Nat.{ℕ, suc, ◌+◌, ◌%◌, ◌≤◌, ◌<◌}
 use mathlib.Core.Path.{◌≡◌, refl, sym, ap, ◌∙◌}
 use mathlib.Core.Bool.{Bool, true, false, cond}
 use mathlib.Core.List.{List, [], ◌∷◌}
 use mathlib.Core.Logic.{◌≢◌, ◌⊎◌, inl, inr}
 use native.Mathlib.Nat.{mod-eq_of_lt}
+use native.Mathlib.Numerals.{add-one}
 use native.Mathlib.Decide.{ℕ_discrete}
 use native.Mathlib.Omega.{arith}
 use borrow.Author.Tests.{ltb-true}
 use lib.Dec.{ltb}
-use lib.ListN.{length, take, set, length-set}
-use lib.Seq.{set-get_or, get_or-set_same, get_or-set_other}
+use lib.ListN.{length, take, drop, set, length-set, drop_of_length-le}
+use lib.Seq.{drop-cons, set-get_or, get_or-set_same, get_or-set_other}
 use Rattle.fieldset.specs.Tables.{at}
-use Rattle.fieldset.proofs.Rest.{rest, rest_next, rest_end}
 use Rattle.panel.specs.declared.Standing.{Standing}
 use Rattle.panel.specs.declared.Standing.TheVariants.{Waiting, Holding}
 use Rattle.panel.specs.declared.Link.{Link}
@@ -25,7 +25,8 @@ use Rattle.panel.specs.Solution.{reversed}
 use Rattle.panel.proofs.Reversed.{AllAlike, alike_level, alike_outputs, alike_reads, Fit, put_here, put_there, holding_place, holding_alike, holding_sets, waiting_place, waiting_setter, waiting_alike}
 use Rattle.panel.proofs.Legal.{holding_not_waiting}
 use Rattle.tables.specs.declared.Entry.{Entry}
-use Rattle.tables.specs.Tables.{EntryOf, Setting, Tabled, Places}
+use Rattle.tables.specs.declared.Tables.{Tables}
+use Rattle.tables.specs.Tables.{EntryOf, Setting, Tabled, TablesOf, Places, with_entry}
 use Rattle.tables.proofs.Settings.{entry_setting, same_setting, tabled_same}
 use Rattle.taking.specs.Taking.{TabledBut}
 
@@ -153,62 +154,56 @@ module _ (p : Panel) (c v : ℕ) (full : length p.setter ≡ 64) (lv : v < 64) w
 -- ---- the loop
 
 -- the reversal of what is left of the path gives the whole
-pub record Reversing (n : ℕ) (path : List ℕ) (whole p : Panel) (c i : ℕ) (levels others reads : List ℕ) : Type 0 where
-  pub within : i ≤ n
-  pub panel : reversed p (item_of c 0) (rest n path i) ≡ whole
+pub record Reversing (path : List ℕ) (whole p : Panel) (c i : ℕ) (tables : Tables) : Type 0 where
+  pub panel : reversed p (item_of c 0) (drop i path) ≡ whole
   pub full : length p.setter ≡ 64
   pub placed : Places p.place
-  pub tabled : Tabled p levels others reads
+  pub tabled : TablesOf p tables
 
 -- what a dropped link held is set by its stay, and the whole path is left
-abbrev pub Starts : ℕ → List ℕ → ℕ → Panel → Standing → Panel → List ℕ → List ℕ → List ℕ → Type 0
-Starts n path c p held q levels others reads =
-    (q ≡ freed p held) × Reversing n path (reversed q (item_of c (at path 0)) (take n path)) q c 0 levels others reads
+abbrev pub Starts : ℕ → List ℕ → ℕ → Panel → Standing → Panel → Tables → Type 0
+Starts n path c p held q tables = (q ≡ freed p held) × Reversing (take n path) (reversed q (item_of c (at path 0)) (take n path)) q c 0 tables
 
-module _ (n : ℕ) (path : List ℕ) (c : ℕ) {p q : Panel} {held : Standing} {l o r l' o' r' : List ℕ}
-    (placed : Places p.place) (full : length p.setter ≡ 64) (t : TabledBut p held l o r) where
-  pub reversing_freed : {v k : ℕ} → held ≡ Holding v → k ≡ v
-      → l' ≡ set l k (16 + at p.place k) → o' ≡ set o k 0 → r' ≡ set r k 0 → q ≡ with_setter p k 128 → Starts n path c p held q l' o' r'
-  reversing_freed {v} {k} e ek el eo er eq =
+module _ (n : ℕ) (path : List ℕ) (c : ℕ) {p q : Panel} {held : Standing} {t t' : Tables}
+    (placed : Places p.place) (full : length p.setter ≡ 64) (but : TabledBut p held t.levels t.others t.reads) where
+  pub reversing_freed : {v k : ℕ} {entry : Entry} → held ≡ Holding v → k ≡ v → entry ≡ record { level = 16 + at p.place k; others = 0; reads = 0 }
+      → t' ≡ with_entry t k entry → q ≡ with_setter p k 128 → Starts n path c p held q t'
+  reversing_freed {v} {k} e ek ee et eq =
       let own : Entry = record { level = 16 + at p.place v; others = 0; reads = 0 } in (
         rw (eq, e, ek) refl,
-        rw (eq, el, eo, er, ek) (record {
-          within = omega arith;
+        rw (eq, et, ee, ek) (record {
           panel = reversed_stay (with_setter p v 128) c 0 (at path 0) (take n path);
           full = length-set p.setter v 128 ∙ full;
           placed = placed;
-          tabled = tabled_holding p 128 v full (t.field v e) own (record { level = refl; others = refl; reads = refl }) (rw e at t);
+          tabled = tabled_holding p 128 v full (but.field v e) own (record { level = refl; others = refl; reads = refl }) (rw e at but);
         }),
       )
 
-  pub reversing_all : held ≡ Waiting → l' ≡ l → o' ≡ o → r' ≡ r → q ≡ p → Starts n path c p held q l' o' r'
-  reversing_all e el eo er eq = (
+  pub reversing_all : held ≡ Waiting → t' ≡ t → q ≡ p → Starts n path c p held q t'
+  reversing_all e et eq = (
     rw (eq, e) refl,
-    rw (eq, el, eo, er) (record {
-      within = omega arith;
+    rw (eq, et) (record {
       panel = reversed_stay p c 0 (at path 0) (take n path);
       full = full;
       placed = placed;
-      tabled = tabled_whole p e t;
+      tabled = tabled_whole p e but;
     }),
   )
 
-module _ (n : ℕ) (path : List ℕ) {whole : Panel} (long : n ≤ length path) where
-  pub reversing_next : {p : Panel} {c i : ℕ} {levels others reads : List ℕ} {j k m : ℕ} {l : Link} {e : Entry}
-      → Reversing n path whole p c i levels others reads → i < n → at path i < 64
+module _ (path : List ℕ) {whole : Panel} where
+  pub reversing_next : {p : Panel} {c i : ℕ} {t : Tables} {j k m : ℕ} {l : Link} {e : Entry}
+      → Reversing path whole p c i t → i < length path → at path i < 64
       → k ≡ at path i → j ≡ c % 128 → l ≡ stood c (link_at p.links j) (Holding (at path i)) → m ≡ cond (ltb c 128) c 128
       → EntryOf c (link_at p.links j) (at p.place k) k e
-      → Reversing n path whole (with_setter (with_link p j l) k m) (at p.setter k) (i + 1)
-      (set levels k e.level) (set others k e.others) (set reads k e.reads)
+      → Reversing path whole (with_setter (with_link p j l) k m) (at p.setter k) (i + 1) (with_entry t k e)
   unfolding reversed setter_of
-  reversing_next {p} {c} {i} {levels} {others} {reads} {j} {k} {m} {l} {e} h less lv ek ej el em is =
+  reversing_next {p} {c} {i} {t} {j} {k} {m} {l} {e} h less lv ek ej el em is =
       let v = at path i in
       let same : with_setter (with_link p j l) k m ≡ holding p (item_of c v) v = rw (el, em, ej, ek) (holds p c v) in
       record {
-        within = omega arith;
         panel = rw (same, ek) (
-            reversed_stay (holding p (item_of c v) v) (at p.setter v) 0 v (rest n path (i + 1))
-            ∙ rw (rest_next n i path less long) (reversed_stay p c v 0 (v ∷ rest n path (i + 1)))
+            reversed_stay (holding p (item_of c v) v) (at p.setter v) 0 v (drop (i + 1) path)
+            ∙ rw (add-one i, drop-cons path i 0) (reversed_stay p c v 0 (v ∷ drop (suc i) path))
             ∙ h.panel
             );
         full = length-set p.setter k m ∙ h.full;
@@ -216,10 +211,10 @@ module _ (n : ℕ) (path : List ℕ) {whole : Panel} (long : n ≤ length path) 
         tabled = rw (same, ek) (tabled_holding p c v h.full lv e (rw (ej, ek) at is) (tabled_but p (Holding v) (λ w d. let z : v ≡ w = cc in omega (arith, lv)) h.tabled));
       }
 
-  pub reversing_ends : {p : Panel} {c i : ℕ} {levels others reads : List ℕ} {j : ℕ} {l : Link}
-      → Reversing n path whole p c i levels others reads → n ≤ i → j ≡ c % 128 → l ≡ stood c (link_at p.links j) Waiting
-      → (with_link p j l ≡ whole) × Tabled (with_link p j l) levels others reads
+  pub reversing_ends : {p : Panel} {c i : ℕ} {t : Tables} {j : ℕ} {l : Link}
+      → Reversing path whole p c i t → length path ≤ i → j ≡ c % 128 → l ≡ stood c (link_at p.links j) Waiting
+      → (with_link p j l ≡ whole) × TablesOf (with_link p j l) t
   unfolding reversed
-  reversing_ends {p} {c} {i} {levels} {others} {reads} {j} {l} h end ej el =
+  reversing_ends {p} {c} {i} {t} {j} {l} h end ej el =
       let same : with_link p j l ≡ waiting p (item_of c 0) = rw (el, ej) (waits p c 0) in
-      (same ∙ rw (rest_end n i path end long) at h.panel, rw same (tabled_waiting p (item_of c 0) h.tabled))
+      (same ∙ rw (drop_of_length-le path end) at h.panel, rw same (tabled_waiting p (item_of c 0) h.tabled))

@@ -7,25 +7,18 @@ ghost use Rattle.panel.specs.Items.{item_of};
 ghost use Rattle.panel.specs.Panels.{standing, freed};
 ghost use Rattle.panel.specs.Solution.{reversed};
 ghost use Rattle.panel.specs.Outcomes.{PathOf};
-ghost use Rattle.tables.specs.Tables.{Tabled, Places};
+ghost use Rattle.tables.specs.Tables.{TablesOf, Places};
 ghost use Rattle.taking.specs.Taking.{TabledBut};
 
-use fieldset::wide;
-use panel::{Link, Panel, STAY, STAY_LEVEL, Standing, Step};
-use tables::setter_entry;
+use panel::{Link, Panel, STAY, Standing, Step};
+use tables::{Tables, enter, setter_entry, stay_entry};
 
 // The link l at another standing, where c is a link's number; a stay has none.
 fn standing_of(c: u8, l: Link, s: Standing) -> Link
     ensures { result ≡ cond (ltb c 128) (standing l s) l }
 {
     if c < STAY {
-        Link {
-            covered: l.covered,
-            outputs: l.outputs,
-            level: l.level,
-            used: l.used,
-            standing: s,
-        }
+        Link { standing: s, ..l }
     } else {
         l
     }
@@ -38,46 +31,30 @@ fn number_of(c: u8) -> u8
     if c < STAY { c } else { STAY }
 }
 
-// The panel with what a step's dropped link held set by its stay, and then the step's path reversed, with its tables.
-pub fn reverse(
-    mut p: Panel,
-    step: Step,
-    path: &[u8; 64],
-    levels: &mut [u8; 64],
-    others: &mut [u64; 64],
-    reads: &mut [u64; 64],
-) -> Panel
-    requires { PathOf path.now step.count × Places p.place × TabledBut p step.freed levels.old others.old reads.old }
-    ensures { (result ≡ reversed (freed p step.freed) (item_of step.setter (at path.now 0)) (take step.count path.now)) × Tabled result levels.new others.new reads.new }
+// What a step's dropped link held is set by its stay, and then the step's path is reversed, in the panel and in its tables.
+pub fn reverse(p: &mut Panel, step: &Step, path: &[u8; 64], tables: &mut Tables)
+    requires { PathOf path.now step.now.count × Places p.old.place × TabledBut p.old step.now.freed tables.old.levels tables.old.others tables.old.reads }
+    ensures reversed { p.new ≡ reversed (freed p.old step.now.freed) (item_of step.now.setter (at path.now 0)) (take step.now.count path.now) }
+    ensures tabled { TablesOf p.new tables.new }
 {
-    let held = step.freed;
-    if let Standing::Holding(v) = held {
-        let f = wide(v);
+    if let Standing::Holding(v) = step.freed {
+        let f = usize::from(v);
         p.setter[f] = STAY;
-        levels[f] = STAY_LEVEL + p.place[f];
-        others[f] = 0;
-        reads[f] = 0;
+        enter(tables, f, stay_entry(p.place[f]));
     }
-    let count = step.count;
     let mut c = step.setter;
-    let mut i: usize = 0;
-    while i < count {
-        let f = path[i];
-        let k = wide(f);
+    for &f in &path[..step.count] {
+        let k = usize::from(f);
         let old = p.setter[k];
-        let j = wide(c % 128);
+        let j = usize::from(c % 128);
         let l = p.links[j];
         let e = setter_entry(c, l, p.place[k], k);
         p.links[j] = standing_of(c, l, Standing::Holding(f));
         p.setter[k] = number_of(c);
-        levels[k] = e.level;
-        others[k] = e.others;
-        reads[k] = e.reads;
+        enter(tables, k, e);
         c = old;
-        i += 1;
     }
-    let j = wide(c % 128);
+    let j = usize::from(c % 128);
     let l = p.links[j];
     p.links[j] = standing_of(c, l, Standing::Waiting);
-    p
 }

@@ -19,13 +19,13 @@ use Rattle.lines.proofs.Lines.{lines_on, lines_end}
 use Rattle.frames.specs.Texts.{LineAnswer, state_after, replies, tally_after, written, output, is_too_long}
 use Rattle.replies.specs.Replies.{longest}
 use Rattle.answering.specs.Runs.{Reached, Ran, Paced}
-use Rattle.text.specs.declared.Outcome.TheVariants.{Length, TextTooLong}
+use Rattle.std.specs.Prelude.{Some, None}
 use Rattle.text.specs.Outcomes.{tally_length, whole_output, outcome_of, buffer_after, tally_at_end, Told}
 
 -- the tally's bytes in the parts that are written
-pub tally_parts : (b : List ℕ) (t : Tally) → b ≡ tally_bytes t → get_or b 0 0 ∷ get_or b 1 0 ∷ take (length b - 2) (drop 2 b) ≡ tally_bytes t
+pub tally_parts : (b : List ℕ) (t : Tally) → b ≡ tally_bytes t → get_or b 0 0 ∷ get_or b 1 0 ∷ take 9 (drop 2 b) ≡ tally_bytes t
 unfolding tally_bytes three_bytes
-tally_parts b t e = ap (λ (x : List ℕ). get_or x 0 0 ∷ get_or x 1 0 ∷ take (length x - 2) (drop 2 x)) e
+tally_parts b t e = ap (λ (x : List ℕ). get_or x 0 0 ∷ get_or x 1 0 ∷ take 9 (drop 2 x)) e
 
 pub tally_length_lem : (t : Tally) → length (line_of (tally_bytes t)) ≡ tally_length
 unfolding tally_bytes three_bytes
@@ -90,7 +90,7 @@ module _ {S : Type 0} (answer : LineAnswer S) {scan : ℕ → S → List ℕ →
         let e : k ≡ r.written + length last = size ∙ ap (λ (u : Tally). r.written + length (line_of (tally_bytes u))) tally_done in
         omega (arith, e, place, ap length ends, length-append (written answers) last)
 
-    pub whole_text : is_too_long text ≡ false → Told answer s t text r.tally before after (Length k)
+    pub whole_text : is_too_long text ≡ false → Told answer s t text r.tally before after (Some k)
     unfolding outcome_of buffer_after tally_at_end
     whole_text short = record {
       outcome = simp short (ap (λ (i : ℕ). 0x00 ∷ i ∷ []) total);
@@ -99,6 +99,6 @@ module _ {S : Type 0} (answer : LineAnswer S) {scan : ℕ → S → List ℕ →
     }
 
 module _ {S : Type 0} (answer : LineAnswer S) where
-  pub too_long : (text before : List ℕ) (s : S) (t : Tally) → is_too_long text ≡ true → Told answer s t text t before before TextTooLong
+  pub too_long : (text before : List ℕ) (s : S) (t : Tally) → is_too_long text ≡ true → Told answer s t text t before before None
   unfolding outcome_of buffer_after tally_at_end
   too_long text before s t long = record { outcome = simp long; buffer = simp long; tally = simp long }

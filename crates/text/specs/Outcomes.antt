@@ -1,5 +1,5 @@
 -- What a whole text is answered, whatever answers its lines; and the fields of the panel after it.
-use Rattle.std.specs.Prelude.{ℕ, ◌^◌, ◌<◌, ◌≡◌, cond, List, [], ◌∷◌, ℤ, length}
+use Rattle.std.specs.Prelude.{ℕ, ◌^◌, ◌<◌, ◌≡◌, cond, List, [], ◌∷◌, ℤ, length, Option, Some, None}
 use Rattle.std.proofs.lemmas.List.Edits.{sets}
 use Rattle.panel.specs.declared.Refusal.TheVariants.{TextTooLong as TooLong}
 use Rattle.panel.specs.Answers.{refusal_bytes}
@@ -9,22 +9,20 @@ use Rattle.lines.specs.Lines.{lines_of}
 use Rattle.frames.specs.Texts.{LineAnswer, replies, tally_after, output, is_too_long, output_of}
 use Rattle.sheet.specs.Sheets.{unopened}
 use Rattle.frames.specs.Frames.{sheet_after}
-use Rattle.text.specs.declared.Outcome.{Outcome}
-use Rattle.text.specs.declared.Outcome.TheVariants.{Length, TextTooLong}
 
 -- the characters of the tally's line: 11 bytes and an LF
 abbrev pub tally_length : ℕ
 tally_length = 23
 
 -- a text's answer by its number and values: 00 and the length of the whole output, or FF and the refusal's number
-abbrev pub outcome_numbers : Outcome → List ℕ
-outcome_numbers (Length n) = 0x00 ∷ n ∷ []
-outcome_numbers TextTooLong = 0xFF ∷ refusal_bytes TooLong
+abbrev pub outcome_numbers : Option ℕ → List ℕ
+outcome_numbers (Some n) = 0x00 ∷ n ∷ []
+outcome_numbers None = 0xFF ∷ refusal_bytes TooLong
 
 -- a length that is told is far from the greatest number
-abbrev pub Bounded : Outcome → Type 0
-Bounded (Length n) = n < 2 ^ 63
-Bounded TextTooLong = Unit {0}
+abbrev pub Bounded : Option ℕ → Type 0
+Bounded (Some n) = n < 2 ^ 63
+Bounded None = Unit {0}
 
 -- from a state and a tally on
 module _ {S : Type 0} (answer : LineAnswer S) (s : S) (t : Tally) where
@@ -43,16 +41,16 @@ module _ {S : Type 0} (answer : LineAnswer S) (s : S) (t : Tally) where
   tally_at_end text = cond (is_too_long text) t (tally_after t (replies answer s (lines_of text)))
 
   -- all that a text is answered: the outcome, the buffer and the tally u afterwards
-  pub record Told (text : List ℕ) (u : Tally) (before after : List ℕ) (r : Outcome) : Type 0 where
+  pub record Told (text : List ℕ) (u : Tally) (before after : List ℕ) (r : Option ℕ) : Type 0 where
     pub outcome : outcome_numbers r ≡ outcome_of text
     pub buffer : after ≡ buffer_after text before
     pub tally : u ≡ tally_at_end text
 
 -- what is told of a text from a new tally on, as what the program writes for it: its output, of the length that is told, stands at the start of the
 -- buffer; where the text is too long, its output is the line of that refusal
-abbrev pub AsWritten : {S : Type 0} → LineAnswer S → S → List ℕ → List ℕ → List ℕ → Outcome → Type 0
-AsWritten answer s text before after (Length n) = (n ≡ length (output_of answer s text)) × (after ≡ sets before 0 (output_of answer s text))
-AsWritten answer s text before after TextTooLong = (output_of answer s text ≡ line_of (0xFF ∷ refusal_bytes TooLong)) × (after ≡ before)
+abbrev pub AsWritten : {S : Type 0} → LineAnswer S → S → List ℕ → List ℕ → List ℕ → Option ℕ → Type 0
+AsWritten answer s text before after (Some n) = (n ≡ length (output_of answer s text)) × (after ≡ sets before 0 (output_of answer s text))
+AsWritten answer s text before after None = (output_of answer s text ≡ line_of (0xFF ∷ refusal_bytes TooLong)) × (after ≡ before)
 
 -- ---- the fields after a text
 

@@ -24,13 +24,6 @@ use tally::Tally;
 // Room for a longest reply to each line of a text.
 const ROOM: usize = LONGEST * TEXT_LIMIT;
 
-// What a text is answered: the length of the whole output, or that it is too long.
-#[derive(Clone, Copy)]
-pub enum Outcome {
-    Length(usize),
-    TextTooLong,
-}
-
 // The line of a text that is too long, FF and the refusal's number, at the start of a buffer, as far as it fits; the position behind it.
 pub fn put_too_long(out: &mut [u8]) -> usize
     ensures out_after { out.new ≡ sets out.old 0 (line_of (0xFF ∷ refusal_bytes TooLong)) }
@@ -46,57 +39,29 @@ pub fn put_tally(out: &mut [u8], at: usize, t: Tally) -> usize
     ensures value { result ≡ at + length (line_of (tally_bytes t)) }
 {
     let bytes = tally::tally_bytes(t);
-    let first = bytes[0];
-    let second = bytes[1];
-    let all = &bytes[..tally::TALLY_BYTES];
-    writing::put_line(out, at, first, second, &all[2..])
+    writing::put_line(out, at, bytes[0], bytes[1], &bytes[2..])
 }
 
-// A text's outcome, and the tally after it.
-#[derive(Clone, Copy)]
-pub struct Ending {
-    pub outcome: Outcome,
-    pub tally: Tally,
-}
-
-// The length of a text's whole output, from a sheet and a tally on, and as many of its first bytes as fit the buffer.
-pub fn run_from(text: &[u8], s: Sheet, out: &mut [u8], t: Tally) -> Ending
+// The length of a text's whole output, from a sheet and the tally that the caller lends on, and as many of its first bytes as fit the buffer; a text that is
+// too long has none, and leaves both as they were.
+pub fn run_from(text: &[u8], s: Sheet, out: &mut [u8], t: &mut Tally) -> Option<usize>
     requires { LegalSheet s }
-    ensures told { Told line_answer s t text.now result.tally out.old out.new result.outcome }
-    ensures bounded { Bounded result.outcome }
+    ensures told { Told line_answer s t.old text.now t.new out.old out.new result }
+    ensures bounded { Bounded result }
 {
     if is_too_long(text) {
-        let outcome = Outcome::TextTooLong;
-        return Ending {
-            outcome: outcome,
-            tally: t,
-        };
+        return None;
     }
-    let r = answer_lines(text, 0, s, t, out, ROOM);
-    let u = r.tally;
-    let n = put_tally(out, r.written, u);
-    let outcome = Outcome::Length(n);
-    Ending {
-        outcome: outcome,
-        tally: u,
-    }
+    let r = answer_lines(text, 0, s, *t, out, ROOM);
+    *t = r.tally;
+    Some(put_tally(out, r.written, r.tally))
 }
 
-// The same, from an unopened panel on.
-pub fn run_tallied(text: &[u8], out: &mut [u8], t: Tally) -> Ending
-    ensures { Told line_answer unopened t text.now result.tally out.old out.new result.outcome }
-{
-    run_from(text, unopened(), out, t)
-}
-
-// The same, from a panel that is not opened and the tally that the caller lends.
-pub fn run_text(text: &[u8], out: &mut [u8], t: &mut Tally) -> Outcome
+// The same, from a panel that is not opened.
+pub fn run_text(text: &[u8], out: &mut [u8], t: &mut Tally) -> Option<usize>
     ensures { Told line_answer unopened t.old text.now t.new out.old out.new result }
 {
-    let before = *t;
-    let a = run_tallied(text, out, before);
-    *t = a.tally;
-    a.outcome
+    run_from(text, unopened(), out, t)
 }
 
 // The sheet after the lines of a text, from an unopened panel on. The replies are not wanted.
@@ -104,15 +69,8 @@ pub fn sheet_after(text: &[u8]) -> Sheet
     requires { is_too_long text.now ≡ false }
     ensures { (result ≡ sheet_after unopened (lines_of text.now)) × LegalSheet result }
 {
-    let t = Tally {
-        lines: 0,
-        accepted: 0,
-        refused: 0,
-        last: 0,
-    };
-    let mut out = [0u8; 1];
-    let r = answer_lines(text, 0, unopened(), t, &mut out, ROOM);
-    r.sheet
+    let mut out = [0; 1];
+    answer_lines(text, 0, unopened(), Tally::default(), &mut out, ROOM).sheet
 }
 
 // The values of the fields after a text, from an unopened panel on; the answer is how many fields there are. Where the text is too long the buffer is
@@ -127,6 +85,5 @@ pub fn values_after(text: &[u8], values: &mut [i32; 64]) -> usize
     let s = sheet_after(text);
     let last = s.values;
     *values = last;
-    let p = s.panel;
-    p.size
+    s.panel.size
 }

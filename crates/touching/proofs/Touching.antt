@@ -12,6 +12,7 @@ use lib.Dec.{ltb}
 use lib.ListN.{length, set}
 use lib.Seq.{set-get_or}
 use Rattle.fieldset.specs.Tables.{at, tabulate}
+use Rattle.fieldset.proofs.Numbers.{clash}
 use Rattle.fieldset.specs.Fields.{only, below}
 use Rattle.fieldset.proofs.Tables.{length_tabulate, get_d_tabulate}
 use Rattle.fieldset.proofs.Fields.{member_some, member_only, member_below}
@@ -19,10 +20,10 @@ use Rattle.strength.specs.Filling.{Within}
 use Rattle.panel.specs.declared.Standing.TheVariants.{Waiting}
 use Rattle.panel.specs.declared.Link.{Link}
 use Rattle.panel.specs.declared.Panel.{Panel}
-use Rattle.panel.specs.declared.Refusal.{Refusal}
 use Rattle.panel.specs.declared.Refusal.TheVariants.{Loop}
-use Rattle.panel.specs.declared.Reply.{Reply}
-use Rattle.panel.specs.declared.Reply.TheVariants.{Accepted, Refused}
+use Rattle.panel.specs.Answers.{Reply}
+use Rattle.std.specs.Prelude.{Ok, Err}
+use Rattle.std.specs.Result.{is_err}
 use Rattle.panel.specs.declared.Step.{Step}
 use Rattle.panel.specs.Items.{stay, no_link, link_at, in_force, waits}
 use Rattle.panel.specs.Answers.{Answer, refused, reply_bytes}
@@ -48,13 +49,24 @@ use Rattle.reversal.proofs.Steps.{after, Change, decides_free, resolved_loop, re
 -- ---- the checks
 
 module _ (p : Panel) (f : ℕ) (reply : Reply) (checks : reply_bytes reply ≡ check_reply (check_touch p.size f)) where
-  pub touch_refused : (x : Refusal) → reply ≡ Refused x → refused p x ≡ performed p (touching f)
-  touch_refused = reply_refused p (check_touch p.size f) (touch_checks p f) (touch_step p f) (agree_same (touch_checks p f)) reply checks
+  pub touch_refused : is_err reply ≡ true → (k : ℕ) (named : Link) → named ≡ link_at p.links k → (path : List ℕ) → length path ≡ 64 → (s : Step)
+      → s ≡ unchanged p.size p.place named reply → Decides p k (touching f) path s
+  touch_refused refuses k named same path long s is = go reply refl
+    where
+      go : (r : Reply) → reply ≡ r → Decides p k (touching f) path s
+      go (Ok m) e = absurd (clash refuses (ap is_err e))
+      go (Err x) e =
+          decides_refused p k named reply (touching f) path long x s same e
+          (reply_refused p (check_touch p.size f) (touch_checks p f) (touch_step p f) (agree_same (touch_checks p f)) reply checks x e) is
 
-  pub touch_passes : (m : ℕ) → reply ≡ Accepted m → (f < p.size) × (performed p (touching f) ≡ touch_step p f)
-  touch_passes m e =
-      let (_, none, step) = reply_accepted p (check_touch p.size f) (touch_checks p f) (touch_step p f) (agree_same (touch_checks p f)) reply checks m e in
-      (touchable p f none, step)
+  pub touch_passes : is_err reply ≡ false → (f < p.size) × (performed p (touching f) ≡ touch_step p f)
+  touch_passes accepts = go reply refl
+    where
+      go : (r : Reply) → reply ≡ r → (f < p.size) × (performed p (touching f) ≡ touch_step p f)
+      go (Err x) e = absurd (clash (ap is_err e) accepts)
+      go (Ok m) e =
+          let (_, none, step) = reply_accepted p (check_touch p.size f) (touch_checks p f) (touch_step p f) (agree_same (touch_checks p f)) reply checks m e in
+          (touchable p f none, step)
 
 -- ---- the panel with the stay in front
 
@@ -195,13 +207,13 @@ module _ {p : Panel} {f : ℕ} {cmd : Command} {place : List ℕ} (x : Front p f
 
   module _ {levels others reads : List ℕ} (tab : Tabled p levels others reads) (path : List ℕ) (t : Verdict) (judged : Judged others reads levels path t)
       (k : ℕ) (named : Link) (same : named ≡ link_at p.links k) (s : Step) where
-    pub touch_looped : t ≡ Looped → s ≡ unchanged p.size p.place named (Refused Loop) → Decides p k cmd path s
+    pub touch_looped : t ≡ Looped → s ≡ unchanged p.size p.place named (Err Loop) → Decides p k cmd path s
     touch_looped e is = go judged
       where
         go : Judged others reads levels path t → Decides p k cmd path s
         go (inl (low, fresh, levels_are, resolved)) =
             let looped = subst (Resolved fresh others p.size 16 (only f) (only f) reads path) e resolved in
-            decides_refused p k named (Refused Loop) cmd path looped.1.1.fields.full Loop s same refl
+            decides_refused p k named (Err Loop) cmd path looped.1.1.fields.full Loop s same refl
             (resolved_looped low tab levels_are path k named same looped) is
         go (inr (high, free, long)) = let z : Free ≡ Looped = sym free ∙ e in let y : ◌≡◌ {A = ℕ} 0 1 = cc in absurd (omega arith)
 

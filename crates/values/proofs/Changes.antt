@@ -9,6 +9,9 @@ use native.Mathlib.Omega.{arith}
 use borrow.Author.Tests.{le-ltb, ltb-true, ltb-false}
 use lib.Dec.{ltb}
 use lib.IntN.{ℤ, pos, negsuc}
+use mir.Syntax.{w32}
+use mir.Val.{SFits, of_z, to_z}
+use mir.Facts.{to_z-of_z}
 use Rattle.fieldset.specs.Fields.{member}
 use Rattle.fieldset.proofs.Tests.{and_left, and_right}
 use Rattle.fieldset.proofs.Numbers.{clash}
@@ -31,18 +34,28 @@ neither_less m n e = go (ltb m n) refl (ltb n m) refl
     go false x true y = absurd (clash (rw (x, y) refl) e)
     go false x false y = omega (arith, ltb-false m n x, ltb-false n m y)
 
-not_differ : (a b : ℤ) → differ a b ≡ false → a ≡ b
-not_differ (pos m) (pos n) e = ap pos (neither_less m n e)
-not_differ (pos m) (negsuc n) e = absurd (clash refl e)
-not_differ (negsuc m) (pos n) e = absurd (clash refl e)
-not_differ (negsuc m) (negsuc n) e = ap negsuc (sym (neither_less n m e))
+same_of : (a b : ℤ) → differ a b ≡ false → a ≡ b
+same_of (pos m) (pos n) e = ap pos (neither_less m n e)
+same_of (pos m) (negsuc n) e = absurd (clash refl e)
+same_of (negsuc m) (pos n) e = absurd (clash refl e)
+same_of (negsuc m) (negsuc n) e = ap negsuc (sym (neither_less n m e))
+
+not_differ : {a b : ℤ} → a ≡ b → differ a b ≡ false
+not_differ {a} {b} e = ap (λ (x : ℤ). differ x b) e ∙ differ_self b
 
 pub differ_exactly : (a b : ℤ) → differ a b ≡ true ↔ (a ≢ b)
-differ_exactly a b = (λ e d. clash e (ap (λ (x : ℤ). differ x b) d ∙ differ_self b), λ apart. go apart (differ a b) refl)
+differ_exactly a b = (λ e d. clash e (not_differ d), λ apart. go apart (differ a b) refl)
   where
     go : a ≢ b → (x : Bool) → differ a b ≡ x → x ≡ true
     go apart true e = refl
-    go apart false e = absurd (apart (not_differ a b e))
+    go apart false e = absurd (apart (same_of a b e))
+
+-- what the test of two values' bits tells
+pub bits_differ : (a b : ℤ) → (of_z w32 a ≡ of_z w32 b → ⊥) → differ a b ≡ true
+bits_differ a b apart = (differ_exactly a b).1 (λ e. apart (ap (of_z w32) e))
+
+pub bits_same : {a b : ℤ} → SFits w32 a → SFits w32 b → of_z w32 a ≡ of_z w32 b → differ a b ≡ false
+bits_same {a} {b} h k e = not_differ (sym (to_z-of_z h) ∙ ap (to_z w32) e ∙ to_z-of_z k)
 
 -- ---- the fields whose values changed
 

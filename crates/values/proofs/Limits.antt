@@ -1,5 +1,5 @@
 -- Laws of the limits.
-use Prim.Native.Nat.{ℕ, ◌-◌, ◌<◌}
+use Prim.Native.Nat.{ℕ, ◌<◌}
 use mathlib.Core.Path.{◌≡◌, refl, sym}
 use mathlib.Core.Bool.{Bool, true, false, cond, or-true}
 use mathlib.Core.List.{[], ◌∷◌}
@@ -9,16 +9,16 @@ use lib.IntN.{ℤ, pos, negsuc}
 use lib.Signed.{lt_z, mag}
 use mir.Syntax.{w32}
 use mir.Val.{SFits}
+use Rattle.std.specs.Prelude.{Option, Some, None, Result, Ok, Err, OkIff}
+use Rattle.std.specs.Result.{result_ok}
 use Rattle.values.specs.Limits.{least, greatest, outside, limited_values, limited}
-use Rattle.values.specs.declared.Limited.{Limited}
-use Rattle.values.specs.declared.Limited.TheVariants.{Value, OutOfRange}
 
 -- the values of an answer tell its cases apart
-pub limited_apart : (a b : Limited) → limited_values a ≡ limited_values b → a ≡ b
-limited_apart (Value x) (Value y) e = cc
-limited_apart (Value x) OutOfRange e = let z : ◌≡◌ {A = ℕ} 0 1 = cc in absurd (omega arith)
-limited_apart OutOfRange (Value y) e = let z : ◌≡◌ {A = ℕ} 0 1 = cc in absurd (omega arith)
-limited_apart OutOfRange OutOfRange e = refl
+pub limited_apart : (a b : Option ℤ) → limited_values a ≡ limited_values b → a ≡ b
+limited_apart (Some x) (Some y) e = cc
+limited_apart (Some x) None e = let z : ◌≡◌ {A = ℕ} 0 1 = cc in absurd (omega arith)
+limited_apart None (Some y) e = let z : ◌≡◌ {A = ℕ} 0 1 = cc in absurd (omega arith)
+limited_apart None None e = refl
 
 pub limited_low : (z : ℤ) → lt_z z least ≡ true → [] ≡ limited z
 unfolding limited
@@ -51,6 +51,20 @@ limited_fits {z} h = sym (limited_value z (low z h.sfits) (high z h.sfits))
     high : (z : ℤ) → mag z < 2147483648 → lt_z greatest z ≡ false
     high (pos n) h = le-ltb 2147483647 n (omega arith)
     high (negsuc n) h = refl
+
+-- and a result that does not fit is outside
+limited_out : (z : ℤ) → ¬ SFits w32 z → [] ≡ limited z
+limited_out z none = go (lt_z z least) refl (lt_z greatest z) refl
+  where
+    go : (low : Bool) → lt_z z least ≡ low → (high : Bool) → lt_z greatest z ≡ high → [] ≡ limited z
+    go true e high f = limited_low z e
+    go false e true f = limited_high z f
+    go false e false f = absurd (none (value_fits z e f))
+
+-- so what a conversion to 32 bits answers is held to the limits
+pub limited_ok : {E : Type 0} (z : ℤ) (r : Result ℤ E) → OkIff r (SFits w32 z) z → limited_values (result_ok r) ≡ limited z
+limited_ok z (Ok x) (h, e) = rw e (sym (limited_fits h))
+limited_ok z (Err e) h = limited_out z h
 
 -- a result that is answered is within the limits
 pub limited_same : (z : ℤ) {x : ℤ} → x ∷ [] ≡ limited z → (x ≡ z) × (outside z ≡ false)

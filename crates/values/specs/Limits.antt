@@ -1,8 +1,6 @@
 -- The limits of a value (document 02, request 2): "whole-number values from −2,147,483,648 to 2,147,483,647".
-use Rattle.std.specs.Prelude.{ℕ, Bool, ◌||◌, cond, List, [], ◌∷◌, ℤ, pos, negsuc, get_or}
+use Rattle.std.specs.Prelude.{ℕ, Bool, ◌||◌, cond, List, [], ◌∷◌, ℤ, pos, negsuc, get_or, Option, Some, None}
 use Rattle.std.specs.Int.Signed.{lt_z}
-use Rattle.values.specs.declared.Limited.{Limited}
-use Rattle.values.specs.declared.Limited.TheVariants.{Value, OutOfRange}
 
 -- the value at a place of a table
 abbrev pub value_at : List ℤ → ℕ → ℤ
@@ -20,9 +18,9 @@ abbrev pub outside : ℤ → Bool
 outside z = lt_z z least || lt_z greatest z
 
 -- what is answered of a result that is held to the limits, by its values: the result, and none where it is outside
-abbrev pub limited_values : Limited → List ℤ
-limited_values (Value x) = x ∷ []
-limited_values OutOfRange = []
+abbrev pub limited_values : Option ℤ → List ℤ
+limited_values (Some x) = x ∷ []
+limited_values None = []
 
 unfoldable pub limited : ℤ → List ℤ
 limited z = cond (outside z) [] (z ∷ [])

@@ -5,7 +5,7 @@ use Rattle.panel.specs.declared.Panel.{Panel}
 use Rattle.panel.specs.Items.{link_at}
 use Rattle.values.specs.Limits.{outside}
 use Rattle.values.specs.Words.{bits_of}
-use Rattle.formulas.specs.declared.Formulas.{Formulas}
+use Rattle.formulas.specs.Formulas.{Rule}
 use Rattle.sheet.specs.Sheets.{formula_at}
 use Rattle.images.specs.Forms.{is_place, is_link, holds, is_setter, is_rule, is_value}
 
@@ -20,5 +20,5 @@ value_test n f x = not (outside x) && (ltb f n || eqb (bits_of x) 0)
 unfoldable pub field_test : Panel → List ℤ → ℕ → Bool
 field_test p values f = is_place p.place p.size f && (is_setter p.links p.setter f && is_value p.size values f)
 
-unfoldable pub link_test : Panel → Formulas → ℕ → Bool
+unfoldable pub link_test : Panel → List Rule → ℕ → Bool
 link_test p formulas i = is_link p.size p.setter i (link_at p.links i) && is_rule (link_at p.links i) (formula_at formulas i)

@@ -1,11 +1,11 @@
 -- Writing a line: runs of stores, each behind the one before, are one run (`sets_append`), byte by byte and then part by part.
 use mathlib.Core.Path.{◌≡◌, refl, sym, ap, ap₂, ◌∙◌}
 use mathlib.Core.List.{List, [], ◌∷◌, ◌++◌}
-use Prim.Native.Nat.{ℕ, ◌+◌, ◌*◌, ◌/◌, ◌%◌, ◌≤◌, ◌<◌}
+use Prim.Native.Nat.{ℕ, ◌+◌, ◌*◌, ◌/◌, ◌%◌, ◌<◌}
 use native.Mathlib.Numerals.{add-one}
 use native.Mathlib.Omega.{arith}
 use lib.ListN.{length, get_or, take, set, length-take}
-use lib.Seq.{sets, take-suc, take_all}
+use lib.Seq.{sets, take-suc}
 use Rattle.fieldset.proofs.Tables.{sets_append}
 use Rattle.hexadecimal.specs.Hex.{char_of, hex_of, line_of}
 use Rattle.hexadecimal.proofs.Bytes.{length_hex, length_line}
@@ -16,25 +16,24 @@ hex_append [] b = refl
 hex_append (x ∷ a) b = ap (λ (t : List ℕ). char_of (x / 16) ∷ char_of (x % 16) ∷ t) (hex_append a b)
 
 -- a byte's two digits
-pub byte_put : (o o₁ o₂ : List ℕ) (at b x y : ℕ) → x ≡ char_of (b / 16) → o₁ ≡ set o at x → y ≡ char_of (b % 16) → o₂ ≡ set o₁ (at + 1) y
+pub byte_put : (o o₁ o₂ d : List ℕ) (at b : ℕ) → d ≡ hex_of (b ∷ []) → o₁ ≡ set o at (get_or d 0 0) → o₂ ≡ set o₁ (at + 1) (get_or d 1 0)
     → o₂ ≡ sets o at (hex_of (b ∷ []))
 unfolding hex_of
-byte_put o o₁ o₂ at b x y ex e₁ ey e₂ =
-    e₂ ∙ ap₂ (λ (l : List ℕ) (z : ℕ). set l (at + 1) z) (e₁ ∙ ap (set o at) ex) ey
+byte_put o o₁ o₂ d at b ed e₁ e₂ =
+    e₂ ∙ ap₂ (λ (l : List ℕ) (z : ℕ). set l (at + 1) z) (e₁ ∙ ap (λ (l : List ℕ). set o at (get_or l 0 0)) ed) (ap (λ (l : List ℕ). get_or l 1 0) ed)
     ∙ ap (λ (k : ℕ). set (set o at (char_of (b / 16))) k (char_of (b % 16))) (add-one at)
 
 -- the first i bytes are written at p
 pub record Written (bytes before after : List ℕ) (p i : ℕ) : Type 0 where
-  pub within : i ≤ length bytes
   pub digits : after ≡ sets before p (hex_of (take i bytes))
 
 pub written_none : (bytes o : List ℕ) (p : ℕ) → Written bytes o o p 0
 unfolding hex_of
-written_none bytes o p = record { within = omega arith; digits = refl }
+written_none bytes o p = record { digits = refl }
 
 pub written_more : (bytes o q after : List ℕ) (p i : ℕ) → Written bytes o q p i → i < length bytes
     → after ≡ sets q (p + 2 * i) (hex_of (get_or bytes i 0 ∷ [])) → Written bytes o after p (i + 1)
-written_more bytes o q after p i was less e = record { within = omega arith; digits = e ∙ more } where
+written_more bytes o q after p i was less e = record { digits = e ∙ more } where
   place : p + 2 * i ≡ p + length (hex_of (take i bytes))
   place = omega (arith, length_hex (take i bytes), length-take i bytes)
 
@@ -44,9 +43,6 @@ written_more bytes o q after p i was less e = record { within = omega arith; dig
       ∙ sets_append o p (hex_of (take i bytes)) (hex_of (get_or bytes i 0 ∷ []))
       ∙ ap (sets o p) (sym (hex_append (take i bytes) (get_or bytes i 0 ∷ []))
       ∙ ap hex_of (sym (take-suc bytes i 0 less) ∙ ap (λ (k : ℕ). take k bytes) (sym (add-one i))))
-
-pub written_all : (bytes o after : List ℕ) (p i : ℕ) → Written bytes o after p i → length bytes ≤ i → after ≡ sets o p (hex_of bytes)
-written_all bytes o after p i was end = was.digits ∙ ap (λ (l : List ℕ). sets o p (hex_of l)) (take_all i bytes end)
 
 -- a whole line: two bytes, further ones, LF
 line_done : (o : List ℕ) (at a b : ℕ) (r : List ℕ)

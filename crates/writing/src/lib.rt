@@ -1,7 +1,7 @@
 // Bytes written as lines of hexadecimal, as far as they fit a buffer.
 #![tactic(auto)]
 
-ghost use Rattle.std.specs.Prelude.{◌≡◌, ◌∷◌, [], ◌+◌, ◌*◌, ◌/◌, ◌%◌, ◌^◌, ◌<◌, ◌≤◌, length, set};
+ghost use Rattle.std.specs.Prelude.{◌≡◌, ◌∷◌, [], ◌+◌, ◌*◌, ◌^◌, ◌<◌, ◌≤◌, length, set};
 ghost use Rattle.std.proofs.lemmas.List.Edits.{sets};
 ghost use Rattle.hexadecimal.specs.Hex.{char_of, hex_of, line_of};
 
@@ -27,16 +27,10 @@ pub fn store(out: &mut [u8], at: usize, x: u8)
 }
 
 // A byte's two digits.
-fn high_char(b: u8) -> u8
-    ensures { result ≡ char_of (b / 16) }
+fn digits_of(b: u8) -> [u8; 2]
+    ensures { result ≡ hex_of (b ∷ []) }
 {
-    char_of(b / 16)
-}
-
-fn low_char(b: u8) -> u8
-    ensures { result ≡ char_of (b % 16) }
-{
-    char_of(b % 16)
+    [char_of(b / 16), char_of(b % 16)]
 }
 
 // A byte as two digits at a position, as far as they fit.
@@ -44,8 +38,9 @@ pub fn put(out: &mut [u8], at: usize, b: u8)
     requires { at + 1 < 2 ^ 64 }
     ensures { out.new ≡ sets out.old at (hex_of (b ∷ [])) }
 {
-    store(out, at, high_char(b));
-    store(out, at + 1, low_char(b));
+    let [high, low] = digits_of(b);
+    store(out, at, high);
+    store(out, at + 1, low);
 }
 
 // Bytes as digits at a position, all of which fit: without a test for each store the compiler makes many digits at once.
@@ -53,11 +48,10 @@ fn put_all(out: &mut [u8], at: usize, bytes: &[u8])
     requires { at + 2 * length bytes.now ≤ length out.old }
     ensures { out.new ≡ sets out.old at (hex_of bytes.now) }
 {
-    let mut i = 0;
-    while i < bytes.len() {
-        out[at + 2 * i] = high_char(bytes[i]);
-        out[at + 2 * i + 1] = low_char(bytes[i]);
-        i += 1;
+    for (i, &b) in bytes.iter().enumerate() {
+        let [high, low] = digits_of(b);
+        out[at + 2 * i] = high;
+        out[at + 2 * i + 1] = low;
     }
 }
 
@@ -66,14 +60,11 @@ pub fn put_bytes(out: &mut [u8], at: usize, bytes: &[u8])
     requires { at + 1 + 2 * length bytes.now < 2 ^ 64 }
     ensures { out.new ≡ sets out.old at (hex_of bytes.now) }
 {
-    let n = bytes.len();
-    if at + 2 * n <= out.len() {
+    if at + 2 * bytes.len() <= out.len() {
         put_all(out, at, bytes);
     } else {
-        let mut i = 0;
-        while i < n {
-            put(out, at + 2 * i, bytes[i]);
-            i += 1;
+        for (i, &b) in bytes.iter().enumerate() {
+            put(out, at + 2 * i, b);
         }
     }
 }

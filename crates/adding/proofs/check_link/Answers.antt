@@ -5,10 +5,6 @@ use borrow.Author.Tests.{lt-ltb, le-ltb}
 use Rattle.panel.specs.Commands.{check_reply}
 use Rattle.adding.proofs.check_link.Goals as goal
 
--- ---- the places: an open panel, its link looked at, its fields looked at
-
--- ---- the needs
-
 pub returns-then-n-eq0 : goal.returns-then-n-eq0
 unfolding check_reply
 returns-then-n-eq0 c = rw (le-ltb 0 c.args.n (omega arith)) refl
@@ -29,28 +25,28 @@ returns-then-not-within c =
       c.if-not-within.true,
     ) refl
 
-pub returns-then-wrong : goal.returns-then-wrong
+pub returns-in-Some : goal.returns-in-Some
 unfolding check_reply
-returns-then-wrong c =
+returns-in-Some c =
     rw (
+      c.in-Some.is,
       lt-ltb 0 c.args.n (omega arith),
       ← c.is_bad_link.ensures,
       c.if-is_bad_link.false,
       ← c.below.ensures,
       ← c.within.ensures,
       c.if-not-within.false,
-      c.if-wrong.true,
     ) refl
 
 pub returns : goal.returns
 unfolding check_reply
 returns c =
     rw (
+      c.in_default.is,
       lt-ltb 0 c.args.n (omega arith),
       ← c.is_bad_link.ensures,
       c.if-is_bad_link.false,
       ← c.below.ensures,
       ← c.within.ensures,
       c.if-not-within.false,
-      c.if-wrong.false,
     ) refl

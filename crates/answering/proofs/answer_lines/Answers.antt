@@ -14,24 +14,28 @@ use Rattle.fieldset.specs.Fields.{below, union}
 use Rattle.fieldset.specs.Tables.{at}
 use Rattle.downstream.specs.Downstream.{gathered}
 use Rattle.panel.specs.declared.Panel.{Panel}
-use Rattle.panel.specs.declared.Reply.{Reply}
+use Rattle.std.specs.Prelude.{Result, Ok, Err}
+use Rattle.std.specs.Result.{result_and, result_unwrap_or}
+use Rattle.panel.specs.declared.Refusal.{Refusal}
+use Rattle.panel.specs.Answers.{Reply}
 use Rattle.panel.specs.declared.Step.{Step}
 use Rattle.panel.specs.Items.{link_at}
 use Rattle.panel.specs.Legal.{Legal}
 use Rattle.panel.proofs.Moved.{turned_lt}
 use Rattle.panel.specs.Outcomes.{Takes, counted, redrawn_by}
-use Rattle.formulas.specs.declared.Formulas.{Formulas}
+use Rattle.formulas.specs.Formulas.{Rule}
 use Rattle.sheet.specs.declared.Sheet.{Sheet}
 use Rattle.sheet.specs.Sheets.{sheet_of, formula_at, with_formula}
 use Rattle.sheet.specs.Legal.{LegalSheet}
 use Rattle.tables.proofs.Settings.{places}
-use Rattle.tables.specs.Tables.{Tabled}
+use Rattle.tables.specs.declared.Tables.{Tables}
+use Rattle.tables.specs.Tables.{TablesOf, Tabled}
 use Rattle.taking.proofs.Taking.{Taken, places_taken, taken_reversed, tabled_altered, taken_unmoved}
 use Rattle.keeping.specs.Keeping.{Kept}
 use Rattle.redrawing.proofs.Redrawing.{Stale, Sizes, redrawn_is, stale_start, stale_change, stale_step}
 use Rattle.hexadecimal.specs.Hex.{line_of}
 use Rattle.tally.specs.Tallies.{tallied}
-use Rattle.changing.specs.declared.Changed.{Changed}
+use Rattle.changing.specs.Changed.{moved_by, reply_by}
 use Rattle.frames.specs.declared.Command.{Command}
 use Rattle.frames.specs.declared.Command.TheVariants.{Open, Add, Remove, Touch, Plan, Change, Enter, Relate, Refused}
 use Rattle.frames.specs.contracts.Command.{the_type}
@@ -62,8 +66,6 @@ use Rattle.answering.proofs.answer_lines.Goals.{
   in_default-command-2,
   then-sets_formula,
   else-sets_formula,
-  then-loop-at-test+else-room-n-ge-LONGEST,
-  else-loop-at-test,
 }
 
 -- ---- what the tests of the command leave
@@ -107,58 +109,69 @@ moved : {s : Sheet} {tail path path' rows rows' : List ℕ} {c c' : Command} {va
     → values ≡ values' → step ≡ step' → Stepped s (number_of c') c' tail path' rows' values' step' → Stepped s (number_of c) c tail path rows values step
 moved e ep er ev es d = rw (e, ep, er, ev, es) d
 
-taken_as : {after q q' : Panel} {levels levels' others others' reads reads' : List ℕ} → q ≡ q' → levels ≡ levels' → others ≡ others' → reads ≡ reads'
-    → Taken after q' levels' others' reads' → Taken after q levels others reads
-taken_as e el eo er d = rw (e, el, eo, er) d
+abbrev TakenBy : Panel → Panel → Tables → Type 0
+TakenBy after q t = Taken after q t.levels t.others t.reads
+
+taken_as : {after q q' : Panel} {tables tables' : Tables} → q ≡ q' → tables ≡ tables' → TakenBy after q' tables' → TakenBy after q tables
+taken_as e et d = rw (e, et) d
 
 -- the panel after the line and its tables, the rest of the answer, and what is kept from before it
-record Settled (s : Sheet) (k : Command) (tail rows : List ℕ) (values : List ℤ) (revalued : ℕ) (line : List ℕ) (before : ℕ) (q : Panel) (levels others reads : List ℕ)
+record Settled (s : Sheet) (k : Command) (tail rows : List ℕ) (values : List ℤ) (revalued : ℕ) (line : List ℕ) (before : ℕ) (q : Panel) (tables : Tables)
     (reply : Reply) (turned stale worked : ℕ) (shown readers down : List ℕ) : Type 0 where
   panel : q ≡ (command_answer s k tail).state.panel
   legal : Legal q
-  tabled : Tabled q levels others reads
+  tabled : TablesOf q tables
   rest : AnswerRest s (number_of k) k tail rows values (counted reply (redrawn_by turned revalued q))
   small : turned < 2 ^ 64
-  due : Stale q.size stale reads shown readers down
+  due : Stale q.size stale tables.reads shown readers down
   scan : worked ≡ line_scan before s line
 
 settled_as : {s : Sheet} {k : Command} {tail rows : List ℕ} {values : List ℤ} {revalued : ℕ} {line : List ℕ} {before : ℕ} {q q' : Panel}
-    {levels levels' others others' reads reads' : List ℕ} {reply reply' : Reply} {turned turned' stale stale' worked worked' : ℕ} {shown readers down : List ℕ}
-    → q ≡ q' → levels ≡ levels' → others ≡ others' → reads ≡ reads' → reply ≡ reply' → turned ≡ turned' → stale ≡ stale' → worked ≡ worked'
-    → Settled s k tail rows values revalued line before q' levels' others' reads' reply' turned' stale' worked' shown readers down
-    → Settled s k tail rows values revalued line before q levels others reads reply turned stale worked shown readers down
-settled_as eq el eo er ey et es ew d = rw (eq, el, eo, er, ey, et, es, ew) d
+    {tables tables' : Tables} {reply reply' : Reply} {turned turned' stale stale' worked worked' : ℕ} {shown readers down : List ℕ}
+    → q ≡ q' → tables ≡ tables' → reply ≡ reply' → turned ≡ turned' → stale ≡ stale' → worked ≡ worked'
+    → Settled s k tail rows values revalued line before q' tables' reply' turned' stale' worked' shown readers down
+    → Settled s k tail rows values revalued line before q tables reply turned stale worked shown readers down
+settled_as eq el ey et es ew d = rw (eq, el, ey, et, es, ew) d
+
+-- what a change answers, by the code's calls
+reply_is : (r : Result ℕ Refusal) → result_and r (Ok 0) ≡ reply_by r
+reply_is (Ok set) = refl
+reply_is (Err x) = refl
+
+moved_is : (r : Result ℕ Refusal) → result_unwrap_or r 0 ≡ moved_by r
+moved_is (Ok set) = refl
+moved_is (Err x) = refl
 
 module _ {s : Sheet} {k : Command} {tail path rows : List ℕ} {values : List ℤ} {step : Step} (d : Stepped s (number_of k) k tail path rows values step) (h : LegalSheet s)
     {levels others reads readers down : List ℕ} (tabled : Tabled s.panel levels others reads) (kept : Kept s.panel.size reads readers down)
     {line : List ℕ} (read : command_bytes k tail ≡ frame_of line) {before : ℕ} where
   -- after a change; the reads may differ from those that are kept in any field
-  change_settled : {id level : ℕ} → k ≡ Change id level → {p : Panel} → p ≡ step_panel s tail k → {levels' others' reads' : List ℕ} {was worked : ℕ} {r : Changed}
-      → was ≡ before → ChangedLine p tail levels' others' reads' was worked r k
-      → Settled s k tail rows values step.revalued line before r.panel levels' others' reads' r.reply r.changed (below r.panel.size) worked reads readers down
-  change_settled {id} {level} is {p} same {levels'} {others'} {reads'} {was} {worked} {r} same_scan done =
-      let panel : r.panel ≡ (command_answer s k tail).state.panel = changed_panel s k tail path rows values step d id level is p same levels' others' reads' was worked r done in
-      let now : Tabled r.panel levels' others' reads' = changed_tabled s k tail path rows values step d id level is p same levels' others' reads' was worked r done in
-      let legal : Legal r.panel = subst Legal (sym panel) (answer_legal s k tail h).panel in
+  change_settled : {id level : ℕ} → k ≡ Change id level → {p : Panel} → p ≡ step_panel s tail k → {tables' : Tables} {was worked : ℕ} {q : Panel} (r : Result ℕ Refusal)
+      → was ≡ before → ChangedLine p tail tables' was worked q r k
+      → Settled s k tail rows values step.revalued line before q tables' (reply_by r) (moved_by r) (below q.size) worked reads readers down
+  change_settled {id} {level} is {p} same {tables'} {was} {worked} {q} r same_scan done =
+      let panel : q ≡ (command_answer s k tail).state.panel = changed_panel s k tail path rows values step d id level is p same tables' was worked q r done in
+      let now : TablesOf q tables' = changed_tabled s k tail path rows values step d id level is p same tables' was worked q r done in
+      let legal : Legal q = subst Legal (sym panel) (answer_legal s k tail h).panel in
       record {
         panel = panel;
         legal = legal;
         tabled = now;
-        rest = changed_rest s k tail path rows values step d id level is p same levels' others' reads' was worked r done;
+        rest = changed_rest s k tail path rows values step d id level is p same tables' was worked q r done;
         small =
-            subst (λ (x : ℕ). x < 2 ^ 64) (sym (changed_turned s k tail path rows values step d id level is p same levels' others' reads' was worked r done))
+            subst (λ (x : ℕ). x < 2 ^ 64) (sym (changed_turned s k tail path rows values step d id level is p same tables' was worked q r done))
             (turned_lt _ _ legal.few);
         due = stale_change h.panel legal (subst (Sizes s.panel) (sym panel) (answer_sizes s k tail)) tabled kept now;
         scan =
-            changed_worked s k tail path rows values step d id level is p same levels' others' reads' was worked r done line read
+            changed_worked s k tail path rows values step d id level is p same tables' was worked q r done line read
             ∙ ap (λ (b : ℕ). line_scan b s line) same_scan;
       }
 
   -- after another line; in the fields that got another setter
   step_settled : OneOf (0 ∷ 1 ∷ 2 ∷ 3 ∷ 4 ∷ 6 ∷ 7 ∷ 8 ∷ []) (tag_of the_type k) → {n : ℕ} → n < 128 → Takes s.panel n path step (step_panel s tail k)
-      → {q : Panel} {levels' others' reads' : List ℕ} {worked : ℕ} → Taken (step_panel s tail k) q levels' others' reads' → worked ≡ line_scan before s line
-      → Settled s k tail rows values step.revalued line before q levels' others' reads' step.reply step.changed step.changed worked reads readers down
-  step_settled other {n} small takes {q} {levels'} {others'} {reads'} t scan =
+      → {q : Panel} {tables' : Tables} {worked : ℕ} → TakenBy (step_panel s tail k) q tables' → worked ≡ line_scan before s line
+      → Settled s k tail rows values step.revalued line before q tables' step.reply step.changed step.changed worked reads readers down
+  step_settled other {n} small takes {q} {tables'} t scan =
       let after : Panel = step_panel s tail k in
       let legal : Legal after = step_legal s tail k h in
       let same = step_panel_lem k other d in
@@ -170,8 +183,8 @@ module _ {s : Sheet} {k : Command} {tail path rows : List ℕ} {values : List �
             subst (λ (p : Panel). AnswerRest s (number_of k) k tail rows values (counted step.reply (redrawn_by step.changed step.revalued p))) (sym t.panel) same.1;
         small = subst (λ (x : ℕ). x < 2 ^ 64) (sym takes.changed) (turned_lt _ _ legal.few);
         due =
-            subst (λ (p : Panel). Stale p.size step.changed reads' reads readers down) (sym t.panel)
-            (stale_step h.panel legal (step_sizes s tail k) tabled kept (subst (λ (p : Panel). Tabled p levels' others' reads') t.panel t.tabled) takes small);
+            subst (λ (p : Panel). Stale p.size step.changed tables'.reads reads readers down) (sym t.panel)
+            (stale_step h.panel legal (step_sizes s tail k) tabled kept (subst (λ (p : Panel). TablesOf p tables') t.panel t.tabled) takes small);
         scan = scan;
       }
 
@@ -179,19 +192,19 @@ module _ {s : Sheet} {k : Command} {tail path rows : List ℕ} {values : List �
 
 pub refresh-requires-clause-kept : goal.refresh-requires-clause-kept
 refresh-requires-clause-kept c =
-    let k : Stale c.args.s.panel.size c.below-all.result c.fill_tables.new.reads (replicate 64 0) (replicate 64 0) (replicate 64 0) =
-    rw c.below-all.ensures (stale_start c.requires.0.panel c.fill_tables.ensures) in
+    let k : Stale c.args.s.panel.size c.below-all.result c.tables_of-tables.result.reads (replicate 64 0) (replicate 64 0) (replicate 64 0) =
+    rw c.below-all.ensures (stale_start c.requires.0.panel c.tables_of-tables.ensures) in
     (k.kept, k.full, k.among, k.loopless)
 
 pub refresh-requires-clause-within : goal.refresh-requires-clause-within
 refresh-requires-clause-within c =
-    let k : Stale c.args.s.panel.size c.below-all.result c.fill_tables.new.reads (replicate 64 0) (replicate 64 0) (replicate 64 0) =
-    rw c.below-all.ensures (stale_start c.requires.0.panel c.fill_tables.ensures) in
+    let k : Stale c.args.s.panel.size c.below-all.result c.tables_of-tables.result.reads (replicate 64 0) (replicate 64 0) (replicate 64 0) =
+    rw c.below-all.ensures (stale_start c.requires.0.panel c.tables_of-tables.ensures) in
     (k.low, k.differ)
 
 pub loop-at-init : goal.loop-at-init
 loop-at-init c =
-    (refl, refl, c.fill_tables.ensures, start _ _ _ _ _ _ _ _ _ c.requires.0, c.refresh.ensures.0, c.refresh.ensures.1)
+    (refl, refl, c.tables_of-tables.ensures, start _ _ _ _ _ _ _ _ _ c.requires.0, c.refresh.ensures.0, c.refresh.ensures.1)
 
 pub slice_bounds-read_line-end : goal.slice_bounds-read_line-end
 slice_bounds-read_line-end c = end_within c.args.text.now c.loop-at.at c.line_end-end.result c.loop-at-test.true c.line_end-end.ensures
@@ -200,8 +213,8 @@ pub decide_line-step-requires : goal.decide_line-step-requires
 decide_line-step-requires c =
     let l = c.loop-at.invariant in
     record {
-      legal = (l.3.legal.panel, l.2, ap (link_at c.loop-at.q.links) (c.wide-k.ensures ∙ c.number_of.ensures.0));
-      framed = (framed _ _ c.read_line-line.ensures, l.1, l.0);
+      legal = (l.3.legal.panel, l.2, ap (link_at c.loop-at.q.links) (c.from-k.ensures ∙ c.number_of.ensures.0));
+      framed = framed _ _ c.read_line-line.ensures;
     }
 
 pub setters-setter-requires : goal.setters-setter-requires
@@ -211,7 +224,7 @@ setters-setter-requires c =
     record { legal = (l.3.legal.panel, l.2); legal_2 = touch_taken l.3.legal.panel t.decides }
 
 pub value_of-v-requires : goal.value_of-v-requires
-value_of-v-requires c = let f = framed _ _ c.read_line-line.ensures in (f.full, f.short)
+value_of-v-requires c = (framed _ _ c.read_line-line.ensures).short
 
 pub enter-requires : goal.enter-requires
 enter-requires c =
@@ -219,7 +232,7 @@ enter-requires c =
     let t = entered_touch _ _ (tail_of c.read_line-line.result) _ _ _ c.read_line-line.result.command _ _ c.in-Enter.is c.decide_line-step.ensures in
     record {
       legal_sheet =
-          (l.3.legal, ap (link_at c.loop-at.q.links) (c.wide-k.ensures ∙ c.number_of.ensures.0) ∙ ap (λ (x : Command). link_at c.loop-at.q.links (number_of x)) c.in-Enter.is);
+          (l.3.legal, ap (link_at c.loop-at.q.links) (c.from-k.ensures ∙ c.number_of.ensures.0) ∙ ap (λ (x : Command). link_at c.loop-at.q.links (number_of x)) c.in-Enter.is);
       by_index = ((_, t.decides), touch_setters t.decides c.setters-setter.ensures);
     }
 
@@ -249,17 +262,17 @@ stepped c =
           (entered_step s _ _ (tail_of n) _ _ _ (to_z-of_z fits ∙ w.value_of-v.ensures) t.rows_full _ t.decides _ _ w.enter.ensures)
       | in_default+in_default-command w ↦ moved refl w.path-is w.rows-is w.values-is w.step-is
           (decided_stepped _ _ _ _ _ _ _ n.command (no_removal n.command w.in_default.not-Remove) (no_entry n.command w.in_default-command.not-Enter)
-          (ap (link_at l.q.links) (c.wide-k.ensures ∙ c.number_of.ensures.0)) w.decide_line-step.ensures l.formulas l.values)
+          (ap (link_at l.q.links) (c.from-k.ensures ∙ c.number_of.ensures.0)) w.decide_line-step.ensures l.formulas l.values)
     ]
 
 -- the step, of the link that the code names
 takes_at : (c : Joined-command) → let l = c.loop-at in let n = c.read_line-line.result in let m = c.match-command in
-    Takes l.q c.wide-k.result m.path m.step (step_panel (sheet_of l.q l.formulas l.values) (tail_of n) n.command)
+    Takes l.q c.from-k.result m.path m.step (step_panel (sheet_of l.q l.formulas l.values) (tail_of n) n.command)
 takes_at c =
     let l = c.loop-at in
     let n = c.read_line-line.result in
     let m = c.match-command in
-    subst (λ (k : ℕ). Takes l.q k m.path m.step (step_panel (sheet_of l.q l.formulas l.values) (tail_of n) n.command)) (sym (c.wide-k.ensures ∙ c.number_of.ensures.0))
+    subst (λ (k : ℕ). Takes l.q k m.path m.step (step_panel (sheet_of l.q l.formulas l.values) (tail_of n) n.command)) (sym (c.from-k.ensures ∙ c.number_of.ensures.0))
     (stepped c).takes
 
 legal_after : (c : Joined-command) → let l = c.loop-at in let n = c.read_line-line.result in
@@ -272,13 +285,13 @@ legal_after c =
 pub stay_levels-requires : goal.stay_levels-requires
 stay_levels-requires c =
     let j = (goal.at.stay_levels-requires c).Joined-command in
-    (places_taken (takes_at j) (legal_after j), c.loop-at.invariant.2.levels_full)
+    places_taken (takes_at j) (legal_after j)
 
-pub reverse-q-requires : goal.reverse-q-requires
-reverse-q-requires c =
-    let j = (goal.at.reverse-q-requires c).Joined-command in
+pub reverse-requires : goal.reverse-requires
+reverse-requires c =
+    let j = (goal.at.reverse-requires c).Joined-command in
     let t = takes_at j in
-    let small : c.wide-k.result < 128 = omega (arith, c.wide-k.ensures, c.number_of.ensures.1) in (
+    let small : c.from-k.result < 128 = omega (arith, c.from-k.ensures, c.number_of.ensures.1) in (
       t.path_of,
       places_taken t (legal_after j),
       tabled_altered t (legal_after j) c.loop-at.invariant.3.legal.panel small c.loop-at.invariant.2 c.stay_levels.ensures,
@@ -287,14 +300,14 @@ reverse-q-requires c =
 -- the panel after the step, where the link that it names takes it
 taken : (c : Joined-turned-ne0) → let l = c.loop-at in let n = c.read_line-line.result in let m = c.match-command in
     let after = step_panel (sheet_of l.q l.formulas l.values) (tail_of n) n.command in
-    Takes l.q c.wide-k.result m.path m.step after → Legal after
-    → let t = c.if-turned-ne0 in Taken after t.q t.levels t.others t.reads
+    Takes l.q c.from-k.result m.path m.step after → Legal after
+    → let t = c.if-turned-ne0 in TakenBy after t.q t.tables
 taken c takes legal =
     let l = c.loop-at.invariant in
-    let small : c.wide-k.result < 128 = omega (arith, c.wide-k.ensures, c.number_of.ensures.1) in
+    let small : c.from-k.result < 128 = omega (arith, c.from-k.ensures, c.number_of.ensures.1) in
     elim c.if-turned-ne0.branch [
-      | then-turned-ne0 w ↦ taken_as w.q-is w.levels-is w.others-is w.reads-is (taken_reversed takes legal w.reverse-q.ensures.0 w.reverse-q.ensures.1)
-      | else-turned-ne0 w ↦ taken_as w.q-is w.levels-is w.others-is w.reads-is
+      | then-turned-ne0 w ↦ taken_as w.q-is w.tables-is (taken_reversed takes legal w.reverse.ensures.reversed w.reverse.ensures.tabled)
+      | else-turned-ne0 w ↦ taken_as w.q-is w.tables-is
           (taken_unmoved takes legal l.3.legal.panel small l.2 c.stay_levels.ensures w.if-turned-ne0.false)
     ]
 
@@ -314,7 +327,7 @@ below-stale-requires c =
     let l = c.loop-at in
     let n = c.read_line-line.result in
     let t = taken a.Joined-turned-ne0 (takes_at j) (legal_after j) in
-    let z = change_settled (stepped j) l.invariant.3.legal l.invariant.2 l.invariant.5 c.read_line-line.ensures.bytes (sym (same_command j) ∙ c.in-Change.is) t.panel refl
+    let z = change_settled (stepped j) l.invariant.3.legal l.invariant.2 l.invariant.5 c.read_line-line.ensures.bytes (sym (same_command j) ∙ c.in-Change.is) t.panel c.changed-c.result refl
     c.changed-c.ensures in
     z.legal.few
 
@@ -348,25 +361,25 @@ scanned c =
 
 settled : (c : Joined-command-3) → let l = c.loop-at in let n = c.read_line-line.result in let m = c.match-command in let s = sheet_of l.q l.formulas l.values in
     let line = take (c.line_end-end.result - l.at) (drop l.at c.args.text.now) in let after = step_panel s (tail_of n) n.command in
-    m.command ≡ n.command → Stepped s (number_of n.command) n.command (tail_of n) m.path m.rows m.values m.step → Takes l.q c.wide-k.result m.path m.step after
-    → (let t = c.if-turned-ne0 in Taken after t.q t.levels t.others t.reads)
+    m.command ≡ n.command → Stepped s (number_of n.command) n.command (tail_of n) m.path m.rows m.values m.step → Takes l.q c.from-k.result m.path m.step after
+    → (let t = c.if-turned-ne0 in TakenBy after t.q t.tables)
     → ((id level : ℕ) → n.command ≡ Change id level → m.worked ≡ l.worked)
     × (OneOf (0 ∷ 1 ∷ 2 ∷ 3 ∷ 4 ∷ 6 ∷ 7 ∷ 8 ∷ []) (tag_of the_type n.command) → m.worked ≡ line_scan l.worked s line)
     → let t = c.match-command-3 in
-    Settled s n.command (tail_of n) m.rows m.values m.step.revalued line l.worked t.q t.levels t.others t.reads t.reply t.turned t.stale t.worked l.reads l.readers l.down
+    Settled s n.command (tail_of n) m.rows m.values m.step.revalued line l.worked t.q t.tables t.reply t.turned t.stale t.worked l.tables.reads l.kept.readers l.kept.down
 settled c same d takes t scan =
     let l = c.loop-at in
     let n = c.read_line-line.result in
     let i = l.invariant in
-    let small : c.wide-k.result < 128 = omega (arith, c.wide-k.ensures, c.number_of.ensures.1) in
+    let small : c.from-k.result < 128 = omega (arith, c.from-k.ensures, c.number_of.ensures.1) in
     elim c.match-command-3.branch [
       | in-Change w ↦
           let is : n.command ≡ Change _ _ = sym same ∙ w.in-Change.is in
-          settled_as w.q-is w.levels-is w.others-is w.reads-is w.reply-is w.turned-is (w.stale-is ∙ w.below-stale.ensures) w.worked-is
-          (change_settled d i.3.legal i.2 i.5 c.read_line-line.ensures.bytes is t.panel (scan.0 _ _ is) w.changed-c.ensures)
+          settled_as w.q-is w.tables-is (w.reply-is ∙ w.and-reply.ensures ∙ reply_is w.changed-c.result) (w.turned-is ∙ w.unwrap_or-turned.ensures ∙ moved_is w.changed-c.result) (w.stale-is ∙ w.below-stale.ensures) w.worked-is
+          (change_settled d i.3.legal i.2 i.5 c.read_line-line.ensures.bytes is t.panel w.changed-c.result (scan.0 _ _ is) w.changed-c.ensures)
       | in_default-command-2 w ↦
           let other = no_change n.command (λ id level e. w.in_default-command-2.not-Change id level (same ∙ e)) in
-          settled_as w.q-is w.levels-is w.others-is w.reads-is w.reply-is w.turned-is w.stale-is w.worked-is
+          settled_as w.q-is w.tables-is w.reply-is w.turned-is w.stale-is w.worked-is
           (step_settled d i.3.legal i.2 i.5 c.read_line-line.ensures.bytes other small takes t (scan.1 other))
     ]
 
@@ -389,10 +402,10 @@ refresh-requires-in-loop-at-clause-within c =
 -- ---- what one line does
 
 -- the rest of the answer, with the count that was taken
-rest_counted : {s : Sheet} {k : Command} {tail rows : List ℕ} {values : List ℤ} {revalued : ℕ} {line : List ℕ} {before : ℕ} {q : Panel} {levels others reads : List ℕ}
+rest_counted : {s : Sheet} {k : Command} {tail rows : List ℕ} {values : List ℤ} {revalued : ℕ} {line : List ℕ} {before : ℕ} {q : Panel} {tables : Tables}
     {reply r : Reply} {turned stale worked : ℕ} {shown readers down readers' down' : List ℕ}
-    → Settled s k tail rows values revalued line before q levels others reads reply turned stale worked shown readers down
-    → Kept q.size reads readers' down' → r ≡ counted reply (union (gathered (at down') turned) revalued) → AnswerRest s (number_of k) k tail rows values r
+    → Settled s k tail rows values revalued line before q tables reply turned stale worked shown readers down
+    → Kept q.size tables.reads readers' down' → r ≡ counted reply (union (gathered (at down') turned) revalued) → AnswerRest s (number_of k) k tail rows values r
 rest_counted {s} {k} {tail} {rows} {values} {revalued} {reply = reply} {turned = turned} z kept e =
     subst (AnswerRest s (number_of k) k tail rows values) (sym (e ∙ ap (counted reply) (redrawn_is z.legal z.tabled kept turned z.small revalued))) z.rest
 
@@ -406,7 +419,7 @@ rule_is : (c : Joined-sets_formula) → c.match-command.command ≡ c.read_line-
 rule_is c same =
     let l = c.loop-at in
     let n = c.read_line-line.result in
-    let k = c.wide-k.result in
+    let k = c.from-k.result in
     let ruled : c.if-sets_formula.formulas ≡ with_formula l.formulas k (formula_after n.command (tail_of n) c.count_reply-reply.result (link_at l.q.links k).covered (formula_at l.formulas k)) =
     elim c.if-sets_formula.branch [
       | then-sets_formula w ↦ w.formulas-is ∙ ap (with_formula l.formulas k) w.rule_after.ensures
@@ -415,7 +428,7 @@ rule_is c same =
     ] in
     ruled
     ∙ ap (λ (k : ℕ). with_formula l.formulas k (formula_after n.command (tail_of n) c.count_reply-reply.result (link_at l.q.links k).covered (formula_at l.formulas k)))
-    (c.wide-k.ensures ∙ c.number_of.ensures.0)
+    (c.from-k.ensures ∙ c.number_of.ensures.0)
 
 pub put_reply-n-requires : goal.put_reply-n-requires
 put_reply-n-requires c =
@@ -468,10 +481,8 @@ loop-at-preserved c =
       c.refresh-in-loop-at.ensures.1,
     )
 
-pub returns : goal.returns
-returns c =
-    rw c.progress_of.ensures
-    (elim c.loop-at-test.branch [
-      | then-loop-at-test+else-room-n-ge-LONGEST w ↦ finish_full _ _ _ _ _ _ _ _ _ _ _ c.loop-at.invariant.3 w.if-room-n-ge-LONGEST.false
-      | else-loop-at-test w ↦ finish_end _ _ _ _ _ _ _ _ _ _ _ c.loop-at.invariant.3 w.loop-at-test.false
-    ])
+pub returns-after-loop-at : goal.returns-after-loop-at
+returns-after-loop-at c = finish_end _ _ _ _ _ _ _ _ _ _ _ c.loop-at.invariant.3 c.loop-at-test.false
+
+pub returns-else-room-n-ge-LONGEST : goal.returns-else-room-n-ge-LONGEST
+returns-else-room-n-ge-LONGEST c = finish_full _ _ _ _ _ _ _ _ _ _ _ c.loop-at.invariant.3 c.if-room-n-ge-LONGEST.false

@@ -7,7 +7,7 @@ use Prim.Native.Nat.{◌-◌}
 use lib.ListN.{length}
 use Rattle.sheet.specs.Sheets.{sheet_of}
 use Rattle.sheet.specs.Legal.{LegalSheet}
-use Rattle.tables.specs.Tables.{Tabled}
+use Rattle.tables.specs.Tables.{TablesOf}
 use Rattle.keeping.specs.Keeping.{Kept}
 use Rattle.frames.specs.Frames.{line_answer}
 use Rattle.panel.specs.Answers.{rows_length}
@@ -16,9 +16,9 @@ use Rattle.answering.proofs.Going.{Going}
 use Rattle.answering.proofs.answer_lines.Given as goal
 
 abbrev pub invariant-loop-at : goal.invariant-loop-at
-invariant-loop-at l = (length l.rows ≡ rows_length) × (length l.path ≡ 64) × Tabled l.q l.levels l.others l.reads
+invariant-loop-at l = (length l.rows ≡ rows_length) × (length l.path ≡ 64) × TablesOf l.q l.tables
     × Going line_answer line_scan LegalSheet l.text l.initial.at l.room (sheet_of l.initial.q l.initial.formulas l.initial.values) l.initial.t l.initial.out l.out (record { next = l.at; state = sheet_of l.q l.formulas l.values; tally = l.t; written = l.n; worked = l.worked })
-    × (l.shown ≡ l.reads) × Kept l.q.size l.reads l.readers l.down
+    × (l.kept.shown ≡ l.tables.reads) × Kept l.q.size l.tables.reads l.kept.readers l.kept.down
 
 abbrev pub decreases-loop-at : goal.decreases-loop-at
 decreases-loop-at l = length l.text - l.at

@@ -6,8 +6,6 @@ use Prim.Native.Nat.{ℕ, ◌<◌}
 use mathlib.Core.Path.{◌≡◌, refl, sym, ap, ap₂, ◌∙◌, subst}
 use mathlib.Core.List.{List}
 use mathlib.Core.Bool.{Bool}
-use mathlib.Core.Logic.{◌⊎◌, inl, inr}
-use denote.Enum.Declared.{tag_of}
 use native.Mathlib.Omega.{arith}
 use lib.ListN.{replicate}
 use Rattle.panel.specs.declared.Standing.{Standing}
@@ -16,46 +14,33 @@ use Rattle.panel.specs.declared.Link.{Link}
 use Rattle.panel.specs.declared.Panel.{Panel}
 use Rattle.panel.specs.declared.Refusal.{Refusal}
 use Rattle.panel.specs.declared.Refusal.TheVariants.{Loop}
-use Rattle.panel.specs.declared.Reply.{Reply}
-use Rattle.panel.specs.declared.Reply.TheVariants.{Accepted, Refused}
+use Rattle.panel.specs.Answers.{Reply}
+use Rattle.std.specs.Prelude.{Ok, Err}
 use Rattle.panel.specs.Items.{no_link, link_at}
 use Rattle.panel.specs.Answers.{Answer, refused}
 use Rattle.panel.specs.Panels.{waiting_link, with_link, with_setter}
 use Rattle.panel.specs.Steps.{accepted}
 use Rattle.panel.specs.Commands.{Passes, add_checks, change_checks, remove_checks, adding, removing, changing, performed}
-use Rattle.panel.specs.Outcomes.{Uncounted, PathOf}
+use Rattle.panel.specs.Outcomes.{PathOf}
 use Rattle.panel.specs.Legal.{Legal}
-use Rattle.panel.proofs.Legal.{holding_not_waiting}
 use Rattle.panel.proofs.Checks.{named_link, changeable, change_removes}
 use Rattle.panel.proofs.Performed.{legal_performed, performed_size}
+use Rattle.std.proofs.lemmas.Result.{err_from_is_err_and}
 use Rattle.tables.specs.Tables.{Tabled}
 use Rattle.tables.proofs.Settings.{places}
 use Rattle.scanning.proofs.Dropped.{field_small}
-use Rattle.taking.proofs.Reversal.{tabled_but}
 use Rattle.reversal.specs.declared.Verdict.{Verdict}
-use Rattle.reversal.specs.declared.Verdict.TheVariants.{Free, Looped, Path}
-use Rattle.reversal.specs.contracts.Verdict.{the_type}
 use Rattle.reversal.specs.Reversals.{Resolved, Unresolved, count_by}
-use Rattle.reversal.proofs.Verdicts.{no_loop}
 use Rattle.adding.specs.Checks.{verdict_reply}
 use Rattle.adding.proofs.Adding.{Entering, new_tabled, new_unresolved}
 use Rattle.fieldbytes.specs.Bytes.{FieldsOf}
 use Rattle.removing.proofs.Removed.{count_standing}
 use Rattle.removing.specs.Scans.{count_after, scan_count}
-use Rattle.changing.specs.Changed.{change_count}
-use Rattle.changing.proofs.Halves.{Done, Turned, turned_free, drop_waits, without_tabled, drop_loops, drop_path, drop_reversed, enters, enter_refused, enter_path, enter_reversed}
-use Rattle.changing.proofs.Changing.{checks_refused, count_refused, checks_passed, count_passed, refused_parts, removal_refused, legal_between, adds_between, addition_refused, both_accepted, changed_is, count_is}
+use Rattle.changing.specs.Changed.{change_count, reversed_by}
+use Rattle.changing.proofs.Halves.{Done, drop_waits, without_tabled, drop_loops, drop_path, drop_reversed, enters, enter_refused, enter_path, enter_reversed}
+use Rattle.changing.proofs.Changing.{checks_refused, count_refused, checks_passed, count_passed, refused_changes, removal_refused, legal_between, adds_between, addition_refused, both_accepted, changed_is, count_is}
 use Rattle.changing.proofs.change.Goals as goal
-use Rattle.changing.proofs.change.Goals.{
-  In_default,
-  Joined-s,
-  Joined-verdict-3,
-  in-Holding+in_default-verdict+in-Path,
-  in-Holding+in_default-verdict+in_default-verdict-2,
-  in_default-s,
-  in-Path-verdict,
-  in_default-verdict-3,
-}
+use Rattle.changing.proofs.change.Goals.{In_ok-check_link, Joined-old, in-Holding+in_default-verdict, in_default}
 
 -- ---- the checks
 
@@ -68,19 +53,21 @@ record Checked (p : Panel) (id level : ℕ) (bytes : List ℕ) (old : Link) (n :
   stands : (link_at p.links id).standing ≡ old.standing
   counts : scan_count n p id ≡ change_count n p id level bytes
 
-checked : (c : In_default) → let s = c.args in Checked s.p s.id s.level s.bytes.now s.old s.worked.now
+checked : (c : In_ok-check_link) → let s = c.args in Checked s.p.now s.id s.level s.bytes.now s.old s.worked.now
 checked c =
     let s = c.args in
+    let p = s.p.now in
     let f = c.read_fields-fields.ensures in
-    let passes = checks_passed s.p s.id s.level s.bytes.now _ _ _ f s.old c.requires.2 c.check_link-checks.result c.check_link-checks.ensures _ c.in_default.is in
-    let small = (changeable s.p s.id s.level s.bytes.now passes).number in
+    let is = c.then_some-missing.ensures in
+    let passes = checks_passed p s.id s.level s.bytes.now _ _ _ f s.old c.requires.2 c.check_link.result _ is c.check_link.ensures _ c.in_ok-check_link.was in
+    let small = (changeable p s.id s.level s.bytes.now passes).number in
     record {
       legal = c.requires.0;
       passes = passes;
       small = small;
-      removes = change_removes s.p s.id s.level s.bytes.now passes;
-      stands = ap (λ (l : Link). l.standing) (sym (named_link s.p.links s.id s.old c.requires.2 small));
-      counts = count_passed s.p s.id s.level s.bytes.now _ _ _ f s.old c.requires.2 c.check_link-checks.result c.check_link-checks.ensures _ c.in_default.is _;
+      removes = change_removes p s.id s.level s.bytes.now passes;
+      stands = ap (λ (l : Link). l.standing) (sym (named_link p.links s.id s.old c.requires.2 small));
+      counts = count_passed p s.id s.level s.bytes.now _ _ _ f s.old c.requires.2 c.check_link.result _ is c.check_link.ensures _ c.in_ok-check_link.was _;
     }
 
 -- ---- the removal
@@ -138,206 +125,143 @@ module _ {p : Panel} {id level : ℕ} {bytes : List ℕ} {old : Link} {n : ℕ} 
       resolved : Resolved levels others q.size level ou co reads way v
       resolved = subst (λ n. Resolved levels others n level ou co reads way v) (sym size_q) is
 
-      add_refused : (x : Refusal) → reply ≡ Refused x → refused p x ≡ performed p (changing id level bytes)
+      add_refused : (x : Refusal) → reply ≡ Err x → refused p x ≡ performed p (changing id level bytes)
       add_refused x e =
           addition_refused p t.legal id level bytes t.passes d.accepts _ d.leaves x
           (enter_refused q legal_q id level bytes co ou ri f adds_q d.tabled way v resolved reply told x e)
 
-      add_path : (m : ℕ) → reply ≡ Accepted m → PathOf way (count_by v)
+      add_path : (m : ℕ) → reply ≡ Ok m → PathOf way (count_by v)
       add_path m e = enter_path q legal_q id level bytes co ou ri f adds_q d.tabled way v resolved reply told m e
 
-      add_reversed : (m : ℕ) → reply ≡ Accepted m → {k : ℕ} {l : Link} → k ≡ id → l ≡ waiting_link level co ou → {levels' others' reads' : List ℕ} {r : Panel}
-          → Turned (with_link q k l) v id way r → Tabled r levels' others' reads' → Done q (adding id level bytes) levels' others' reads' way r
+      add_reversed : (m : ℕ) → reply ≡ Ok m → {k : ℕ} {l : Link} → k ≡ id → l ≡ waiting_link level co ou → {levels' others' reads' : List ℕ} {r : Panel}
+          → r ≡ reversed_by (with_link q k l) v id way → Tabled r levels' others' reads' → Done q (adding id level bytes) levels' others' reads' way r
       add_reversed m e ek el turned tab =
           enter_reversed q legal_q id level bytes co ou ri f adds_q d.tabled way v resolved reply told m e (put q ek el) _ turned tab
 
--- a verdict that is no path
-no_path : (v : Verdict) → ((x y : ℕ) → v ≡ Path x y → ⊥) → (tag_of the_type v ≡ 0) ⊎ (tag_of the_type v ≡ 1)
-no_path Free h = inl refl
-no_path Looped h = inr refl
-no_path (Path x y) h = absurd (h x y refl)
-
 -- ---- the removal is carried out
 
-dropped : (c : Joined-s) → let s = c.args in let m = c.match-s in Checked s.p s.id s.level s.bytes.now s.old s.worked.now
-    → Done s.p (removing s.id) m.fresh m.outs m.reading m.path m.q
+dropped : (c : Joined-old) → let s = c.args in let m = c.match-old in Checked s.p.now s.id s.level s.bytes.now s.old s.worked.now
+    → Done s.p.now (removing s.id) m.fresh.levels m.fresh.others m.fresh.reads m.path m.q
 dropped c t =
-    let p = c.args.p in
-    elim c.match-s.branch [
-      | in-Holding+in_default-verdict+in-Path w ↦
-          let held = holds t w.in-Holding.is w.wide-v.ensures in
-          let turned = rw w.path_step-step.ensures at w.reverse-q.ensures in
-          rw (w.fresh-is, w.outs-is, w.reading-is, w.path-is, w.q-is)
+    let p = c.args.p.now in
+    elim c.match-old.branch [
+      | in-Holding+in_default-verdict w ↦
+          let held = holds t w.in-Holding.is w.from-v.ensures in
+          rw (w.fresh-is, w.path-is, w.q-is)
           (drop_reversed p t.legal c.args.id t.small t.removes _ held _ w.settle-settled.result.number w.settle-settled.result.verdict w.settle-settled.ensures.settles
-          w.in_default-verdict.not-Looped (without t _ c.wide-k.ensures c.no_link.ensures) _ turned.0 turned.1)
-      | in-Holding+in_default-verdict+in_default-verdict-2 w ↦
-          let held = holds t w.in-Holding.is w.wide-v.ensures in
-          rw (w.fresh-is, w.outs-is, w.reading-is, w.path-is, w.q-is)
-          (drop_reversed p t.legal c.args.id t.small t.removes _ held w.settle-settled.new.path w.settle-settled.result.number w.settle-settled.result.verdict
-          w.settle-settled.ensures.settles w.in_default-verdict.not-Looped (without t _ c.wide-k.ensures c.no_link.ensures) _
-          (turned_free _ w.settle-settled.result.verdict _ w.settle-settled.new.path (no_path _ w.in_default-verdict-2.not-Path))
-          (without_tabled p t.legal c.args.id t.small t.removes _ held w.settle-settled.ensures.tabled (without t _ c.wide-k.ensures c.no_link.ensures)))
-      | in_default-s w ↦
-          rw (w.fresh-is, w.outs-is, w.reading-is, w.path-is, w.q-is)
-          (drop_waits p t.legal c.args.id t.small t.removes (t.stands ∙ w.in_default-s.is) c.requires.1 (replicate 64 0) refl _
-          (put p c.wide-k.ensures c.no_link.ensures))
+          w.in_default-verdict.not-Looped (without t _ c.from-k.ensures c.no_link.ensures) _ w.turn.ensures.reversed w.turn.ensures.tabled)
+      | in_default w ↦
+          rw (w.fresh-is, w.path-is, w.q-is)
+          (drop_waits p t.legal c.args.id t.small t.removes (t.stands ∙ w.in_default.is) c.requires.1 (replicate 64 0) refl _
+          (put p c.from-k.ensures c.no_link.ensures))
     ]
 
-worked-is : (c : Joined-s) → let s = c.args in Checked s.p s.id s.level s.bytes.now s.old s.worked.now
-    → c.match-s.worked ≡ change_count s.worked.now s.p s.id s.level s.bytes.now
+worked-is : (c : Joined-old) → let s = c.args in Checked s.p.now s.id s.level s.bytes.now s.old s.worked.now
+    → c.match-old.worked ≡ change_count s.worked.now s.p.now s.id s.level s.bytes.now
 worked-is c t =
-    elim c.match-s.branch [
-      | in-Holding+in_default-verdict+in-Path w ↦ w.worked-is ∙ w.settle-settled.ensures.worked_after ∙ counted t (Holding _) w.in-Holding.is
-      | in-Holding+in_default-verdict+in_default-verdict-2 w ↦ w.worked-is ∙ w.settle-settled.ensures.worked_after ∙ counted t (Holding _) w.in-Holding.is
-      | in_default-s w ↦ w.worked-is ∙ counted t Waiting w.in_default-s.is
+    elim c.match-old.branch [
+      | in-Holding+in_default-verdict w ↦ w.worked-is ∙ w.settle-settled.ensures.worked_after ∙ counted t (Holding _) w.in-Holding.is
+      | in_default w ↦ w.worked-is ∙ counted t Waiting w.in_default.is
     ]
 
--- ---- the add is carried out
+-- ---- the goals of the checks and of the removal
 
-added : (c : Joined-verdict-3) → let s = c.args in let m = c.match-s in let a = c.match-verdict-3 in Checked s.p s.id s.level s.bytes.now s.old s.worked.now
-    → Done s.p (removing s.id) m.fresh m.outs m.reading m.path m.q → Done m.q (adding s.id s.level s.bytes.now) a.fresh a.outs a.reading c.resolve-verdict.new.path a.q
-added c t d =
-    let f = c.read_fields-fields.ensures in
-    let v = c.resolve-verdict in
-    let told = c.check_verdict-reply.ensures in
-    elim c.match-verdict-3.branch [
-      | in-Path-verdict w ↦
-          let turned = rw w.path_step-step-in-Path-verdict.ensures at w.reverse-q-in-Path-verdict.ensures in
-          rw (w.fresh-is, w.outs-is, w.reading-is, w.q-is)
-          (add_reversed t d f _ _ v.ensures.resolved _ told _ c.in_default-reply.is c.wide-k.ensures c.waiting_link.ensures turned.0 turned.1)
-      | in_default-verdict-3 w ↦
-          rw (w.fresh-is, w.outs-is, w.reading-is, w.q-is)
-          (add_reversed t d f _ _ v.ensures.resolved _ told _ c.in_default-reply.is c.wide-k.ensures c.waiting_link.ensures
-          (turned_free _ v.result _ v.new.path (no_path _ w.in_default-verdict-3.not-Path))
-          (new_tables t d f c.wide-k.ensures c.waiting_link.ensures))
-    ]
-
--- ---- the needs of the checks and of the removal
-
-pub returns-in-Refused : goal.returns-in-Refused
-returns-in-Refused c =
+pub returns-in_err-check_link : goal.returns-in_err-check_link
+returns-in_err-check_link c =
     let b = c.args in
     let f = c.read_fields-fields.ensures in
-    let e = c.in-Refused.is in
-    let (same, still, told) =
-    refused_parts b.p _ c.check_link-checks.result _ e (checks_refused b.p b.id b.level b.bytes.now _ _ _ f b.old c.requires.2 _ c.check_link-checks.ensures _ e) in
-    rw c.kept.ensures (record {
-      panel = same;
-      changed = still;
-      reply = told;
-      uncounted = subst Uncounted (sym e) tt;
-      tabled = c.requires.1;
-      scan = count_refused b.p b.id b.level b.bytes.now _ _ _ f b.old c.requires.2 _ c.check_link-checks.ensures _ e _;
-    })
+    let is = c.then_some-missing.ensures in
+    let e = c.in_err-check_link.was in
+    let (x, same, kept) = err_from_is_err_and c.from_residual.result c.from_residual.ensures.1 in
+    rw (same, kept)
+    (refused_changes b.p.now b.id b.level b.bytes.now b.tables.now _ _ _
+    (checks_refused b.p.now b.id b.level b.bytes.now _ _ _ f b.old c.requires.2 _ _ is c.check_link.ensures _ e) c.requires.1
+    (count_refused b.p.now b.id b.level b.bytes.now _ _ _ f b.old c.requires.2 _ _ is c.check_link.ensures _ e _))
 
 pub bounds-q-k : goal.bounds-q-k
-bounds-q-k c = omega (arith, c.wide-k.ensures, (checked (goal.at.bounds-q-k c).In_default).small)
+bounds-q-k c = omega (arith, c.from-k.ensures, (checked (goal.at.bounds-q-k c).In_ok-check_link).small)
 
 pub settle-settled-requires : goal.settle-settled-requires
 settle-settled-requires c =
     let h = c.requires.0 in
-    let t = checked (goal.at.settle-settled-requires c).In_default in
-    let held = holds t c.in-Holding.is c.wide-v.ensures in
-    (h, c.requires.1, field_small c.args.p h c.args.id _ t.small held, omega (arith, h.holding_sets _ _ t.small held, t.small), refl)
+    let t = checked (goal.at.settle-settled-requires c).In_ok-check_link in
+    let held = holds t c.in-Holding.is c.from-v.ensures in
+    (h, c.requires.1, field_small c.args.p.now h c.args.id _ t.small held, omega (arith, h.holding_sets _ _ t.small held, t.small))
 
 pub returns-in-Looped : goal.returns-in-Looped
 returns-in-Looped c =
     let b = c.args in
     let e = c.settle-settled.ensures in
-    let t = checked (goal.at.returns-in-Looped c).In_default in
-    let held = holds t c.in-Holding.is c.wide-v.ensures in
-    let loops = drop_loops b.p t.legal b.id t.small t.removes _ held _ _ c.settle-settled.result.verdict e.settles c.in-Looped.is in
-    let (same, still, told) = refused_parts b.p _ (Refused Loop) Loop refl (removal_refused b.p t.legal b.id b.level b.bytes.now t.passes Loop loops) in
-    rw c.kept-in-Looped.ensures (record {
-      panel = same;
-      changed = still;
-      reply = told;
-      uncounted = tt;
-      tabled = c.requires.1;
-      scan = e.worked_after ∙ counted t (Holding _) c.in-Holding.is;
-    })
+    let t = checked (goal.at.returns-in-Looped c).In_ok-check_link in
+    let held = holds t c.in-Holding.is c.from-v.ensures in
+    let loops = drop_loops b.p.now t.legal b.id t.small t.removes _ held _ _ c.settle-settled.result.verdict e.settles c.in-Looped.is in
+    refused_changes b.p.now b.id b.level b.bytes.now b.tables.now _ _ Loop (removal_refused b.p.now t.legal b.id b.level b.bytes.now t.passes Loop loops)
+    c.requires.1 (e.worked_after ∙ counted t (Holding _) c.in-Holding.is)
 
 pub bounds-q-v : goal.bounds-q-v
 bounds-q-v c =
-    let t = checked (goal.at.bounds-q-v c).In_default in
-    field_small c.args.p t.legal c.args.id _ t.small (holds t c.in-Holding.is c.wide-v.ensures)
+    let t = checked (goal.at.bounds-q-v c).In_ok-check_link in
+    field_small c.args.p.now t.legal c.args.id _ t.small (holds t c.in-Holding.is c.from-v.ensures)
 
-pub path_step-step-requires : goal.path_step-step-requires
-path_step-step-requires c = c.requires.0.place_length
-
-pub reverse-q-requires : goal.reverse-q-requires
-reverse-q-requires c =
+pub turn-requires : goal.turn-requires
+turn-requires c =
     let e = c.settle-settled.ensures in
-    let t = checked (goal.at.reverse-q-requires c).In_default in
-    let p = c.args.p in
-    let held = holds t c.in-Holding.is c.wide-v.ensures in
-    rw c.path_step-step.ensures (
+    let t = checked (goal.at.turn-requires c).In_ok-check_link in
+    let p = c.args.p.now in
+    let held = holds t c.in-Holding.is c.from-v.ensures in (
       drop_path p t.legal c.args.id t.small t.removes _ held _ _ c.settle-settled.result.verdict e.settles c.in_default-verdict.not-Looped,
       places p t.legal,
-      tabled_but _ Waiting (λ v x. absurd (holding_not_waiting x refl))
-          (without_tabled p t.legal c.args.id t.small t.removes _ held e.tabled (without t _ c.wide-k.ensures c.no_link.ensures)),
+      without_tabled p t.legal c.args.id t.small t.removes _ held e.tabled (without t _ c.from-k.ensures c.no_link.ensures),
     )
 
--- ---- the needs of the add
+-- ---- the goals of the add
 
 pub resolve-verdict-requires : goal.resolve-verdict-requires
 resolve-verdict-requires c =
-    let t = checked (goal.at.resolve-verdict-requires c).In_default in
-    let d = dropped (goal.at.resolve-verdict-requires c).Joined-s t in
-    resolvable t d c.read_fields-fields.ensures
+    let t = checked (goal.at.resolve-verdict-requires c).In_ok-check_link in
+    resolvable t (dropped (goal.at.resolve-verdict-requires c).Joined-old t) c.read_fields-fields.ensures
 
-pub returns-in-Refused-reply : goal.returns-in-Refused-reply
-returns-in-Refused-reply c =
-    let t = checked (goal.at.returns-in-Refused-reply c).In_default in
-    let j = (goal.at.returns-in-Refused-reply c).Joined-s in
-    let d = dropped j t in
-    let e = c.in-Refused-reply.is in
-    let (same, still, told) =
-    refused_parts c.args.p _ c.check_verdict-reply.result _ e
-    (add_refused t d c.read_fields-fields.ensures _ _ c.resolve-verdict.ensures.resolved _ c.check_verdict-reply.ensures _ e) in
-    rw c.kept-in-Refused-reply.ensures (record {
-      panel = same;
-      changed = still;
-      reply = told;
-      uncounted = subst Uncounted (sym e) tt;
-      tabled = c.requires.1;
-      scan = worked-is j t;
-    })
+pub returns-in_err-check_verdict : goal.returns-in_err-check_verdict
+returns-in_err-check_verdict c =
+    let b = c.args in
+    let j = (goal.at.returns-in_err-check_verdict c).Joined-old in
+    let t = checked (goal.at.returns-in_err-check_verdict c).In_ok-check_link in
+    let (x, same, kept) = err_from_is_err_and c.from_residual-in_err-check_verdict.result c.from_residual-in_err-check_verdict.ensures.1 in
+    rw (same, kept)
+    (refused_changes b.p.now b.id b.level b.bytes.now b.tables.now _ _ _
+    (add_refused t (dropped j t) c.read_fields-fields.ensures _ _ c.resolve-verdict.ensures.resolved _ c.check_verdict.ensures _ c.in_err-check_verdict.was)
+    c.requires.1 (worked-is j t))
 
 pub bounds-q-k-2 : goal.bounds-q-k-2
-bounds-q-k-2 c = omega (arith, c.wide-k.ensures, (checked (goal.at.bounds-q-k-2 c).In_default).small)
+bounds-q-k-2 c = omega (arith, c.from-k.ensures, (checked (goal.at.bounds-q-k-2 c).In_ok-check_link).small)
 
-pub reverse-q-requires-in-Path-verdict : goal.reverse-q-requires-in-Path-verdict
-reverse-q-requires-in-Path-verdict c =
-    let t = checked (goal.at.reverse-q-requires-in-Path-verdict c).In_default in
-    let d = dropped (goal.at.reverse-q-requires-in-Path-verdict c).Joined-s t in
-    let f = c.read_fields-fields.ensures in
-    rw c.path_step-step-in-Path-verdict.ensures (
-      add_path t d f _ _ c.resolve-verdict.ensures.resolved _ c.check_verdict-reply.ensures _ c.in_default-reply.is,
-      places c.match-s.q (legal_q t d f),
-      tabled_but _ Waiting (λ x y. absurd (holding_not_waiting y refl)) (new_tables t d f c.wide-k.ensures c.waiting_link.ensures),
+pub turn-requires-2 : goal.turn-requires-2
+turn-requires-2 c =
+    let t = checked (goal.at.turn-requires-2 c).In_ok-check_link in
+    let d = dropped (goal.at.turn-requires-2 c).Joined-old t in
+    let f = c.read_fields-fields.ensures in (
+      add_path t d f _ _ c.resolve-verdict.ensures.resolved _ c.check_verdict.ensures _ c.in_ok-check_verdict.was,
+      places c.match-old.q (legal_q t d f),
+      new_tables t d f c.from-k.ensures c.waiting_link.ensures,
     )
-
-pub changed_fields-changed-requires : goal.changed_fields-changed-requires
-changed_fields-changed-requires c =
-    let t = checked (goal.at.changed_fields-changed-requires c).In_default in
-    let d = dropped (goal.at.changed_fields-changed-requires c).Joined-s t in
-    (c.requires.0.setter_length, (legal_whole t d c.read_fields-fields.ensures (added (goal.at.changed_fields-changed-requires c).Joined-verdict-3 t d)).setter_length)
 
 pub returns : goal.returns
 returns c =
     let b = c.args in
-    let t = checked (goal.at.returns c).In_default in
-    let d = dropped (goal.at.returns c).Joined-s t in
-    let a = added (goal.at.returns c).Joined-verdict-3 t d in
-    let w = whole t d c.read_fields-fields.ensures a in
+    let t = checked (goal.at.returns c).In_ok-check_link in
+    let d = dropped (goal.at.returns c).Joined-old t in
+    let f = c.read_fields-fields.ensures in
+    let a =
+    add_reversed t d f _ _ c.resolve-verdict.ensures.resolved _ c.check_verdict.ensures _ c.in_ok-check_verdict.was c.from-k.ensures c.waiting_link.ensures
+    c.turn-2.ensures.reversed c.turn-2.ensures.tabled in
+    let w = whole t d f a in
     let left = ap (λ (a : Answer). a.panel) (sym w) in
     let is = c.changed_fields-changed.ensures in
     record {
       panel = ap (λ (a : Answer). a.panel) w;
-      changed = changed_is b.p t.legal b.id b.level b.bytes.now t.passes _ left _ is;
-      reply = count_is b.p t.legal b.id b.level b.bytes.now t.passes _ left _ is ∙ ap (λ (a : Answer). a.reply) w;
+      changed = changed_is b.p.now t.legal b.id b.level b.bytes.now t.passes _ left _ is;
+      reply = count_is b.p.now t.legal b.id b.level b.bytes.now t.passes _ left _ is ∙ ap (λ (a : Answer). a.reply) w;
       uncounted = refl;
       tabled = a.tabled;
-      scan = worked-is (goal.at.returns c).Joined-s t;
+      scan = worked-is (goal.at.returns c).Joined-old t;
     }

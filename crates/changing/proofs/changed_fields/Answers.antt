@@ -12,20 +12,18 @@ use Rattle.changing.proofs.changed_fields.Goals.{else-before-f, then-before-f}
 
 pub loop-f-init : goal.loop-f-init
 unfolding set_of
-loop-f-init c = (omega arith, refl)
+loop-f-init c = refl
 
 pub loop-f-preserved : goal.loop-f-preserved
 loop-f-preserved c =
-    let s = c.args in (
-      omega arith,
-      set_of_step (λ f. not (eqb (at s.before.now f) (at s.after.now f))) c.loop-f.f (omega arith) c.loop-f.invariant.1
-          (elim c.if-before-f.branch [
-            | then-before-f w ↦ inl (ap not (ne_eqb _ _ w.if-before-f.true), w.set-is ∙ w.with-set.ensures)
-            | else-before-f w ↦ inr (ap not (eq-eqb _ _ w.if-before-f.false), w.set-is)
-          ]),
-    )
+    let s = c.args in
+    set_of_step (λ f. not (eqb (at s.before.now f) (at s.after.now f))) c.loop-f.f c.loop-f-test.true c.loop-f.invariant
+    (elim c.if-before-f.branch [
+      | then-before-f w ↦ inl (ap not (ne_eqb _ _ w.if-before-f.true), w.set-is ∙ w.with-set.ensures)
+      | else-before-f w ↦ inr (ap not (eq-eqb _ _ w.if-before-f.false), w.set-is)
+    ])
 
 pub returns : goal.returns
 returns c =
     let e : c.loop-f.f ≡ 64 = omega arith in
-    c.loop-f.invariant.1 ∙ ap (set_of _) e
+    c.loop-f.invariant ∙ ap (set_of _) e

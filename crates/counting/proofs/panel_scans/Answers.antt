@@ -53,18 +53,18 @@ pub overflow_add-made : goal.overflow_add-made
 overflow_add-made c =
     omega (arith, c.loop-at.invariant.1.few, c.loop-at.invariant.1.within, ltb-false text_limit (length c.args.text.now) (fits (goal.at.overflow_add-made c).At-loop-at))
 
-pub loop-at-smaller-then-worked-ne0 : goal.loop-at-smaller-then-worked-ne0
-loop-at-smaller-then-worked-ne0 c =
-    let o = on (goal.at.loop-at-smaller-then-worked-ne0 c).After-lines_from-r in
+pub loop-at-smaller-then-r-ne0 : goal.loop-at-smaller-then-r-ne0
+loop-at-smaller-then-r-ne0 c =
+    let o = on (goal.at.loop-at-smaller-then-r-ne0 c).After-lines_from-r in
     omega (arith, o.0, o.1)
 
-pub loop-at-preserved-then-worked-ne0 : goal.loop-at-preserved-then-worked-ne0
-loop-at-preserved-then-worked-ne0 c =
+pub loop-at-preserved-then-r-ne0 : goal.loop-at-preserved-then-r-ne0
+loop-at-preserved-then-r-ne0 c =
     let l = c.loop-at in
-    let a = (goal.at.loop-at-preserved-then-worked-ne0 c).After-lines_from-r in
+    let a = (goal.at.loop-at-preserved-then-r-ne0 c).After-lines_from-r in
     let o = on a in (
       still_full a,
-      line_scans l.invariant.1 _ _ c.lines_from-r.ensures.ran_from l.invariant.0 c.loop-at-test.true o.0 o.1 c.if-worked-ne0.true _ c.store.ensures,
+      line_scans l.invariant.1 _ _ c.lines_from-r.ensures.ran_from l.invariant.0 c.loop-at-test.true o.0 o.1 c.if-r-ne0.true _ c.store.ensures,
     )
 
 pub loop-at-smaller : goal.loop-at-smaller
@@ -77,7 +77,7 @@ loop-at-preserved c =
     let l = c.loop-at in
     let a = (goal.at.loop-at-preserved c).After-lines_from-r in
     let o = on a in
-    (still_full a, line_still l.invariant.1 _ _ c.lines_from-r.ensures.ran_from l.invariant.0 c.loop-at-test.true o.0 o.1 c.if-worked-ne0.false)
+    (still_full a, line_still l.invariant.1 _ _ c.lines_from-r.ensures.ran_from l.invariant.0 c.loop-at-test.true o.0 o.1 c.if-r-ne0.false)
 
 pub returns : goal.returns
 returns c =

@@ -1,23 +1,14 @@
-use native.Mathlib.Omega.{arith}
-use Rattle.fieldset.proofs.Emptying.{first_falls}
 use Rattle.downstream.proofs.Gathering.{gathering_start, gathering_step, gathering_end}
 use Rattle.downstream.proofs.gather.Goals as goal
 
-pub loop-rest-init : goal.loop-rest-init
-loop-rest-init c = gathering_start c.ranges.set.fits
+pub loop-f-init : goal.loop-f-init
+loop-f-init c =
+    rw (c.into_iter-f-iterator.ensures.into_iter_gives, c.fields_of-f-items.ensures) (gathering_start c.ranges.set.fits)
 
-pub offset_bounds-down-f : goal.offset_bounds-down-f
-offset_bounds-down-f c = omega (arith, c.first-f.ensures.field)
-
-pub bounds-down-f : goal.bounds-down-f
-bounds-down-f c = c.first-f.ensures.field
-
-pub loop-rest-smaller : goal.loop-rest-smaller
-loop-rest-smaller c = first_falls c.first-f.ensures c.without_lowest-rest.ensures
-
-pub loop-rest-preserved : goal.loop-rest-preserved
-loop-rest-preserved c =
-    gathering_step c.loop-rest.invariant c.first-f.ensures c.union-out.ensures c.without_lowest-rest.ensures
+pub loop-f-preserved : goal.loop-f-preserved
+loop-f-preserved c =
+    let (U, q) = c.in-Some.ensures.steps in
+    gathering_step c.loop-f.invariant U c.union-out.ensures q
 
 pub returns : goal.returns
-returns c = gathering_end c.loop-rest.invariant c.loop-rest-test.false
+returns c = gathering_end c.loop-f.invariant c.in-None.ensures.steps.0

@@ -1,61 +1,48 @@
-use mathlib.Core.Path.{◌≡◌, refl, sym, ◌∙◌}
+use mathlib.Core.Path.{◌≡◌, sym, ap, ◌∙◌}
 use mathlib.Core.Bool.{true}
-use Prim.Native.Nat.{◌<◌, ◌≤◌}
+use Prim.Native.Nat.{◌+◌, ◌*◌, ◌<◌}
 use native.Mathlib.Omega.{arith}
-use lib.ListN.{get_or}
+use lib.ListN.{length, get_or}
+use borrow.Author.Tests.{eqb-true, eqb-false}
 use Rattle.edf.specs.Texts.{is_decimal}
-use Rattle.edf.proofs.Numbers.{digit_range, digits_none, few_small, digits_more, Ended, ended_other, ended_all, read_none, read_plain, read_other}
+use Rattle.edf.proofs.Numbers.{dropped_short, digit_range, few_small, digits_more, digits_stop, digits_all, read_none, read_other, read_plain}
 use Rattle.edf.proofs.read_number.Goals as goal
-use Rattle.edf.proofs.read_number.Goals.{At-loop-i, Then-is_decimal, Left-loop-i, then-loop-i-test+else-is_decimal, else-loop-i-test}
+use Rattle.edf.proofs.read_number.Goals.{Else-not-is_ascii_digit}
 
--- ---- the places: the loop; a round of it, whose character is a digit; the loop left
+-- ---- the place: a round of the loop, whose character is a digit, and whose number so far is small
 
-small : (l : At-loop-i) → l.loop-i.n < 4294967296
-small l = few_small l.loop-i.invariant l.requires
+digit : (c : Else-not-is_ascii_digit) → is_decimal (get_or c.trimmed-digits.result.now c.loop-c.c-index 0) ≡ true
+unfolding is_decimal
+digit c = sym c.is_ascii_digit.ensures.value ∙ c.if-not-is_ascii_digit.false
 
-is_digit : (c : Then-is_decimal) → is_decimal (get_or c.args.s.now c.loop-i.i 0) ≡ true
-is_digit c = sym c.is_decimal.ensures ∙ c.if-is_decimal.true
-
-digit : (c : Then-is_decimal) → let x = get_or c.args.s.now c.loop-i.i 0 in (48 ≤ x) × (x ≤ 57)
-digit c = digit_range _ (is_digit c)
-
-digits-ended : (l : Left-loop-i) → Ended l.args.s.now l.loop-i.i l.loop-i.n
-digits-ended l =
-    let d = l.loop-i.invariant in
-    elim l.loop-i-test.branch [
-      | then-loop-i-test+else-is_decimal w ↦ ended_other d w.loop-i-test.true (sym w.is_decimal.ensures ∙ w.if-is_decimal.false)
-      | else-loop-i-test w ↦ ended_all d w.loop-i-test.false
-    ]
+small : (c : Else-not-is_ascii_digit) → c.loop-c.n < 4294967296
+small c =
+    few_small c.loop-c.invariant (omega (arith, c.loop-c-test.true, ap length c.trimmed-digits.ensures, dropped_short c.args.field.now, c.requires))
 
 -- ---- the goals
 
+pub returns-then-is_empty : goal.returns-then-is_empty
+returns-then-is_empty c = read_none _ _ c.trimmed-digits.ensures (eqb-true _ _ (sym c.is_empty.ensures ∙ c.if-is_empty.true))
+
+pub returns-then-not-is_ascii_digit : goal.returns-then-not-is_ascii_digit
+unfolding is_decimal
+returns-then-not-is_ascii_digit c =
+    read_other _ _ c.trimmed-digits.ensures
+    (digits_stop c.loop-c.invariant c.loop-c-test.true (sym c.is_ascii_digit.ensures.value ∙ c.if-not-is_ascii_digit.true))
+
 pub overflow_mul-n : goal.overflow_mul-n
-overflow_mul-n c = omega (arith, small (goal.at.overflow_mul-n c).At-loop-i)
-
-pub overflow_sub-n : goal.overflow_sub-n
-overflow_sub-n c = (digit (goal.at.overflow_sub-n c).Then-is_decimal).0
-
-pub overflow_cast-n : goal.overflow_cast-n
-overflow_cast-n c = omega (arith, (digit (goal.at.overflow_cast-n c).Then-is_decimal).1)
+overflow_mul-n c = omega (arith, small c)
 
 pub overflow_add-n : goal.overflow_add-n
 overflow_add-n c =
-    omega (arith, small (goal.at.overflow_add-n c).At-loop-i, (digit (goal.at.overflow_add-n c).Then-is_decimal).1)
+    let at = (goal.at.overflow_add-n c).Else-not-is_ascii_digit in omega (arith, small at, (digit_range _ (digit at)).1, c.from.ensures)
 
-pub loop-i-preserved : goal.loop-i-preserved
-loop-i-preserved c =
-    digits_more c.loop-i.invariant c.loop-i-test.true (is_digit (goal.at.loop-i-preserved c).Then-is_decimal) refl
+pub loop-c-preserved : goal.loop-c-preserved
+loop-c-preserved c =
+    let at = (goal.at.loop-c-preserved c).Else-not-is_ascii_digit in
+    digits_more c.loop-c.invariant c.loop-c-test.true (digit at) (ap (λ x. 10 * c.loop-c.n + x) c.from.ensures)
 
-pub returns-then-i-eq0 : goal.returns-then-i-eq0
-returns-then-i-eq0 c = read_none (digits-ended (goal.at.returns-then-i-eq0 c).Left-loop-i) c.if-i-eq0.true
-
-pub returns-then-spaces_from : goal.returns-then-spaces_from
-returns-then-spaces_from c =
-    read_plain (digits-ended (goal.at.returns-then-spaces_from c).Left-loop-i) (omega (arith, c.if-i-eq0.false)) (sym c.spaces_from.ensures ∙ c.if-spaces_from.true)
-
-pub returns-else-spaces_from : goal.returns-else-spaces_from
-returns-else-spaces_from c =
-    read_other (digits-ended (goal.at.returns-else-spaces_from c).Left-loop-i) (omega (arith, c.if-i-eq0.false)) (sym c.spaces_from.ensures ∙ c.if-spaces_from.false)
-
-pub loop-i-init : goal.loop-i-init
-loop-i-init c = digits_none _
+pub returns : goal.returns
+returns c =
+    let some : length c.trimmed-digits.result.now ≡ 0 → ⊥ = eqb-false _ _ (sym c.is_empty.ensures ∙ c.if-is_empty.false) in
+    read_plain _ _ c.trimmed-digits.ensures (omega (arith, some)) (digits_all c.loop-c.invariant c.loop-c-test.false)

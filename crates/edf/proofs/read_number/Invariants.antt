@@ -1,12 +1,7 @@
--- `edf::read_number` meets its contract. The loop's invariant is `Digits`: the characters before `i` are digits and write `n`; the measure is how many
--- characters are left. It ends at another character or at the end (`digits-ended`). Assumes nothing.
-use Prim.Native.Nat.{◌-◌}
-use lib.ListN.{length}
+-- `edf::read_number` meets its contract. The loop's invariant is `Digits`: the characters before the index are digits and write `n`. It ends at another
+-- character or at the end of the field, trailing spaces dropped.
 use Rattle.edf.proofs.Numbers.{Digits}
 use Rattle.edf.proofs.read_number.Given as goal
 
-abbrev pub invariant-loop-i : goal.invariant-loop-i
-invariant-loop-i l = Digits l.s l.i l.n
-
-abbrev pub decreases-loop-i : goal.decreases-loop-i
-decreases-loop-i l = length l.s - l.i
+abbrev pub invariant-loop-c : goal.invariant-loop-c
+invariant-loop-c l = Digits l.digits l.c-index l.n

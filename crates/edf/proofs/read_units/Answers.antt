@@ -1,49 +1,32 @@
-use mathlib.Core.Path.{◌≡◌, ap}
-use mathlib.Core.List.{List}
-use Prim.Native.Nat.{ℕ, ◌+◌, ◌-◌, ◌*◌, ◌≤◌}
+use mathlib.Core.Path.{◌≡◌, ap, ◌∙◌}
+use Prim.Native.Nat.{ℕ, ◌-◌, ◌+◌, ◌*◌}
 use native.Mathlib.Omega.{arith}
-use lib.ListN.{length, take, drop, length-take, length-drop}
-use Rattle.edf.specs.Header.{unit_text}
-use Rattle.edf.specs.declared.Unit.TheVariants.{Flow, Unclear, Other}
-use Rattle.edf.proofs.Counting.{counted_none, counted_more, counted_all}
+use lib.ListN.{take, drop}
+use Rattle.std.specs.Slice.Iter.{chunks_exact_rest, chunks_exact_size}
+use Rattle.edf.proofs.Counting.{counted_none, counted_flow, counted_other, unclear_found, counted_all}
 use Rattle.edf.proofs.read_units.Goals as goal
-use Rattle.edf.proofs.read_units.Goals.{in-Flow, in-Unclear, in-Other}
-
--- a round's unit, from `at`, is the definition's, and has its width
-module _ (file : List ℕ) (n j : ℕ) (h : 256 + n * 96 + j * 8 + 8 ≤ length file) where
-  abbrev at : ℕ
-  at = 256 + n * 96 + j * 8
-
-  unit-is : take (at + 8 - at) (drop at file) ≡ unit_text file n j
-  unfolding unit_text
-  unit-is = let e : at + 8 - at ≡ 8 = omega arith in ap (λ (k : ℕ). take k (drop at file)) e
-
-  width : length (take (at + 8 - at) (drop at file)) ≡ 8
-  width = omega (arith, length-take (at + 8 - at) (drop at file), length-drop at file)
-
--- ---- the goals
-
-pub read_unit-u-requires : goal.read_unit-u-requires
-read_unit-u-requires c = width c.args.file.now c.args.n c.loop-j.j (omega arith)
 
 pub overflow_add-flows : goal.overflow_add-flows
-overflow_add-flows c = omega (arith, c.loop-j.invariant.few, c.loop-j-test.true)
+overflow_add-flows c = omega (arith, c.loop-unit.invariant.few, c.loop-unit.invariant.room, c.requires)
 
-pub loop-j-preserved : goal.loop-j-preserved
-loop-j-preserved c =
-    let part = unit-is c.args.file.now c.args.n c.loop-j.j (omega arith) in
-    let was = c.loop-j.invariant in
-    let h = c.loop-j-test.true in
-    let e = c.read_unit-u.ensures in
-    elim c.match-u.branch [
-      | in-Flow w ↦ counted_more was Flow h part e w.in-Flow.is w.flows-is w.unclear-is
-      | in-Unclear w ↦ counted_more was Unclear h part e w.in-Unclear.is w.flows-is w.unclear-is
-      | in-Other w ↦ counted_more was Other h part e w.in-Other.is w.flows-is w.unclear-is
-    ]
+pub loop-unit-init : goal.loop-unit-init
+loop-unit-init c =
+    let n : ℕ = c.args.n in
+    let width : 256 + n * 96 + n * 8 - (256 + n * 96) ≡ n * 8 = omega arith in
+    let e = c.into_iter-unit-iterator.ensures.into_iter_gives in
+    let f = c.chunks_exact-unit-items.ensures in
+    counted_none _ _ _ _ c.requires (ap chunks_exact_rest e ∙ f.rest ∙ ap (λ (k : ℕ). take k (drop (256 + n * 96) c.args.file.now)) width)
+    (ap chunks_exact_size e ∙ f.size)
+
+pub loop-unit-preserved-in-Flow : goal.loop-unit-preserved-in-Flow
+loop-unit-preserved-in-Flow c =
+    let s = c.in-Some.ensures.steps in counted_flow c.loop-unit.invariant _ _ s.1.0 s.1.1 c.in-Flow.ensures s.0
+
+pub loop-unit-preserved : goal.loop-unit-preserved
+loop-unit-preserved c = let s = c.in-Some.ensures.steps in counted_other c.loop-unit.invariant _ _ s.1.0 s.1.1 c.in-Other.ensures s.0
+
+pub returns-in-Unclear : goal.returns-in-Unclear
+returns-in-Unclear c = let s = c.in-Some.ensures.steps in unclear_found c.loop-unit.invariant _ _ s.1.0 s.1.1 c.in-Unclear.ensures
 
 pub returns : goal.returns
-returns c =
-    let all = counted_all c.loop-j.invariant c.loop-j-test.false in record { flows_value = all.0; unclear_value = all.1 }
-
-pub loop-j-init : goal.loop-j-init
-loop-j-init c = counted_none _ _
+returns c = counted_all c.loop-unit.invariant c.in-None.ensures.steps.1.0

@@ -1,63 +1,62 @@
--- `edf::signals` meets its contract: each check of BadHeader in turn, and then all of them together (`all_right`). Assumes nothing.
+-- `edf::signals` meets its contract: each check of BadHeader in turn, and then all of them together (`all_right`).
 use mathlib.Core.Path.{◌≡◌, sym, ap, ◌∙◌}
-use mathlib.Core.Bool.{true, ◌&&◌}
-use mathlib.Core.List.{List, [], ◌∷◌}
-use Prim.Native.Nat.{ℕ, ◌+◌, ◌*◌}
+use mathlib.Core.Bool.{true}
+use mathlib.Core.List.{[], ◌∷◌}
+use mathlib.Core.Logic.{◌⊎◌, ⊎_elim}
+use Prim.Native.Nat.{ℕ, ◌<◌, ◌≤◌}
 use native.Mathlib.Omega.{arith}
-use lib.Dec.{eqb}
-use Rattle.edf.specs.Texts.{is_plain, number_of}
-use Rattle.edf.specs.Header.{length_text, count_text, count_of}
+use borrow.Author.Tests.{not-true, not-false}
+use Rattle.std.proofs.Common.{rules}
+use Rattle.edf.specs.Texts.{is_plain}
+use Rattle.edf.specs.Header.{count_text, count_of}
 use Rattle.edf.specs.Answers.{number_values}
-use Rattle.edf.proofs.Checks.{plain_read, other_read, no_block, too_short, not_plain, no_signal, too_many, wrong_length, all_right}
+use Rattle.edf.proofs.Checks.{plain_read, other_read, length_is, says_length, no_block, too_short, not_plain, no_signal, too_many, wrong_length, all_right}
 use Rattle.edf.proofs.signals.Goals as goal
-use Rattle.edf.proofs.signals.Goals.{In-Plain, After-is_number}
+use Rattle.edf.proofs.signals.Goals.{In_ok-n, then-file-length-via-then-file-length, then-file-length-via-else-file-length+then-ne}
 
--- ---- the places: the count is read; it is a plain number
+-- ---- the place: the count is a plain number
 
-count_is : (c : In-Plain) → (is_plain (count_text c.args.file.now) ≡ true) × (c.in-Plain.n ≡ count_of c.args.file.now)
+count_is : (c : In_ok-n) → (is_plain (count_text c.args.file.now) ≡ true) × (c.in_ok-n.n ≡ count_of c.args.file.now)
 unfolding count_text
-count_is c = plain_read _ _ c.in-Plain.ensures
-
-length-is : (c : After-is_number) → let f = c.args.file.now in c.is_number.result ≡ (is_plain (length_text f) && eqb (number_of (length_text f)) (256 * (count_of f + 1)))
-unfolding length_text count_text
-length-is c =
-    let f = c.args.file.now in
-    c.is_number.ensures ∙ ap (λ (n : ℕ). is_plain (length_text f) && eqb (number_of (length_text f)) (256 * (n + 1))) (plain_read _ _ c.in-Plain.ensures).1
+count_is c = plain_read _ _ c.in_ok-n.ensures
 
 -- ---- the goals
 
 pub returns-then-file-lt-BLOCK : goal.returns-then-file-lt-BLOCK
 returns-then-file-lt-BLOCK c = no_block _ c.if-file-lt-BLOCK.true
 
-pub returns-then-n-lt1 : goal.returns-then-n-lt1
-returns-then-n-lt1 c = no_signal _ (omega (arith, c.if-n-lt1.true, (count_is (goal.at.returns-then-n-lt1 c).In-Plain).1))
+pub returns-in_err-n : goal.returns-in_err-n
+unfolding count_text
+returns-in_err-n c = ap number_values c.from_residual.ensures ∙ not_plain c.args.file.now (other_read _ c.in_err-n.ensures)
 
-pub returns-then-n-gt-SIGNAL_LIMIT : goal.returns-then-n-gt-SIGNAL_LIMIT
-returns-then-n-gt-SIGNAL_LIMIT c =
-    too_many _ (omega (arith, c.if-n-gt-SIGNAL_LIMIT.true, (count_is (goal.at.returns-then-n-gt-SIGNAL_LIMIT c).In-Plain).1))
+pub returns-then-not-contains : goal.returns-then-not-contains
+returns-then-not-contains c =
+    let n = (count_is (goal.at.returns-then-not-contains c).In_ok-n).1 in
+    let out : (c.in_ok-n.n < 1) ⊎ (254 < c.in_ok-n.n) = search rules in
+    ⊎_elim (λ h. no_signal _ (omega (arith, h, n))) (λ h. too_many _ (omega (arith, h, n))) out
 
 pub returns-then-file-length : goal.returns-then-file-length
 returns-then-file-length c =
-    too_short _ (omega (arith, c.if-file-length.true, (count_is (goal.at.returns-then-file-length c).In-Plain).1))
-
-pub returns-then-is_number : goal.returns-then-is_number
-returns-then-is_number c =
     let f = c.args.file.now in
-    let n = count_is (goal.at.returns-then-is_number c).In-Plain in
+    let n = (count_is (goal.at.returns-then-file-length c).In_ok-n).1 in
+    elim c.then-file-length.branch [
+      | then-file-length-via-then-file-length w ↦ too_short f (omega (arith, w.if-file-length.true, n))
+      | then-file-length-via-else-file-length+then-ne w ↦
+          let h = says_length f _ _ _ w.read_number-else-file-length.ensures (length_is f) n in
+          wrong_length f (sym h ∙ not-true _ (sym w.ne.ensures ∙ w.if-ne.true))
+    ]
+
+pub returns : goal.returns
+returns c =
+    let f = c.args.file.now in
+    let n = count_is (goal.at.returns c).In_ok-n in
+    let within : (1 ≤ c.in_ok-n.n) × (c.in_ok-n.n ≤ 254) = search rules in
+    let h = says_length f _ _ _ c.read_number-else-file-length.ensures (length_is f) n.1 in
     ap (λ (x : ℕ). x ∷ []) n.1
     ∙ all_right f (record {
       long = omega (arith, c.if-file-length.false, n.1);
       plain = n.0;
-      some_signal = omega (arith, c.if-n-lt1.false, n.1);
-      few_signals = omega (arith, c.if-n-gt-SIGNAL_LIMIT.false, n.1);
-      bytes = sym (length-is (goal.at.returns-then-is_number c).After-is_number) ∙ c.if-is_number.true;
+      some_signal = omega (arith, within.0, n.1);
+      few_signals = omega (arith, within.1, n.1);
+      bytes = sym h ∙ not-false _ (sym c.ne.ensures ∙ c.if-ne.false);
     })
-
-pub returns-else-is_number : goal.returns-else-is_number
-returns-else-is_number c =
-    wrong_length _ (sym (length-is (goal.at.returns-else-is_number c).After-is_number) ∙ c.if-is_number.false)
-
-pub returns-in-NotPlain : goal.returns-in-NotPlain
-unfolding count_text
-returns-in-NotPlain c =
-    not_plain c.args.file.now (other_read _ c.in-NotPlain.ensures)

@@ -10,17 +10,17 @@ use Rattle.entering.proofs.Entering.{setters_by}
 use Rattle.entering.proofs.setters.Goals as goal
 
 pub stay_levels-requires : goal.stay_levels-requires
-stay_levels-requires c = let r = c.requires in (places_taken r.legal_2.1 r.legal_2.0, r.legal.1.levels_full)
+stay_levels-requires c = places_taken c.requires.legal_2.1 c.requires.legal_2.0
 
-pub reverse-q-requires : goal.reverse-q-requires
-reverse-q-requires c =
+pub reverse-requires : goal.reverse-requires
+reverse-requires c =
     let r = c.requires in
     (r.legal_2.1.path_of, places_taken r.legal_2.1 r.legal_2.0, tabled_altered r.legal_2.1 r.legal_2.0 r.legal.0 (omega arith) r.legal.1 c.stay_levels.ensures)
 
-pub returns-then-step-ne0 : goal.returns-then-step-ne0
-returns-then-step-ne0 c = let r = c.requires in setters_by (taken_reversed r.legal_2.1 r.legal_2.0 c.reverse-q.ensures.0 c.reverse-q.ensures.1)
+pub returns : goal.returns
+returns c = let r = c.requires in setters_by (taken_reversed r.legal_2.1 r.legal_2.0 c.reverse.ensures.reversed c.reverse.ensures.tabled)
 
-pub returns-else-step-ne0 : goal.returns-else-step-ne0
-returns-else-step-ne0 c =
+pub returns-then-step-eq0 : goal.returns-then-step-eq0
+returns-then-step-eq0 c =
     let r = c.requires in
-    setters_by (taken_unmoved r.legal_2.1 r.legal_2.0 r.legal.0 (omega arith) r.legal.1 refl c.if-step-ne0.false)
+    setters_by (taken_unmoved r.legal_2.1 r.legal_2.0 r.legal.0 (omega arith) r.legal.1 refl c.if-step-eq0.true)

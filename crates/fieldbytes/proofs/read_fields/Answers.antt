@@ -7,20 +7,20 @@ use Rattle.fieldbytes.proofs.read_fields.Goals as goal
 use Rattle.fieldbytes.proofs.read_fields.Goals.{then-b-ge128, else-b-ge128}
 use Rattle.fieldbytes.proofs.read_fields.Goals.{then-f-least, then-f-least-via-then-f-least, then-f-least-via-else-f-least+then-b-eq1, else-f-least+else-b-eq1}
 
-pub loop-i-init : goal.loop-i-init
-loop-i-init c = read_none c.args.bytes.now
+pub loop-b-init : goal.loop-b-init
+loop-b-init c = read_none c.args.bytes.now
 
-pub loop-i-preserved : goal.loop-i-preserved
-loop-i-preserved c =
-    let loop = c.loop-i in
+pub loop-b-preserved : goal.loop-b-preserved
+loop-b-preserved c =
+    let loop = c.loop-b in
     let bytes = c.args.bytes.now in
-    let b = at bytes loop.i in
-    let f = c.wide-f.result in
-    let small = c.type_inv.bytes loop.i in
+    let b = at bytes loop.b-index in
+    let f = c.from-f.result in
+    let small = c.type_inv.bytes loop.b-index in
     let outputs = c.if-b-ge128.outputs in
     let rising = c.if-f-least.rising in
-    read_more bytes loop.i loop.covered loop.outputs loop.rising loop.least loop.invariant f c.with-covered.result outputs rising
-    (omega arith) c.wide-f.ensures c.with-covered.ensures
+    read_more bytes loop.b-index loop.covered loop.outputs loop.rising loop.least loop.invariant f c.with-covered.result outputs rising
+    c.loop-b-test.true c.from-f.ensures c.with-covered.ensures
     (elim c.if-b-ge128.branch [
       | then-b-ge128 w ↦ reads_output b f loop.outputs outputs (omega (arith, small)) w.if-b-ge128.true (w.outputs-is ∙ w.with-outputs.ensures)
       | else-b-ge128 w ↦ reads_input b f loop.outputs outputs w.if-b-ge128.false w.outputs-is
@@ -35,5 +35,5 @@ loop-i-preserved c =
 
 pub returns : goal.returns
 returns c =
-    let loop = c.loop-i in
-    read_all c.args.bytes.now loop.i loop.covered loop.outputs loop.rising loop.least loop.invariant (omega arith)
+    let loop = c.loop-b in
+    read_all c.args.bytes.now loop.b-index loop.covered loop.outputs loop.rising loop.least loop.invariant c.loop-b-test.false

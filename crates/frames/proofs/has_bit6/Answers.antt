@@ -1,22 +1,19 @@
-use mathlib.Core.Path.{refl, ◌∙◌}
-use native.Mathlib.Omega.{arith}
-use Rattle.frames.proofs.Reading.{bit6_found, bit6_on, bit6_none}
+-- `frames::has_bit6` meets its contract: what `any` answers over a range of the frame is told of the frame's rest (`field_bytes_any`).
+use mathlib.Core.Path.{◌≡◌, ◌∙◌}
+use Prim.Native.Nat.{◌-◌}
+use lib.ListN.{take, drop}
+use borrow.Author.Rules.{rules}
+use borrow.Author.Tests.{tests}
+use Rattle.std.specs.List.{list_any}
+use Rattle.std.proofs.lemmas.Iterator.{YieldsList-from_slice}
+use Rattle.std.proofs.lemmas.Iterator.Search.{any_from_yields_List}
+use Rattle.panel.specs.Commands.{has_bit6}
+use Rattle.frames.proofs.Reading.{field_bytes_any}
 use Rattle.frames.proofs.has_bit6.Goals as goal
-
-pub loop-i-init : goal.loop-i-init
-loop-i-init c = refl
-
-pub returns-then-frame-i-eq1 : goal.returns-then-frame-i-eq1
-returns-then-frame-i-eq1 c =
-    let a = c.loop-i in
-    bit6_found _ _ c.requires.1 c.requires.0 a.i (omega arith) c.if-frame-i-eq1.true ∙ a.invariant
-
-pub loop-i-preserved : goal.loop-i-preserved
-loop-i-preserved c =
-    let a = c.loop-i in
-    bit6_on _ _ c.requires.1 c.requires.0 a.i (omega arith) c.if-frame-i-eq1.false ∙ a.invariant
 
 pub returns : goal.returns
 returns c =
-    let a = c.loop-i in
-    bit6_none _ _ c.requires.1 c.requires.0 a.i (omega arith) ∙ a.invariant
+    let b = take (c.args.n - 3) (drop 3 c.args.frame.now) in
+    let found : c.any.result ≡ list_any has_bit6 b =
+    any_from_yields_List has_bit6 _ _ c.any.result c.any.ensures.ran (YieldsList-from_slice b cc) (λ x b q k. search (rules, tests)) in
+    found ∙ field_bytes_any c.args.frame.now c.args.n c.requires.0

@@ -1,16 +1,15 @@
-use Rattle.hexadecimal.proofs.Offsets.{read_none, read_more, read_other, read_end}
+use mathlib.Core.Path.{sym, ◌∙◌}
+use Rattle.hexadecimal.proofs.Digits.{is_some_read}
+use Rattle.hexadecimal.proofs.Offsets.{read_more, read_other, read_end}
 use Rattle.hexadecimal.proofs.offset_of.Goals as goal
 
-pub loop-i-init : goal.loop-i-init
-loop-i-init c = read_none _
-
-pub returns-in-Other : goal.returns-in-Other
-returns-in-Other c =
-    read_other _ _ c.loop-i.invariant c.loop-i-test.true c.in-Other.ensures
+pub returns-then-is_none : goal.returns-then-is_none
+returns-then-is_none c =
+    read_other _ _ c.loop-i.invariant c.loop-i-test.true (sym (is_some_read _ _ c.digit_of.ensures) ∙ c.if-is_none.ensures)
 
 pub loop-i-preserved : goal.loop-i-preserved
 loop-i-preserved c =
-    read_more _ _ _ c.loop-i.invariant c.loop-i-test.true c.in-Value.ensures
+    read_more _ _ c.loop-i.invariant c.loop-i-test.true (sym (is_some_read _ _ c.digit_of.ensures) ∙ c.if-is_none.ensures)
 
 pub returns : goal.returns
 returns c = read_end _ _ c.loop-i.invariant c.loop-i-test.false

@@ -1,10 +1,12 @@
--- `hexadecimal::value` meets its contract, by what `digit_of` tells: a value is that of the digit (`value_read`); another character is not told, since the
--- one given is a digit (`not_other`). Assumes nothing.
-use Rattle.hexadecimal.proofs.Digits.{value_read, not_other}
+-- `hexadecimal::value` meets its contract, by what `digit_of` tells: there is a value, since the character is a digit (`is_some_read`), and it is that of
+-- the digit (`value_read`). Assumes nothing.
+use mathlib.Core.Path.{sym, ap, ◌∙◌}
+use Rattle.hexadecimal.specs.Answers.{digit_values}
+use Rattle.hexadecimal.proofs.Digits.{value_read, is_some_read}
 use Rattle.hexadecimal.proofs.value.Goals as goal
 
-pub returns-in-Value : goal.returns-in-Value
-returns-in-Value c = (value_read c.args.c _ c.in-Value.ensures).1
+pub unwrap-requires : goal.unwrap-requires
+unwrap-requires c = is_some_read c.args.c _ c.digit_of.ensures ∙ c.requires
 
-pub returns-in-Other : goal.returns-in-Other
-returns-in-Other c = absurd (not_other c.args.c c.requires c.in-Other.ensures)
+pub returns : goal.returns
+returns c = (value_read c.args.c _ (ap digit_values (sym c.unwrap.ensures) ∙ c.digit_of.ensures)).1

@@ -1,4 +1,4 @@
--- `importing::put_flow` meets its contract: the ratio's line is put behind the add's (`behind`). Assumes nothing.
+-- `importing::put_flow` meets its contract: the ratio's line is put behind the add's (`behind`).
 use native.Mathlib.Omega.{arith}
 use Rattle.hexadecimal.specs.Hex.{line_of}
 use Rattle.hexadecimal.proofs.Bytes.{length_line}

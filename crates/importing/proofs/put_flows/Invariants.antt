@@ -1,11 +1,6 @@
--- `importing::put_flows` meets its contract. The loop's invariant is `Put`: the lines of the first `i` flows are put; the measure is how many flows are
--- left. Assumes nothing.
-use Prim.Native.Nat.{◌-◌}
+-- `importing::put_flows` meets its contract. The loop's invariant is `Put`: the lines of the first `i` flows are put, behind the opening's.
 use Rattle.importing.proofs.Flows.{Put}
 use Rattle.importing.proofs.put_flows.Given as goal
 
 abbrev pub invariant-loop-i : goal.invariant-loop-i
-invariant-loop-i l = Put l.initial.out l.out l.initial.n l.k l.i l.n
-
-abbrev pub decreases-loop-i : goal.decreases-loop-i
-decreases-loop-i l = l.k - l.i
+invariant-loop-i l = Put l.initial.out l.out l.initial.n l.i l.n

@@ -1,38 +1,22 @@
-use mathlib.Core.Path.{ap, ◌∙◌}
+use mathlib.Core.Path.{ap, refl}
 use mathlib.Core.Bool.{not}
 use mathlib.Core.Logic.{inl, inr}
-use native.Mathlib.Omega.{arith}
 use borrow.Author.Tests.{eq-eqb, ne_eqb}
-use Rattle.fieldset.proofs.Emptying.{first_falls, filter_start, filter_step, filter_end}
+use Rattle.fieldset.proofs.Emptying.{filter_start, filter_step, filter_end}
 use Rattle.keeping.proofs.differing.Goals as goal
-use Rattle.keeping.proofs.differing.Goals.{else-shown-f, then-shown-f}
 
-pub loop-rest-init : goal.loop-rest-init
-loop-rest-init c = filter_start
+pub loop-f-init : goal.loop-f-init
+loop-f-init c = rw (c.into_iter-f-iterator.ensures.into_iter_gives, c.fields_of-f-items.ensures) filter_start
 
-pub loop-rest-smaller : goal.loop-rest-smaller
-loop-rest-smaller c = first_falls c.first-f.ensures c.without_lowest-rest.ensures
+pub loop-f-preserved-then-shown-f : goal.loop-f-preserved-then-shown-f
+loop-f-preserved-then-shown-f c =
+    let (U, q) = c.in-Some.ensures.steps in
+    filter_step c.loop-f.invariant U (inl (ap not (ne_eqb _ _ c.if-shown-f.true), c.with-out.ensures)) q
 
-pub loop-rest-preserved : goal.loop-rest-preserved
-loop-rest-preserved c =
-    filter_step c.loop-rest.invariant c.first-f.ensures
-    (elim c.if-shown-f.branch [ then-shown-f w ↦ inl (ap not (ne_eqb _ _ w.if-shown-f.true), w.out-is ∙ w.with-out.ensures) | else-shown-f w ↦ inr (ap not (eq-eqb _ _ w.if-shown-f.false), w.out-is) ])
-    c.without_lowest-rest.ensures
+pub loop-f-preserved : goal.loop-f-preserved
+loop-f-preserved c =
+    let (U, q) = c.in-Some.ensures.steps in
+    filter_step c.loop-f.invariant U (inr (ap not (eq-eqb _ _ c.if-shown-f.false), refl)) q
 
 pub returns : goal.returns
-returns c = filter_end c.loop-rest.invariant c.loop-rest-test.false
-
-pub offset_bounds-shown-f : goal.offset_bounds-shown-f
-offset_bounds-shown-f c = omega (arith, c.first-f.ensures.field)
-
-pub bounds-shown-f : goal.bounds-shown-f
-bounds-shown-f c = c.first-f.ensures.field
-
-pub offset_bounds-reads-f : goal.offset_bounds-reads-f
-offset_bounds-reads-f c = omega (arith, c.first-f.ensures.field)
-
-pub bounds-reads-f : goal.bounds-reads-f
-bounds-reads-f c = c.first-f.ensures.field
-
-pub with-out-requires : goal.with-out-requires
-with-out-requires c = c.first-f.ensures.field
+returns c = filter_end c.loop-f.invariant c.in-None.ensures.steps.0

@@ -13,10 +13,10 @@ use Rattle.keeping.proofs.refresh.Goals.{After-differing-changed}
 low : (c : After-differing-changed) → Within c.differing-changed.result (below c.args.n)
 low c u l e =
     let s = c.args in
-    c.requires.within.0 u l (differing_within s.shown.now s.reads.now s.stale c.differing-changed.ensures u l e)
+    c.requires.within.0 u l (differing_within s.kept.now.shown s.reads.now s.stale c.differing-changed.ensures u l e)
 
 -- and all that differ
-differ : (c : After-differing-changed) → Differ c.differing-changed.result c.args.shown.now c.args.reads.now
+differ : (c : After-differing-changed) → Differ c.differing-changed.result c.args.kept.now.shown c.args.reads.now
 differ c = differing_differ c.requires.within.1 c.differing-changed.ensures
 
 pub returns-then-changed-eq0 : goal.returns-then-changed-eq0
@@ -27,32 +27,17 @@ returns-then-changed-eq0 c =
 pub upstream-before-requires : goal.upstream-before-requires
 upstream-before-requires c = (c.requires.kept.0.among, low (goal.at.upstream-before-requires c).After-differing-changed)
 
-pub reread-requires : goal.reread-requires
-reread-requires c =
-    let p = c.requires in
-    let k = p.kept.0 in
-    record {
-      n_bound = (k.among.few, k.full, p.kept.1, k.readers_are);
-      within = (low (goal.at.reread-requires c).After-differing-changed, differ (goal.at.reread-requires c).After-differing-changed);
-    }
+pub reread-requires-clause-within : goal.reread-requires-clause-within
+reread-requires-clause-within c =
+    (low (goal.at.reread-requires-clause-within c).After-differing-changed, differ (goal.at.reread-requires-clause-within c).After-differing-changed)
 
 pub upstream-after-requires : goal.upstream-after-requires
 upstream-after-requires c = (c.requires.kept.2, low (goal.at.upstream-after-requires c).After-differing-changed)
 
-pub repair-requires : goal.repair-requires
-repair-requires c =
-    let p = c.requires in
-    let k = p.kept.0 in
-    record {
-      n_bound = (k.among.few, p.kept.3);
-      readers_value = (
-        c.reread.ensures.1,
-        right_after k.among p.kept.2 (differ_same k.among.few (differ (goal.at.repair-requires c).After-differing-changed)) k.down_are
-            (c.union.ensures ∙ rw (c.upstream-before.ensures, c.upstream-after.ensures)),
-      );
-    }
-
-pub returns : goal.returns
-returns c =
-    let p = c.requires in
-    (c.reread.ensures.0, record { full = p.kept.1; among = p.kept.2; readers_are = c.reread.ensures.1; down_are = c.repair.ensures })
+pub repair-requires-clause-readers_value : goal.repair-requires-clause-readers_value
+repair-requires-clause-readers_value c =
+    let k = c.requires.kept.0 in
+    let moved = differ_same k.among.few (differ (goal.at.repair-requires-clause-readers_value c).After-differing-changed) in (
+      c.reread.ensures.1,
+      right_after k.among c.requires.kept.2 moved k.down_are (c.union-affected.ensures ∙ rw (c.upstream-before.ensures, c.upstream-after.ensures)),
+    )

@@ -1,15 +1,7 @@
 -- `keeping::renew` meets its contract: the field is struck out and entered (`renewed`).
-use mathlib.Core.Path.{refl, ap, ◌∙◌}
-use native.Mathlib.Omega.{arith}
-use lib.ListN.{length}
-use Rattle.downstream.proofs.Tables.{directs_long}
+use mathlib.Core.Path.{refl}
 use Rattle.keeping.proofs.Renewing.{renewed}
 use Rattle.keeping.proofs.renew.Goals as goal
-
-pub strike_reader-requires : goal.strike_reader-requires
-strike_reader-requires c =
-    let p = c.requires in
-    (omega arith, ap length p.3 ∙ directs_long _ _)
 
 pub returns : goal.returns
 returns c =

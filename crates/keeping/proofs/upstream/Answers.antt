@@ -1,18 +1,8 @@
-use native.Mathlib.Omega.{arith}
 use Rattle.keeping.proofs.Climbing.{climbing_start, climbing_less, climbing_step, climbing_end}
 use Rattle.keeping.proofs.upstream.Goals as goal
 
 pub loop-rest-init : goal.loop-rest-init
 loop-rest-init c = climbing_start c.requires.1
-
-pub with-seen-requires : goal.with-seen-requires
-with-seen-requires c = c.first-f.ensures.field
-
-pub offset_bounds-reads-f : goal.offset_bounds-reads-f
-offset_bounds-reads-f c = omega (arith, c.first-f.ensures.field)
-
-pub bounds-reads-f : goal.bounds-reads-f
-bounds-reads-f c = c.first-f.ensures.field
 
 pub loop-rest-smaller : goal.loop-rest-smaller
 loop-rest-smaller c = climbing_less c.requires.0 c.loop-rest.invariant c.first-f.ensures c.with-seen.ensures

@@ -18,43 +18,35 @@ known c = sym c.is_unknown.ensures ∙ c.if-is_unknown.false
 good : (c : Else-is_bad) → is_bad c.args.text.now ≡ false
 good c = sym c.is_bad.ensures ∙ c.if-is_bad.false
 
--- ---- the needs
+-- ---- the goals
 
 pub returns-then-is_too_long : goal.returns-then-is_too_long
 returns-then-is_too_long c =
-    let s = c.args in
-    c.refused.ensures ∙ too_long s.s s.text.now (sym c.is_too_long.ensures ∙ c.if-is_too_long.true)
+    too_long c.args.s.now c.args.text.now (sym c.is_too_long.ensures ∙ c.if-is_too_long.true)
 
-pub returns-then-p-gt0 : goal.returns-then-p-gt0
-returns-then-p-gt0 c =
-    let s = c.args in
-    c.refused-then-p-gt0.ensures ∙ already_open_lem s.s s.text.now (short (goal.at.returns-then-p-gt0 c).Else-is_too_long) c.if-p-gt0.true
+pub returns-then-s-gt0 : goal.returns-then-s-gt0
+returns-then-s-gt0 c =
+    already_open_lem c.args.s.now c.args.text.now (short (goal.at.returns-then-s-gt0 c).Else-is_too_long) c.if-s-gt0.true
 
 pub returns-then-is_unknown : goal.returns-then-is_unknown
 returns-then-is_unknown c =
-    let s = c.args in
-    c.refused-then-is_unknown.ensures ∙ unknown s.s s.text.now (short (goal.at.returns-then-is_unknown c).Else-is_too_long) c.if-p-gt0.false (sym c.is_unknown.ensures ∙ c.if-is_unknown.true)
+    unknown c.args.s.now c.args.text.now (short (goal.at.returns-then-is_unknown c).Else-is_too_long) c.if-s-gt0.false (sym c.is_unknown.ensures ∙ c.if-is_unknown.true)
 
 pub is_bad-requires : goal.is_bad-requires
 is_bad-requires c = c.read_lines-c.ensures
 
 pub returns-then-is_bad : goal.returns-then-is_bad
 returns-then-is_bad c =
-    let s = c.args in
-    c.refused-then-is_bad.ensures ∙ bad s.s s.text.now (short (goal.at.returns-then-is_bad c).Else-is_too_long) c.if-p-gt0.false (known (goal.at.returns-then-is_bad c).Else-is_unknown) (sym c.is_bad.ensures ∙ c.if-is_bad.true)
+    bad c.args.s.now c.args.text.now (short (goal.at.returns-then-is_bad c).Else-is_too_long) c.if-s-gt0.false (known (goal.at.returns-then-is_bad c).Else-is_unknown) (sym c.is_bad.ensures ∙ c.if-is_bad.true)
 
 pub is_unfit-requires : goal.is_unfit-requires
 is_unfit-requires c =
-    let s = c.args in
-    taken_formed s.s s.text.now (short (goal.at.is_unfit-requires c).Else-is_too_long) c.if-p-gt0.false (known (goal.at.is_unfit-requires c).Else-is_unknown) (good (goal.at.is_unfit-requires c).Else-is_bad) _ c.read_lines-c.ensures.0
+    taken_formed c.args.s.now c.args.text.now (short (goal.at.is_unfit-requires c).Else-is_too_long) c.if-s-gt0.false (known (goal.at.is_unfit-requires c).Else-is_unknown) (good (goal.at.is_unfit-requires c).Else-is_bad) _ c.read_lines-c.ensures.0
 
 pub returns-then-is_unfit : goal.returns-then-is_unfit
 returns-then-is_unfit c =
-    let s = c.args in
-    c.refused-then-is_unfit.ensures
-    ∙ unfit s.s s.text.now (short (goal.at.returns-then-is_unfit c).Else-is_too_long) c.if-p-gt0.false (known (goal.at.returns-then-is_unfit c).Else-is_unknown) (good (goal.at.returns-then-is_unfit c).Else-is_bad) _ c.read_lines-c.ensures.0 (sym c.is_unfit.ensures ∙ c.if-is_unfit.true)
+    unfit c.args.s.now c.args.text.now (short (goal.at.returns-then-is_unfit c).Else-is_too_long) c.if-s-gt0.false (known (goal.at.returns-then-is_unfit c).Else-is_unknown) (good (goal.at.returns-then-is_unfit c).Else-is_bad) _ c.read_lines-c.ensures.0 (sym c.is_unfit.ensures ∙ c.if-is_unfit.true)
 
 pub returns : goal.returns
 returns c =
-    let s = c.args in
-    taken s.s s.text.now (short (goal.at.returns c).Else-is_too_long) c.if-p-gt0.false (known (goal.at.returns c).Else-is_unknown) (good (goal.at.returns c).Else-is_bad) _ c.read_lines-c.ensures.0 (sym c.is_unfit.ensures ∙ c.if-is_unfit.false)
+    taken c.args.s.now c.args.text.now (short (goal.at.returns c).Else-is_too_long) c.if-s-gt0.false (known (goal.at.returns c).Else-is_unknown) (good (goal.at.returns c).Else-is_bad) _ c.read_lines-c.ensures.0 (sym c.is_unfit.ensures ∙ c.if-is_unfit.false)

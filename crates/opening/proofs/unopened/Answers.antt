@@ -5,12 +5,10 @@ use Rattle.opening.proofs.Made.{made_unopened}
 use Rattle.opening.proofs.unopened.Goals as goal
 
 pub loop-f-init : goal.loop-f-init
-loop-f-init c = (omega arith, sym (mapped_none (λ g x. g) _))
+loop-f-init c = sym (mapped_none (λ g x. g) _)
 
 pub loop-f-preserved : goal.loop-f-preserved
-loop-f-preserved c = (omega arith, mapped_more (λ g x. g) _ _ _ _ (omega arith) c.loop-f.invariant.1 refl)
+loop-f-preserved c = rw c.from.ensures (mapped_more (λ g x. g) _ _ _ _ (omega arith) c.loop-f.invariant refl)
 
 pub returns : goal.returns
-returns c =
-    let loop = c.loop-f in
-    made_unopened c.no_link-none.result _ _ _ c.no_link-none.ensures (omega arith) loop.invariant.0 refl loop.invariant.1
+returns c = made_unopened c.no_link.result _ _ _ c.no_link.ensures (omega arith) refl c.loop-f.invariant

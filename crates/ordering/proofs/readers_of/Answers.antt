@@ -1,16 +1,13 @@
+use Prim.Native.Nat.{ℕ}
 use native.Mathlib.Omega.{arith}
-use Rattle.ordering.proofs.Readers.{readers_start, readers_step, readers_end}
+use lib.ListN.{length-replicate}
+use Rattle.ordering.proofs.Readers.{readers_start, readers_step}
 use Rattle.ordering.proofs.readers_of.Goals as goal
 
 pub loop-f-init : goal.loop-f-init
-loop-f-init c = readers_start
-
-pub enter_readers-requires : goal.enter_readers-requires
-enter_readers-requires c = (omega arith, c.loop-f.invariant.long)
+loop-f-init c = (length-replicate {A = ℕ} 64 0, readers_start)
 
 pub loop-f-preserved : goal.loop-f-preserved
 loop-f-preserved c =
-    readers_step c.requires c.loop-f-test.true c.loop-f.invariant c.enter_readers.ensures.0 c.enter_readers.ensures.1
-
-pub returns : goal.returns
-returns c = readers_end c.loop-f.invariant c.loop-f-test.false
+    let entered = c.enter_readers.ensures in
+    (entered.0, readers_step (omega arith) c.loop-f.invariant.1 entered.1)

@@ -1,33 +1,21 @@
-use mathlib.Core.Path.{ap, sym, ◌∙◌}
+use mathlib.Core.Path.{ap, refl, sym, ◌∙◌}
 use mathlib.Core.Bool.{not}
 use mathlib.Core.Logic.{inl, inr}
-use native.Mathlib.Omega.{arith}
-use Rattle.fieldset.specs.Fields.{meets}
-use Rattle.fieldset.proofs.Emptying.{first_falls, filter_start, filter_step, filter_end}
+use Rattle.fieldset.proofs.Emptying.{filter_start, filter_step, filter_end}
 use Rattle.ordering.proofs.ready.Goals as goal
-use Rattle.ordering.proofs.ready.Goals.{else-not-meets, then-not-meets}
 
-pub loop-rest-init : goal.loop-rest-init
-loop-rest-init c = filter_start
+pub loop-f-init : goal.loop-f-init
+loop-f-init c = rw (c.into_iter-f-iterator.ensures.into_iter_gives, c.fields_of-f-items.ensures) filter_start
 
-pub offset_bounds-reads-f : goal.offset_bounds-reads-f
-offset_bounds-reads-f c = omega (arith, c.first-f.ensures.field)
+pub loop-f-preserved-then-not-meets : goal.loop-f-preserved-then-not-meets
+loop-f-preserved-then-not-meets c =
+    let (U, q) = c.in-Some.ensures.steps in
+    filter_step c.loop-f.invariant U (inl (ap not (sym c.meets.ensures ∙ c.if-not-meets.true), c.with-out.ensures)) q
 
-pub bounds-reads-f : goal.bounds-reads-f
-bounds-reads-f c = c.first-f.ensures.field
-
-pub with-out-requires : goal.with-out-requires
-with-out-requires c = c.first-f.ensures.field
-
-pub loop-rest-smaller : goal.loop-rest-smaller
-loop-rest-smaller c = first_falls c.first-f.ensures c.without_lowest-rest.ensures
-
-pub loop-rest-preserved : goal.loop-rest-preserved
-loop-rest-preserved c =
-    let test = ap not (sym c.meets.ensures) in
-    filter_step c.loop-rest.invariant c.first-f.ensures
-    (elim c.if-not-meets.branch [ then-not-meets w ↦ inl (test ∙ ap not w.if-not-meets.true, w.out-is ∙ w.with-out.ensures) | else-not-meets w ↦ inr (test ∙ ap not w.if-not-meets.false, w.out-is) ])
-    c.without_lowest-rest.ensures
+pub loop-f-preserved : goal.loop-f-preserved
+loop-f-preserved c =
+    let (U, q) = c.in-Some.ensures.steps in
+    filter_step c.loop-f.invariant U (inr (ap not (sym c.meets.ensures ∙ c.if-not-meets.false), refl)) q
 
 pub returns : goal.returns
-returns c = filter_end c.loop-rest.invariant c.loop-rest-test.false
+returns c = filter_end c.loop-f.invariant c.in-None.ensures.steps.0

@@ -1,13 +1,10 @@
--- `ordering::ready` meets its contract. The loop's invariant (`Filtering`, of `fieldset`): what is gathered are the fields of the set, but for the
--- rest, that pass the test; the measure is the rest. Each field is gathered or passed over (`filter_step`).
+-- `ordering::ready` meets its contract. The loop's invariant (`Filtering`, of `fieldset`): what is gathered are the fields of the set, but for those
+-- that are left, that pass the test. Each field is gathered or passed over (`filter_step`).
 use mathlib.Core.Bool.{not}
 use Rattle.fieldset.specs.Tables.{at}
 use Rattle.fieldset.specs.Fields.{meets}
 use Rattle.fieldset.proofs.Emptying.{Filtering}
 use Rattle.ordering.proofs.ready.Given as goal
 
-abbrev pub invariant-loop-rest : goal.invariant-loop-rest
-invariant-loop-rest l = Filtering (λ f. not (meets (at l.reads f) l.left)) l.set l.out l.rest
-
-abbrev pub decreases-loop-rest : goal.decreases-loop-rest
-decreases-loop-rest l = l.rest
+abbrev pub invariant-loop-f : goal.invariant-loop-f
+invariant-loop-f l = Filtering (λ f. not (meets (at l.reads f) l.left)) l.set l.out l.f-iterator.rest

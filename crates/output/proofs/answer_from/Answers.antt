@@ -1,14 +1,14 @@
-use mathlib.Core.Path.{◌≡◌, refl, sym, ap, ◌∙◌}
-use mathlib.Core.Bool.{Bool, true, false, true≢false}
+use mathlib.Core.Path.{◌≡◌, refl, sym, ap, ◌∙◌, subst}
 use Prim.Native.Nat.{ℕ, ◌+◌, ◌≤◌}
 use native.Mathlib.Omega.{arith}
 use mathlib.Core.List.{List}
 use lib.ListN.{length, take, length-replicate}
 use lib.Seq.{length-take-le}
-use borrow.Author.Tests.{not-true}
+use borrow.Author.Rules.{rules}
+use Rattle.std.specs.Prelude.{Result, IfOk}
 use Rattle.hexadecimal.specs.Hex.{line_of}
 use Rattle.sheet.specs.Legal.{LegalSheet}
-use Rattle.tally.specs.Tallies.{tally_bytes}
+use Rattle.tally.specs.Tallies.{no_tally, tally_bytes}
 use Rattle.frames.specs.Texts.{output_of}
 use Rattle.frames.specs.Frames.{line_answer}
 use Rattle.output.proofs.Sending.{put_fits, put_part, from_zero, too_long_line, too_long_short, too_long_line_lem, sent_none, part_fits, is_part, sent_more, tally_short, tally_last, sent_all}
@@ -34,6 +34,10 @@ tally_fits g c =
     let s = c.loop-next.invariant in
     put_fits c.loop-next.out _ (line_of (tally_bytes c.loop-next.t)) c.put_tally-n.result s.full (tally_short _ _ _ _ _ _ _ _ _ s) e.out_after e.value
 
+-- what is counted is the same number by another name
+counted : {E : Type 0} {a b : ℕ} (r : Result ℕ E) → IfOk r (λ n. n ≡ a) → a ≡ b → IfOk r (λ n. n ≡ b)
+counted r h e = subst (λ (k : ℕ). IfOk r (λ n. n ≡ k)) e h
+
 -- ---- the goals
 
 pub slice_bounds-out-end : goal.slice_bounds-out-end
@@ -45,34 +49,34 @@ slice_bounds-send-end g c = sym (length-take-le _ _ (line_fits g (goal.at.slice_
 pub send-requires : goal.send-requires
 send-requires g c =
     let e = c.put_too_long-n.ensures in
-    let whole = too_long_line_lem line_answer LegalSheet c.args.first c.args.text.now (sym c.is_too_long.ensures ∙ c.if-is_too_long.true) in (
+    let whole = too_long_line_lem line_answer LegalSheet c.args.first.now c.args.text.now (sym c.is_too_long.ensures ∙ c.if-is_too_long.true) in (
       put_part _ _ too_long_line c.put_too_long-n.result (length-replicate {A = ℕ} 65536 0) too_long_short e.out_after (from_zero _ _ e.value)
-          (output_of line_answer c.args.first c.args.text.now) 0 whole,
+          (output_of line_answer c.args.first.now c.args.text.now) 0 whole,
       omega (arith, length-take-le _ _ (line_fits g (goal.at.send-requires g c).After-put_too_long-n), e.value, too_long_short),
     )
 
 pub returns-then-is_too_long : goal.returns-then-is_too_long
-returns-then-is_too_long g c = λ w.
-    let whole = too_long_line_lem line_answer LegalSheet c.args.first c.args.text.now (sym c.is_too_long.ensures ∙ c.if-is_too_long.true) in
-    omega (arith, c.send.ensures, length-take-le _ _ (line_fits g (goal.at.returns-then-is_too_long g c).After-put_too_long-n), c.put_too_long-n.ensures.value, ap length whole)
+returns-then-is_too_long g c =
+    let whole = too_long_line_lem line_answer LegalSheet c.args.first.now c.args.text.now (sym c.is_too_long.ensures ∙ c.if-is_too_long.true) in
+    counted _ c.send.ensures
+    (omega (arith, length-take-le _ _ (line_fits g (goal.at.returns-then-is_too_long g c).After-put_too_long-n), c.put_too_long-n.ensures.value, ap length whole))
 
 pub loop-next-init : goal.loop-next-init
-loop-next-init g c = sent_none _ _ _ _ _ _ (sym c.is_too_long.ensures ∙ c.if-is_too_long.false) (length-replicate {A = ℕ} 65536 0) refl c.requires
+loop-next-init g c =
+    let e : c.default-t.result ≡ no_tally = search rules in
+    rw e (sent_none _ _ _ _ _ _ (sym c.is_too_long.ensures ∙ c.if-is_too_long.false) (length-replicate {A = ℕ} 65536 0) refl c.requires)
 
 pub slice_bounds-out-end-in-loop-next : goal.slice_bounds-out-end-in-loop-next
 slice_bounds-out-end-in-loop-next g c = replies_fit g (goal.at.slice_bounds-out-end-in-loop-next g c).After-lines_from-r
 
-pub send-part-requires : goal.send-part-requires
-send-part-requires g c =
+pub send-requires-in-loop-next : goal.send-requires-in-loop-next
+send-requires-in-loop-next g c =
     let e = c.lines_from-r.ensures in
     let s = c.loop-next.invariant in
     let r = e.resumed in (
       is_part _ _ _ _ _ _ _ _ _ s _ _ _ _ e.ran_from e.resumed,
-      omega (arith, length-take-le _ _ (replies_fit g (goal.at.send-part-requires g c).After-lines_from-r), s.few, s.short, s.within, r.paced, r.within, r.onward),
+      omega (arith, length-take-le _ _ (replies_fit g (goal.at.send-requires-in-loop-next g c).After-lines_from-r), s.few, s.short, s.within, r.paced, r.within, r.onward),
     )
-
-pub returns-then-not-part : goal.returns-then-not-part
-returns-then-not-part g c = λ w. absurd (true≢false (sym w ∙ not-true _ c.if-not-part.true))
 
 pub loop-next-smaller : goal.loop-next-smaller
 loop-next-smaller g c =
@@ -83,7 +87,7 @@ pub loop-next-preserved : goal.loop-next-preserved
 loop-next-preserved g c =
     let e = c.lines_from-r.ensures in
     sent_more _ _ _ _ _ _ _ _ _ c.loop-next.invariant _ _ _ _ e.ran_from e.resumed _
-    (c.send-part.ensures ∙ ap (λ (k : ℕ). c.loop-next.sent + k) (length-take-le _ _ (replies_fit g (goal.at.loop-next-preserved g c).After-lines_from-r)))
+    (c.in_ok-sent.ensures ∙ ap (λ (k : ℕ). c.loop-next.sent + k) (length-take-le _ _ (replies_fit g (goal.at.loop-next-preserved g c).After-lines_from-r)))
 
 pub slice_bounds-out-end-2 : goal.slice_bounds-out-end-2
 slice_bounds-out-end-2 g c = tally_fits g (goal.at.slice_bounds-out-end-2 g c).After-put_tally-n
@@ -97,13 +101,13 @@ send-requires-2 g c =
     let l = c.loop-next in
     let s = l.invariant in (
       put_part l.out _ (line_of (tally_bytes l.t)) c.put_tally-n.result s.full (tally_short _ _ _ _ _ _ _ _ _ s) e.out_after e.value
-          (output_of line_answer c.args.first c.args.text.now) l.sent (tally_last _ _ _ _ _ _ _ _ _ s (omega (arith, c.loop-next-test.false))),
+          (output_of line_answer c.args.first.now c.args.text.now) l.sent (tally_last _ _ _ _ _ _ _ _ _ s (omega (arith, c.loop-next-test.false))),
       omega (arith, length-take-le _ _ (tally_fits g (goal.at.send-requires-2 g c).After-put_tally-n), s.few, s.short, s.within, tally_short _ _ _ _ _ _ _ _ _ s, e.value),
     )
 
 pub returns : goal.returns
 returns g c =
     let l = c.loop-next in
-    λ w.
-    c.send-2.ensures ∙ ap (λ (k : ℕ). l.sent + k) (length-take-le _ _ (tally_fits g (goal.at.returns g c).After-put_tally-n))
-    ∙ sent_all _ _ _ _ _ _ _ _ _ l.invariant (omega (arith, c.loop-next-test.false)) _ c.put_tally-n.ensures.value
+    counted _ c.send-2.ensures
+    (ap (λ (k : ℕ). l.sent + k) (length-take-le _ _ (tally_fits g (goal.at.returns g c).After-put_tally-n))
+    ∙ sent_all _ _ _ _ _ _ _ _ _ l.invariant (omega (arith, c.loop-next-test.false)) _ c.put_tally-n.ensures.value)

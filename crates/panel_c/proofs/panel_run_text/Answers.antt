@@ -7,7 +7,7 @@ use Rattle.panel_c.proofs.panel_run_text.Goals as goal
 
 pub returns : goal.returns
 returns c =
-    let r = c.run_text-outcome in
+    let r = c.run_text in
     record {
       value = c.length_of.ensures ∙ told_length line_answer unopened c.args.tally.now c.args.text.now r.result r.ensures.outcome;
       out_after = r.ensures.buffer;

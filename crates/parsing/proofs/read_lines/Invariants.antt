@@ -1,4 +1,4 @@
--- `parsing::read_lines` meets its contract: the lines from `from` on enter the rest. Assumes nothing.
+-- `parsing::read_lines` meets its contract: the lines from `from` on enter the rest.
 use Prim.Native.Nat.{◌-◌}
 use lib.ListN.{length}
 use Rattle.parsing.proofs.Entries.{Entering}

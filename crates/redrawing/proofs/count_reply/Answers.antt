@@ -7,7 +7,7 @@ use Rattle.fieldset.specs.Tables.{at}
 use Rattle.fieldset.specs.Fields.{union}
 use Rattle.fieldset.proofs.Fields.{size_le}
 use Rattle.downstream.specs.Downstream.{gathered}
-use Rattle.panel.specs.declared.Reply.TheVariants.{Accepted}
+use Rattle.std.specs.Prelude.{Ok}
 use Rattle.panel.proofs.Moved.{counted_empty}
 use Rattle.redrawing.proofs.count_reply.Goals as goal
 use Rattle.redrawing.proofs.count_reply.Goals.{After-union-set}
@@ -23,6 +23,6 @@ returns-then-set-eq0 c =
 pub overflow_cast-result : goal.overflow_cast-result
 overflow_cast-result c = record { fits = omega (arith, c.size.ensures, size_le c.union-set.result) }
 
-pub returns-in-Accepted : goal.returns-in-Accepted
-returns-in-Accepted c =
-    rw (← counts (goal.at.returns-in-Accepted c).After-union-set, c.in-Accepted.is, ne_eqb c.union-set.result 0 c.if-set-eq0.false) (ap Accepted c.size.ensures)
+pub returns-in-Ok : goal.returns-in-Ok
+returns-in-Ok c =
+    rw (← counts (goal.at.returns-in-Ok c).After-union-set, c.in-Ok.is, ne_eqb c.union-set.result 0 c.if-set-eq0.false) (ap Ok c.size.ensures)

@@ -4,4 +4,4 @@ use Rattle.relating.proofs.Replying.{formula_agrees}
 use Rattle.relating.proofs.relate.Goals as goal
 
 pub returns : goal.returns
-returns c = c.check_formula.ensures ∙ formula_agrees c.args.p c.args.named c.args.id c.args.formula c.requires
+returns c = c.check_formula.ensures ∙ formula_agrees c.args.p.now c.args.named c.args.id c.args.formula c.requires

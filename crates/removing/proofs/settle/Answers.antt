@@ -1,52 +1,46 @@
--- `removing::settle` meets its contract. The scan without the link that sets v (`dropping`) finds the blocked item of least level (`choice`); what is
--- decided for it, or that nothing is blocked, is the step of the removal or its refusal (`settles`).
-use mathlib.Core.Path.{refl}
-use mathlib.Core.Logic.{inl, inr}
-use Rattle.fieldset.specs.Tables.{at}
-use Rattle.reversal.specs.declared.Verdict.TheVariants.{Free}
-use Rattle.removing.proofs.Removed.{Removal, removal, of_field, choice, scan_counts_lem, scan_finds, undecided, settles}
+-- `removing::settle` meets its contract. The scan without the link that sets v (`removal`) finds the blocked item of least level (`choice`); what is
+-- decided for it (`settles`), or that nothing is blocked (`settles_free`), is the step of the removal or its refusal.
+use mathlib.Core.Path.{◌≡◌, refl}
+use lib.ListN.{length}
+use borrow.Author.Rules.{rules}
+use Rattle.removing.proofs.Removed.{removal, Choice, of_field, choice, scan_counts_lem, scan_finds, undecided, settles, settles_free}
 use Rattle.removing.proofs.settle.Goals as goal
-use Rattle.removing.proofs.settle.Goals.{Start}
+use Rattle.removing.proofs.settle.Goals.{After-choose-b}
 
-dropping : (c : Start) → let s = c.args in Removal s.p (at s.p.setter s.v) s.v s.levels.now s.others.now s.reads.now
-dropping c = let s = c.requires in removal s.0 s.1 s.2 s.3
+-- what the scan finds, as it is chosen
+chosen : (c : After-choose-b) → let w = c.choose-b.result in Choice (removal c.requires) w.number w.outputs w.covered
+chosen c =
+    let e = c.scan_without-found.ensures in
+    choice (removal c.requires) c.choose-b.result _ c.choose-b.ensures (rw c.in-Some.is at (scan_finds (removal c.requires) refl e.scanned e.tabled))
+
+pub returns-in_default-clause-settles : goal.returns-in_default-clause-settles
+returns-in_default-clause-settles c =
+    let e = c.scan_without-found.ensures in
+    let full : length c.args.path.now ≡ 64 = search rules in
+    settles_free (removal c.requires) (rw c.in_default.is at (scan_finds (removal c.requires) refl e.scanned e.tabled)) 128 _ full
+
+pub returns-in_default-clause-worked_after : goal.returns-in_default-clause-worked_after
+returns-in_default-clause-worked_after c =
+    let e = c.scan_without-found.ensures in scan_counts_lem (removal c.requires) refl e.scanned e.tabled
 
 pub choose-b-requires : goal.choose-b-requires
 choose-b-requires c =
     let e = c.scan_without-found.ensures in
-    let d = dropping (goal.at.choose-b-requires c).Start in
-    of_field d c.scan_without-found.result.blocked (scan_finds d refl e.scanned e.tabled)
-
-pub below-requires : goal.below-requires
-below-requires c = c.requires.0.few
+    of_field (removal c.requires) _ (rw c.in-Some.is at (scan_finds (removal c.requires) refl e.scanned e.tabled))
 
 pub decide-verdict-requires : goal.decide-verdict-requires
 decide-verdict-requires c =
     let e = c.scan_without-found.ensures in
-    let d = dropping (goal.at.decide-verdict-requires c).Start in
-    let chosen = choice d c.choose-b.result c.scan_without-found.result.blocked c.choose-b.ensures (scan_finds d refl e.scanned e.tabled) in
-    undecided d refl e.scanned e.tabled _ _ _ chosen _ _ _ c.below.ensures c.if-b-ne0.true c.top_of-top.ensures c.requires.4
+    let full : length c.args.path.now ≡ 64 = search rules in
+    undecided (removal c.requires) refl e.scanned e.tabled _ _ _ (chosen (goal.at.decide-verdict-requires c).After-choose-b) _ _ _ c.below.ensures
+    c.top_of-top.ensures full
 
-pub returns-then-b-ne0 : goal.returns-then-b-ne0
-returns-then-b-ne0 c =
+pub returns-clause-settles : goal.returns-clause-settles
+returns-clause-settles c =
     let e = c.scan_without-found.ensures in
-    let d = dropping (goal.at.returns-then-b-ne0 c).Start in
-    let chosen = choice d c.choose-b.result c.scan_without-found.result.blocked c.choose-b.ensures (scan_finds d refl e.scanned e.tabled) in
-    record {
-      settles =
-          settles d refl e.scanned e.tabled _ _ _ chosen c.decide-verdict.new.path c.decide-verdict.result
-          (inl (c.if-b-ne0.true, c.top_of-top.result, c.top_of-top.ensures, c.decide-verdict.ensures.decided));
-      tabled = e.tabled;
-      worked_after = scan_counts_lem d refl e.scanned e.tabled;
-    }
+    settles (removal c.requires) refl e.scanned e.tabled _ _ _ (chosen (goal.at.returns-clause-settles c).After-choose-b) _ _ c.top_of-top.ensures
+    c.decide-verdict.result c.decide-verdict.ensures.decided
 
-pub returns-else-b-ne0 : goal.returns-else-b-ne0
-returns-else-b-ne0 c =
-    let e = c.scan_without-found.ensures in
-    let d = dropping (goal.at.returns-else-b-ne0 c).Start in
-    let chosen = choice d c.choose-b.result c.scan_without-found.result.blocked c.choose-b.ensures (scan_finds d refl e.scanned e.tabled) in
-    record {
-      settles = settles d refl e.scanned e.tabled _ _ _ chosen _ Free (inr (c.if-b-ne0.false, refl, c.requires.4));
-      tabled = e.tabled;
-      worked_after = scan_counts_lem d refl e.scanned e.tabled;
-    }
+pub returns-clause-worked_after : goal.returns-clause-worked_after
+returns-clause-worked_after c =
+    let e = c.scan_without-found.ensures in scan_counts_lem (removal c.requires) refl e.scanned e.tabled

@@ -22,7 +22,7 @@ path_from-count-requires c =
     (u.acyclic, u.strengths, start_small small u v, start_known small u v, u.path_length)
 
 pub reverse_reads-requires : goal.reverse_reads-requires
-reverse_reads-requires c = (found-path (goal.at.reverse_reads-requires c).After-path_from-count, c.requires.reads_length)
+reverse_reads-requires c = found-path (goal.at.reverse_reads-requires c).After-path_from-count
 
 pub path_fields-set-requires : goal.path_fields-set-requires
 path_fields-set-requires c = found-path (goal.at.path_fields-set-requires c).After-path_from-count

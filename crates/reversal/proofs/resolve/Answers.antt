@@ -1,14 +1,10 @@
 -- `reversal::resolve` meets its contract: the greatest strength of the outputs tells whether the item is blocked (`free_path`); where it is, what
 -- `decide` answers is what is to be done (`resolved`, `blocked_path`).
 use Prim.Native.Nat.{◌<◌}
-use mathlib.Core.Path.{refl}
 use native.Mathlib.Omega.{arith}
 use borrow.Author.Tests.{le-ltb}
 use Rattle.reversal.proofs.Deciding.{free_path, blocked_path, resolved}
 use Rattle.reversal.proofs.resolve.Goals as goal
-
-pub greatest-top-requires : goal.greatest-top-requires
-greatest-top-requires c = let u = c.requires in (u.acyclic, u.outputs_inside, refl)
 
 pub returns-then-s-level : goal.returns-then-s-level
 returns-then-s-level c =
@@ -16,24 +12,6 @@ returns-then-s-level c =
     record {
       resolved = (le-ltb _ _ (rw t.is_greatest at c.if-s-level.true), c.requires.path_length);
       path_after = free_path _ _ _ _ _ _ _ t.is_greatest c.if-s-level.true;
-    }
-
-pub decide-requires : goal.decide-requires
-decide-requires c =
-    let u = c.requires in
-    let t = c.greatest-top.ensures in
-    record {
-      acyclic = u.acyclic;
-      strengths = t.strengths;
-      outputs_known = t.has;
-      some_output = u.some_output;
-      outputs_inside = u.outputs_inside;
-      is_greatest = t.is_greatest;
-      among = u.among;
-      loopless = u.loopless;
-      covered_inside = u.covered_inside;
-      reads_length = u.reads_length;
-      path_length = u.path_length;
     }
 
 pub returns : goal.returns

@@ -1,16 +1,10 @@
-use mathlib.Core.Path.{sym, ◌∙◌}
-use Rattle.saving.proofs.Writing.{sought_none, sought_on, sought_found, sought_end}
-use borrow.Author.Rules.{rules}
+-- `saving::field_at` meets its contract: what is sought among the first n fields is the lowest of them that stands at the place.
+use native.Mathlib.Omega.{arith}
+use Rattle.saving.proofs.Writing.{field_found, field_none}
 use Rattle.saving.proofs.field_at.Goals as goal
 
-pub loop-f-init : goal.loop-f-init
-loop-f-init c = sought_none _ _ _
+pub returns-in-Some : goal.returns-in-Some
+returns-in-Some c = field_found c.args.place.now c.args.n c.args.p (omega arith) (c.in-Some.ensures)
 
-pub returns-then-wide-p : goal.returns-then-wide-p
-returns-then-wide-p c = sought_found _ _ _ _ (search rules) (sym c.wide.ensures ∙ c.if-wide-p.true) c.loop-f.invariant
-
-pub loop-f-preserved : goal.loop-f-preserved
-loop-f-preserved c = sought_on _ _ _ _ (search rules) (λ e. c.if-wide-p.false (c.wide.ensures ∙ e)) c.loop-f.invariant
-
-pub returns : goal.returns
-returns c = sought_end _ _ _ _ (search rules) c.loop-f.invariant
+pub returns-in-None : goal.returns-in-None
+returns-in-None c = field_none c.args.place.now c.args.n c.args.p (omega arith) (c.in-None.ensures)

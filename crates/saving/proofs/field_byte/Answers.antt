@@ -1,4 +1,4 @@
--- `saving::field_byte` meets its contract. Assumes nothing.
+-- `saving::field_byte` meets its contract.
 use mathlib.Core.Path.{sym, ◌∙◌}
 use Rattle.saving.proofs.field_byte.Goals as goal
 

@@ -1,4 +1,4 @@
--- `saving::put_byte` meets its contract. Assumes nothing.
+-- `saving::put_byte` meets its contract.
 use Rattle.saving.proofs.Writing.{wrote_bytes}
 use Rattle.saving.proofs.put_byte.Goals as goal
 

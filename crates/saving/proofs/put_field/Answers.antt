@@ -1,6 +1,6 @@
--- `saving::put_field` meets its contract: the byte of a covered field, and nothing of any other. Assumes nothing.
+-- `saving::put_field` meets its contract: the byte of a covered field, and nothing of any other.
 use mathlib.Core.Path.{sym, ◌∙◌}
-use Rattle.saving.proofs.Writing.{wrote_as, wrote_length, field_in, field_out}
+use Rattle.saving.proofs.Writing.{wrote_as, field_in, field_out}
 use Rattle.saving.proofs.put_field.Goals as goal
 
 pub returns-then-member : goal.returns-then-member

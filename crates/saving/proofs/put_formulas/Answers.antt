@@ -1,12 +1,8 @@
-use Rattle.saving.proofs.Writing.{growing_none, growing_all, wrote_length, lines_none, lines_on, formula_short}
-use borrow.Author.Rules.{rules}
+use Rattle.saving.proofs.Writing.{growing_none, lines_none, lines_on, formula_short}
 use Rattle.saving.proofs.put_formulas.Goals as goal
 
 pub loop-i-init : goal.loop-i-init
-loop-i-init c = growing_none _ _ _ _ _ (lines_none _)
+loop-i-init c = growing_none _ _ _ _ (lines_none _)
 
 pub loop-i-preserved : goal.loop-i-preserved
-loop-i-preserved c = lines_on _ (formula_short c.args.formulas) (search rules) c.loop-i.invariant c.put_formula-q.ensures
-
-pub returns : goal.returns
-returns c = growing_all (search rules) c.loop-i.invariant
+loop-i-preserved c = lines_on _ (formula_short c.args.formulas.now) c.loop-i.invariant c.put_formula-q.ensures

@@ -1,4 +1,4 @@
--- `saving::write` meets its contract: its five parts, one behind the other, none so long that a position does not fit. Assumes nothing.
+-- `saving::write` meets its contract: its five parts, one behind the other, none so long that a position does not fit.
 use Prim.Native.Nat.{ℕ, ◌≤◌, ◌+◌}
 use mathlib.Core.Path.{◌≡◌}
 use mathlib.Core.List.{[], ◌∷◌}
@@ -29,38 +29,38 @@ module _ (v : ℕ) (s : Sheet) (within : s.panel.size ≤ 64) (p : ℕ) (size : 
       formulas_near : (t : ℕ) → t ≡ r + length (lines_to (formula_piece s.formulas) 128) → t ≤ 19594
       formulas_near t formulas = omega (arith, links_near, lines_short (formula_piece s.formulas) 15 (formula_short s.formulas) 128)
 
--- ---- the needs
+-- ---- the goals
 
 pub put_order-b-requires : goal.put_order-b-requires
 put_order-b-requires c =
     let a = c.args in
-    (omega (arith, size_near a.version a.s c.requires _ c.put_line-a.ensures.value), c.requires)
+    (omega (arith, size_near a.version a.s.now c.requires _ c.put_line-a.ensures.value), c.requires)
 
 pub put_links-c-requires : goal.put_links-c-requires
 put_links-c-requires c =
     let a = c.args in
-    omega (arith, order_near a.version a.s c.requires _ c.put_line-a.ensures.value _ c.put_order-b.ensures.position)
+    omega (arith, order_near a.version a.s.now c.requires _ c.put_line-a.ensures.value _ c.put_order-b.ensures.position)
 
 pub put_formulas-d-requires : goal.put_formulas-d-requires
 put_formulas-d-requires c =
     let a = c.args in
-    omega (arith, links_near a.version a.s c.requires _ c.put_line-a.ensures.value _ c.put_order-b.ensures.position _ c.put_links-c.ensures.position)
+    omega (arith, links_near a.version a.s.now c.requires _ c.put_line-a.ensures.value _ c.put_order-b.ensures.position _ c.put_links-c.ensures.position)
 
 pub put_values-requires : goal.put_values-requires
 put_values-requires c =
     let a = c.args in
-    (omega (arith, formulas_near a.version a.s c.requires _ c.put_line-a.ensures.value _ c.put_order-b.ensures.position _ c.put_links-c.ensures.position _ c.put_formulas-d.ensures.position), c.requires)
+    (omega (arith, formulas_near a.version a.s.now c.requires _ c.put_line-a.ensures.value _ c.put_order-b.ensures.position _ c.put_links-c.ensures.position _ c.put_formulas-d.ensures.position), c.requires)
 
 pub returns-clause-out_after : goal.returns-clause-out_after
 returns-clause-out_after c =
     let a = c.args in
-    (image_written a.version a.s (c.put_line-a.ensures.out_after, c.put_line-a.ensures.value) c.put_order-b.ensures c.put_links-c.ensures
+    (image_written a.version a.s.now (c.put_line-a.ensures.out_after, c.put_line-a.ensures.value) c.put_order-b.ensures c.put_links-c.ensures
     c.put_formulas-d.ensures c.put_values.ensures).buffer
 
 pub returns-clause-value : goal.returns-clause-value
 returns-clause-value c =
     let a = c.args in
     let image =
-    image_written a.version a.s (c.put_line-a.ensures.out_after, c.put_line-a.ensures.value) c.put_order-b.ensures c.put_links-c.ensures
+    image_written a.version a.s.now (c.put_line-a.ensures.out_after, c.put_line-a.ensures.value) c.put_order-b.ensures c.put_links-c.ensures
     c.put_formulas-d.ensures c.put_values.ensures in
     omega (arith, image.position)

@@ -10,15 +10,15 @@ use Rattle.sessions.proofs.put_answer.Goals as goal
 
 pub put_refusal-requires : goal.put_refusal-requires
 put_refusal-requires c =
-    let r = c.in-Refused.r in
+    let r = c.in-Err.r in
     omega (arith, length_line (0xFF ∷ refusal_bytes r), (refusal_length r).1)
 
-pub returns-in-Accepted : goal.returns-in-Accepted
-returns-in-Accepted c =
-    let w = reply_line c.args.reply _ _ _ _ (ap reply_bytes c.in-Accepted.is) c.put_line.ensures.out_after c.put_line.ensures.value in
+pub returns-in-Ok : goal.returns-in-Ok
+returns-in-Ok c =
+    let w = reply_line c.args.reply _ _ _ _ (ap reply_bytes c.in-Ok.is) c.put_line.ensures.out_after c.put_line.ensures.value in
     record { out_after = w.0; value = w.1 }
 
-pub returns-in-Refused : goal.returns-in-Refused
-returns-in-Refused c =
-    let w = reply_line c.args.reply _ _ _ _ (ap reply_bytes c.in-Refused.is) c.put_refusal.ensures.out_after c.put_refusal.ensures.value in
+pub returns-in-Err : goal.returns-in-Err
+returns-in-Err c =
+    let w = reply_line c.args.reply _ _ _ _ (ap reply_bytes c.in-Err.is) c.put_refusal.ensures.out_after c.put_refusal.ensures.value in
     record { out_after = w.0; value = w.1 }

@@ -4,41 +4,14 @@ use Rattle.fieldset.proofs.Emptying.{first_falls}
 use Rattle.strength.proofs.Way.{scan_pos, scan_pass, scan_found, scan_start, way_start, way_reversal, way_stop}
 use Rattle.strength.proofs.path_from.Goals as goal
 
-pub bounds-table-v : goal.bounds-table-v
-bounds-table-v c = omega (arith, c.requires.0.few, c.requires.2)
-
 pub walk-init : goal.walk-init
 walk-init c = let p = c.requires in way_start p.0 p.1 p.2 p.3 p.4
-
-pub overflow_cast-path : goal.overflow_cast-path
-overflow_cast-path c = let W = c.walk.invariant in omega (arith, W.field, W.acyclic.few)
-
-pub bounds-path-i : goal.bounds-path-i
-bounds-path-i c = let W = c.walk.invariant in omega (arith, W.room, W.acyclic.few)
-
-pub bounds-levels-at : goal.bounds-levels-at
-bounds-levels-at c = let W = c.walk.invariant in omega (arith, W.field, W.acyclic.few, c.requires.2)
-
-pub overflow_add-i : goal.overflow_add-i
-overflow_add-i c = let W = c.walk.invariant in omega (arith, W.room, W.acyclic.few)
-
-pub offset_bounds-others-at : goal.offset_bounds-others-at
-offset_bounds-others-at c = let W = c.walk.invariant in omega (arith, W.field, W.acyclic.few)
-
-pub bounds-others-at : goal.bounds-others-at
-bounds-others-at c = let W = c.walk.invariant in omega (arith, W.field, W.acyclic.few)
 
 pub loop-at-init : goal.loop-at-init
 loop-at-init c = scan_start c.requires.1 c.walk.invariant c.if-levels-at.true
 
 pub first-next-requires : goal.first-next-requires
 first-next-requires c = scan_pos c.loop-at.invariant
-
-pub bounds-table-next : goal.bounds-table-next
-bounds-table-next c = c.first-next.ensures.field
-
-pub walk-smaller : goal.walk-smaller
-walk-smaller c = omega (arith, c.walk.invariant.room)
 
 pub walk-preserved : goal.walk-preserved
 walk-preserved c =
@@ -53,9 +26,6 @@ loop-at-smaller c = first_falls c.first-next.ensures c.without_lowest-rest.ensur
 pub loop-at-preserved : goal.loop-at-preserved
 loop-at-preserved c =
     scan_pass c.loop-at.invariant c.first-next.ensures c.if-table-next.false c.without_lowest-rest.ensures
-
-pub overflow_add-end : goal.overflow_add-end
-overflow_add-end c = let W = c.walk.invariant in omega (arith, W.room, W.acyclic.few)
 
 pub returns : goal.returns
 returns c =

@@ -8,24 +8,25 @@ use Rattle.strength.proofs.strengths.Goals as goal
 use Rattle.strength.proofs.strengths.Goals.{else-others-v-eq0, then-others-v-eq0, After-minus}
 
 pub loop-v-init : goal.loop-v-init
-loop-v-init c = (omega arith, none_begun c.requires.1)
+loop-v-init c = none_begun c.requires.1
 
 pub overflow_add-count : goal.overflow_add-count
-overflow_add-count c = let l = c.loop-v in omega (arith, l.invariant.1.counted, size_le l.known)
+overflow_add-count c = let l = c.loop-v in omega (arith, l.invariant.counted, size_le l.known)
 
 pub loop-v-preserved : goal.loop-v-preserved
 loop-v-preserved c =
-    let l = c.loop-v in (
-      omega arith,
-      elim c.if-others-v-eq0.branch [ then-others-v-eq0 w ↦ rw (w.table-is, w.known-is, w.count-is, w.with-known.ensures) (next_alone l.invariant.1 (omega arith) w.if-others-v-eq0.true) | else-others-v-eq0 w ↦ rw (w.table-is, w.known-is, w.count-is) (next_left l.invariant.1) ],
-    )
+    let B = c.loop-v.invariant in
+    elim c.if-others-v-eq0.branch [
+      | then-others-v-eq0 w ↦ rw (w.table-is, w.known-is, w.count-is, w.with-known.ensures) (next_alone B (omega arith) w.if-others-v-eq0.true)
+      | else-others-v-eq0 w ↦ rw (w.table-is, w.known-is, w.count-is) (next_left B)
+    ]
 
 begun : (m : goal.After-minus) → let l = m.loop-v in let a = m.args in Begun a.levels.now a.others.now a.table.now l.table a.n l.known l.count
 begun m =
     let l = m.loop-v in
     let a = m.args in
     let end : l.v ≡ a.n = omega arith in
-    subst (λ (v : ℕ). Begun a.levels.now a.others.now a.table.now l.table v l.known l.count) end l.invariant.1
+    subst (λ (v : ℕ). Begun a.levels.now a.others.now a.table.now l.table v l.known l.count) end l.invariant
 
 rest_is : (m : goal.After-minus) → m.minus.result ≡ minus (below m.args.n) m.loop-v.known
 rest_is m = m.minus.ensures ∙ ap (λ (k : ℕ). minus k m.loop-v.known) m.below.ensures
@@ -48,6 +49,3 @@ pub returns-clause-value : goal.returns-clause-value
 returns-clause-value c =
     let m = (goal.at.returns-clause-value c).After-minus in
     all_counted c.requires.0 (begun m) (rest_is m) c.fill-rest.ensures
-
-pub below-requires : goal.below-requires
-below-requires c = c.requires.0.few

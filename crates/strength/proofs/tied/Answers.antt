@@ -1,27 +1,17 @@
-use mathlib.Core.Path.{◌∙◌}
+use mathlib.Core.Path.{refl}
 use mathlib.Core.Logic.{inl, inr}
 use borrow.Author.Tests.{eq-eqb, ne_eqb}
-use Rattle.fieldset.proofs.Emptying.{first_falls, filter_start, filter_step, filter_end}
+use Rattle.fieldset.proofs.Emptying.{filter_start, filter_step, filter_end}
 use Rattle.strength.proofs.tied.Goals as goal
-use Rattle.strength.proofs.tied.Goals.{else-table-u, then-table-u}
 
-pub loop-rest-init : goal.loop-rest-init
-loop-rest-init c = filter_start
+pub loop-u-init : goal.loop-u-init
+loop-u-init c = rw (c.into_iter-u-iterator.ensures.into_iter_gives, c.fields_of-u-items.ensures) filter_start
 
-pub bounds-table-u : goal.bounds-table-u
-bounds-table-u c = c.first-u.ensures.field
+pub loop-u-preserved-then-table-u : goal.loop-u-preserved-then-table-u
+loop-u-preserved-then-table-u c = filter_step c.loop-u.invariant c.in-Some.ensures.steps.0 (inl (eq-eqb _ _ c.if-table-u.true, c.with-ties.ensures)) c.in-Some.ensures.steps.1
 
-pub with-ties-requires : goal.with-ties-requires
-with-ties-requires c = c.first-u.ensures.field
-
-pub loop-rest-smaller : goal.loop-rest-smaller
-loop-rest-smaller c = first_falls c.first-u.ensures c.without_lowest-rest.ensures
-
-pub loop-rest-preserved : goal.loop-rest-preserved
-loop-rest-preserved c =
-    filter_step c.loop-rest.invariant c.first-u.ensures
-    (elim c.if-table-u.branch [ then-table-u w ↦ inl (eq-eqb _ _ w.if-table-u.true, w.ties-is ∙ w.with-ties.ensures) | else-table-u w ↦ inr (ne_eqb _ _ w.if-table-u.false, w.ties-is) ])
-    c.without_lowest-rest.ensures
+pub loop-u-preserved : goal.loop-u-preserved
+loop-u-preserved c = filter_step c.loop-u.invariant c.in-Some.ensures.steps.0 (inr (ne_eqb _ _ c.if-table-u.false, refl)) c.in-Some.ensures.steps.1
 
 pub returns : goal.returns
-returns c = filter_end c.loop-rest.invariant c.loop-rest-test.false
+returns c = filter_end c.loop-u.invariant c.in-None.ensures.steps.0

@@ -1,19 +1,9 @@
 use native.Mathlib.Omega.{arith}
-use Rattle.fieldset.proofs.Emptying.{first_falls}
-use Rattle.strength.proofs.Maxima.{top_start, top_step, top_end}
+use Rattle.strength.proofs.Maxima.{top_step, top_end}
 use Rattle.strength.proofs.top_of.Goals as goal
 
-pub loop-rest-init : goal.loop-rest-init
-loop-rest-init c = top_start
-
-pub bounds-table-u : goal.bounds-table-u
-bounds-table-u c = c.first-u.ensures.field
-
-pub loop-rest-smaller : goal.loop-rest-smaller
-loop-rest-smaller c = first_falls c.first-u.ensures c.without_lowest-rest.ensures
-
-pub loop-rest-preserved : goal.loop-rest-preserved
-loop-rest-preserved c = top_step c.loop-rest.invariant c.first-u.ensures c.larger-most.ensures c.without_lowest-rest.ensures
+pub loop-u-preserved : goal.loop-u-preserved
+loop-u-preserved c = top_step c.loop-u.invariant c.in-Some.ensures.steps.0 c.max-most.ensures c.in-Some.ensures.steps.1
 
 pub returns : goal.returns
-returns c = omega (arith, top_end c.loop-rest.invariant c.loop-rest-test.false)
+returns c = omega (arith, top_end c.loop-u.invariant c.in-None.ensures.steps.0)

@@ -8,4 +8,6 @@ returns-then-c-lt-STAY c =
     record { level = rw t; others = rw t c.without.ensures; reads = rw t c.without-then-c-lt-STAY.ensures }
 
 pub returns-else-c-lt-STAY : goal.returns-else-c-lt-STAY
-returns-else-c-lt-STAY c = let t = le-ltb _ 128 c.if-c-lt-STAY.false in record { level = rw t; others = rw t; reads = rw t }
+returns-else-c-lt-STAY c =
+    let t = le-ltb _ 128 c.if-c-lt-STAY.false in
+    rw c.stay_entry.ensures (record { level = rw t; others = rw t; reads = rw t })

@@ -5,8 +5,8 @@ use Rattle.tally.proofs.tallied.Goals as goal
 
 pub returns-then-refusal-eq0 : goal.returns-then-refusal-eq0
 unfolding tallied
-returns-then-refusal-eq0 c = rw (c.more-lines.ensures, c.more-accepted.ensures) (simp (eq-eqb _ _ c.if-refusal-eq0.true))
+returns-then-refusal-eq0 c = rw (c.more-lines.ensures, c.more.ensures) (simp (eq-eqb _ _ c.if-refusal-eq0.true))
 
 pub returns-else-refusal-eq0 : goal.returns-else-refusal-eq0
 unfolding tallied
-returns-else-refusal-eq0 c = rw (c.more-lines.ensures, c.more-refused.ensures) (simp (ne_eqb _ _ c.if-refusal-eq0.false))
+returns-else-refusal-eq0 c = rw (c.more-lines.ensures, c.more-else-refusal-eq0.ensures) (simp (ne_eqb _ _ c.if-refusal-eq0.false))

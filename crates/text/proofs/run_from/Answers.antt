@@ -16,7 +16,7 @@ use Rattle.text.proofs.run_from.Goals as goal
 pub returns-then-is_too_long : goal.returns-then-is_too_long
 returns-then-is_too_long c =
     let s = c.args in
-    record { told = too_long line_answer s.text.now s.out.now s.s s.t (sym c.is_too_long.ensures ∙ c.if-is_too_long.true); bounded = tt }
+    record { told = too_long line_answer s.text.now s.out.now s.s s.t.now (sym c.is_too_long.ensures ∙ c.if-is_too_long.true); bounded = tt }
 
 pub answer_lines-r-requires : goal.answer_lines-r-requires
 answer_lines-r-requires c = (c.requires, omega arith)
@@ -25,9 +25,9 @@ pub returns : goal.returns
 returns c =
     let s = c.args in
     let short : is_too_long s.text.now ≡ false = sym c.is_too_long.ensures ∙ c.if-is_too_long.false in
-    let t = c.put_tally-n.ensures in
+    let t = c.put_tally.ensures in
     record {
-      told = whole_text _ _ s.text.now s.out.now _ _ s.t _ _ _ s.s _ (longest * text_limit) refl c.answer_lines-r.ensures.0
+      told = whole_text _ _ s.text.now s.out.now _ _ s.t.now _ _ _ s.s _ (longest * text_limit) refl c.answer_lines-r.ensures.0
           c.answer_lines-r.ensures.1 (omega (arith, lines_few s.text.now, ltb-false text_limit (length s.text.now) short)) t.out_after t.value short;
       bounded = omega (arith, t.value, tally_length_lem c.answer_lines-r.result.tally, c.answer_lines-r.ensures.1.fits);
     }

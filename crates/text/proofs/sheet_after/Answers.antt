@@ -13,13 +13,13 @@ use Rattle.replies.specs.Replies.{longest}
 use Rattle.text.proofs.Whole.{state_done}
 use Rattle.text.proofs.sheet_after.Goals as goal
 
-pub answer_lines-r-requires : goal.answer_lines-r-requires
-answer_lines-r-requires c = (c.unopened.ensures.1, omega arith)
+pub answer_lines-requires : goal.answer_lines-requires
+answer_lines-requires c = (c.unopened.ensures.1, omega arith)
 
 pub returns : goal.returns
 returns c =
     let text = c.args.text.now in (
-      state_done line_answer LegalSheet text _ _ _ _ _ unopened _ (longest * text_limit) c.unopened.ensures.0 c.answer_lines-r.ensures.0
-          c.answer_lines-r.ensures.1 (omega (arith, lines_few text, ltb-false text_limit (length text) c.requires)),
-      c.answer_lines-r.ensures.0.legal,
+      state_done line_answer LegalSheet text _ _ _ _ _ unopened _ (longest * text_limit) c.unopened.ensures.0 c.answer_lines.ensures.0
+          c.answer_lines.ensures.1 (omega (arith, lines_few text, ltb-false text_limit (length text) c.requires)),
+      c.answer_lines.ensures.0.legal,
     )

@@ -1,4 +1,4 @@
--- `values::rounded` meets its contract.
+-- `values::rounded` meets its contract: no step of the computation wraps.
 use Prim.Native.Nat.{◌*◌}
 use mathlib.Core.Path.{refl}
 use native.Mathlib.Omega.{arith}
@@ -9,4 +9,5 @@ use Rattle.values.proofs.rounded.Goals as goal
 pub returns : goal.returns
 unfolding rounded
 returns c =
-    (refl, omega (arith, product_small c.requires.0 c.ranges.p.fits, rounded_small (c.args.n * c.args.p) c.args.q))
+    rw (c.from.ensures, c.from-2.ensures, c.from-3.ensures, c.from-4.ensures)
+    (refl, omega (arith, product_small c.ranges.n.fits c.ranges.p.fits, rounded_small (c.args.n * c.args.p) c.args.q))

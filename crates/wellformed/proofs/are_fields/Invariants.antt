@@ -1,11 +1,9 @@
--- `wellformed::are_fields` meets its contract: `ok` tells of the fields below `f`. Assumes nothing.
-use Prim.Native.Nat.{◌-◌}
+-- `wellformed::are_fields` meets its contract: the fields below `f` pass.
+use Prim.Native.Nat.{ℕ, ◌<◌}
+use mathlib.Core.Path.{◌≡◌}
+use mathlib.Core.Bool.{true}
 use Rattle.wellformed.specs.Tests.{field_test}
-use Rattle.wellformed.proofs.Tests.{Passed}
 use Rattle.wellformed.proofs.are_fields.Given as goal
 
 abbrev pub invariant-loop-f : goal.invariant-loop-f
-invariant-loop-f l = Passed (field_test l.p l.values) 64 l.ok l.f
-
-abbrev pub decreases-loop-f : goal.decreases-loop-f
-decreases-loop-f l = 64 - l.f
+invariant-loop-f l = (k : ℕ) → k < l.f → field_test l.p l.values k ≡ true

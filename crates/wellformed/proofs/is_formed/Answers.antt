@@ -1,28 +1,26 @@
--- `wellformed::is_formed` meets its contract: the number of fields, then the tests of all fields and links. Assumes nothing.
-use mathlib.Core.Path.{◌≡◌}
-use lib.ListN.{length}
-use Rattle.wellformed.proofs.Tests.{formed_low, formed_high, formed_all}
+-- `wellformed::is_formed` meets its contract: the number of fields, then the tests of all fields and links. The tables have all their entries.
+use mathlib.Core.Path.{sym, ◌∙◌}
+use mathlib.Core.Bool.{true}
 use borrow.Author.Rules.{rules}
+use Rattle.fieldset.proofs.Numbers.{clash}
+use Rattle.wellformed.proofs.Tests.{whole, sized_wrong, fields_wrong, formed_all}
 use Rattle.wellformed.proofs.is_formed.Goals as goal
-use Rattle.wellformed.proofs.is_formed.Goals.{Start}
+use Rattle.wellformed.proofs.is_formed.Goals.{then-is_size, else-is_size}
 
--- the tables of numbers have all their entries
-places : (s : Start) → length s.args.s.panel.place ≡ 64
-places s = search rules
+pub returns-then-are_fields : goal.returns-then-are_fields
+returns-then-are_fields c =
+    elim c.if-is_size.branch [
+      | then-is_size w ↦
+          formed_all c.args.s.now (whole c.args.s.now c.requires w.are_fields.ensures.whole.0 w.are_fields.ensures.whole.1 (search rules)) (sym c.is_size.ensures ∙ w.if-is_size.true)
+          (sym w.are_fields.ensures.tested ∙ sym w.value-is ∙ c.if-are_fields.true) c.are_links.ensures
+      | else-is_size w ↦ absurd (clash (sym w.value-is ∙ c.if-are_fields.true) w.if-is_size.false)
+    ]
 
-setters : (s : Start) → length s.args.s.panel.setter ≡ 64
-setters s = search rules
-
-values : (s : Start) → length s.args.s.values ≡ 64
-values s = search rules
-
-pub returns-then-n-lt1 : goal.returns-then-n-lt1
-returns-then-n-lt1 c = formed_low _ c.if-n-lt1.true
-
-pub returns-then-n-gt64 : goal.returns-then-n-gt64
-returns-then-n-gt64 c = formed_high _ c.if-n-gt64.true
-
-pub returns : goal.returns
-returns c =
-    formed_all c.args.s _ _ _ c.if-n-lt1.false c.if-n-gt64.false c.requires (places (goal.at.returns c).Start) (setters (goal.at.returns c).Start) (values (goal.at.returns c).Start) c.are_fields.ensures
-    c.are_links.ensures c.both.ensures
+pub returns-else-are_fields : goal.returns-else-are_fields
+returns-else-are_fields c =
+    elim c.if-is_size.branch [
+      | then-is_size w ↦
+          c.if-are_fields.false ∙ fields_wrong c.args.s.now (whole c.args.s.now c.requires w.are_fields.ensures.whole.0 w.are_fields.ensures.whole.1 (search rules)) (sym c.is_size.ensures ∙ w.if-is_size.true)
+          (sym w.are_fields.ensures.tested ∙ sym w.value-is ∙ c.if-are_fields.false)
+      | else-is_size w ↦ c.if-are_fields.false ∙ sized_wrong c.args.s.now (sym c.is_size.ensures ∙ w.if-is_size.false)
+    ]

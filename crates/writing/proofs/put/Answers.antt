@@ -3,4 +3,4 @@ use Rattle.writing.proofs.Lines.{byte_put}
 use Rattle.writing.proofs.put.Goals as goal
 
 pub returns : goal.returns
-returns c = byte_put _ _ _ _ _ _ _ c.high_char.ensures c.store.ensures c.low_char.ensures c.store-2.ensures
+returns c = byte_put _ _ _ _ _ _ c.digits_of.ensures c.store.ensures c.store-2.ensures

