@@ -35,8 +35,8 @@ pub fn read_input<R: Read>(reader: &mut R, buffer: &mut [u8]) -> Result<usize, U
     Ok(len)
 }
 
-// Nothing was read.
-fn nothing(error: io::Error) -> Unread
+// Nothing was read, and that is not the end of an input.
+fn none_read(error: io::Error) -> Unread
     ensures { result.len ≡ 0 }
 {
     Unread { len: 0, error }
@@ -58,11 +58,13 @@ pub fn read_named<R: Env + Files>(rt: &R, buffer: &mut [u8]) -> Result<usize, Un
     let mut path = [0u8; 4096];
     let n = rt
         .arg(1, &mut path)
-        .map_err(|_| nothing(ErrorKind::InvalidInput.into()))?;
+        .map_err(|_| none_read(ErrorKind::InvalidInput.into()))?;
     if has_argument(rt, 2) {
-        return Err(nothing(ErrorKind::InvalidInput.into()));
+        return Err(none_read(ErrorKind::InvalidInput.into()));
     }
-    let name = str::from_utf8(&path[..n]).map_err(|_| nothing(ErrorKind::InvalidFilename.into()))?;
-    let mut file = fs::open(rt, name).map_err(nothing)?;
+    let name = str::from_utf8(&path[..n]).map_err(|_| none_read(
+        ErrorKind::InvalidFilename.into(),
+    ))?;
+    let mut file = fs::open(rt, name).map_err(none_read)?;
     read_input(&mut file, buffer)
 }
