@@ -72,7 +72,7 @@ fn strike_reader(c: usize, fields: u64, readers: &mut [u64; 64])
     requires { (c < 64) × (length readers.old ≡ 64) }
     ensures { (length readers.new ≡ 64) × Mapped (λ m. without m c) fields readers.old readers.new }
 {
-    map_entries(fields, readers, |m| without(m, c));
+    map_entries(fields, readers, |_, m| without(m, c));
 }
 
 // Shows new reads of one field, and brings the direct readers up to them.

@@ -10,7 +10,7 @@ ghost use Rattle.loading.specs.Loaded.{answer_of};
 use fitness::is_unfit;
 use frames::is_too_long;
 use hexadecimal::FRAME_ROOM;
-use panel::Refusal;
+use panel::{Refusal, Reply};
 use parsing::read_lines;
 use saving::{LONGEST, VERSION, write};
 use sheet::Sheet;
@@ -40,11 +40,11 @@ fn is_bad(text: &[u8], c: &Sheet) -> bool
     &buffer[..n] != text
 }
 
-// Reads a saved text where the sheet s stands: the sheet of the text, or a refusal, after which s stands as it was.
-// The contract rules out, for instance, BadImage given before UnknownVersion and an unfit text whose sheet, with its values, is left (must-fail:
+// Reads a saved text into the sheet s: 0000 and the sheet of the text, or a refusal and s as it was.
+// The contract rules out, for instance, BadImage given before UnknownVersion and a refused reading that leaves values (must-fail:
 // bad_image_before_version, values_left_by_unfit).
-pub fn load(text: &[u8], s: &Sheet) -> Result<Sheet, Refusal>
-    ensures { answer_of s.now result ≡ read s.now text.now }
+pub fn load(text: &[u8], s: &mut Sheet) -> Reply
+    ensures { answer_of s.new result ≡ read s.old text.now }
 {
     if is_too_long(text) {
         return Err(Refusal::TextTooLong);
@@ -62,5 +62,6 @@ pub fn load(text: &[u8], s: &Sheet) -> Result<Sheet, Refusal>
     if is_unfit(&c) {
         return Err(Refusal::Unfit);
     }
-    Ok(c)
+    *s = c;
+    Ok(0)
 }

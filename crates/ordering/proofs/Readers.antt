@@ -21,16 +21,16 @@ use Rattle.fieldset.proofs.Emptying.{Emptying, empty_start, empty_step, empty_en
 use Rattle.ordering.specs.Steps.{Mapped, MappedBy, Readers}
 
 -- the entry of g is changed, or as it was
-abbrev pub entry : (ℕ → ℕ → Type 0) → List ℕ → List ℕ → Bool → ℕ → Type 0
-entry changes before after true g = changes (at before g) (at after g)
+abbrev pub entry : (ℕ → ℕ → ℕ → Type 0) → List ℕ → List ℕ → Bool → ℕ → Type 0
+entry changes before after true g = changes g (at before g) (at after g)
 entry changes before after false g = at after g ≡ at before g
 
 -- the entries of the fields of a set are changed, but for the rest
-pub record Mapping (changes : ℕ → ℕ → Type 0) (into : ℕ) (before after : List ℕ) (rest : ℕ) : Type 0 where
+pub record Mapping (changes : ℕ → ℕ → ℕ → Type 0) (into : ℕ) (before after : List ℕ) (rest : ℕ) : Type 0 where
   pub long : length after ≡ 64
   pub loop : Emptying into (entry changes before after) rest
 
-module _ {changes : ℕ → ℕ → Type 0} {into : ℕ} {before : List ℕ} where
+module _ {changes : ℕ → ℕ → ℕ → Type 0} {into : ℕ} {before : List ℕ} where
   pub mapping_start : length before ≡ 64 → Mapping changes into before before into
   mapping_start long = record { long = long; loop = empty_start (λ g l. refl) }
 
@@ -41,7 +41,7 @@ module _ {changes : ℕ → ℕ → Type 0} {into : ℕ} {before : List ℕ} whe
   }
 
   pub mapping_step : {after after' : List ℕ} {rest rest' x y : ℕ} → Mapping changes into before after rest → First rest x
-      → changes (at after x) y → after' ≡ set after x y → rest' ≡ without rest (lowest_of rest) → Mapping changes into before after' rest'
+      → changes x (at after x) y → after' ≡ set after x y → rest' ≡ without rest (lowest_of rest) → Mapping changes into before after' rest'
   mapping_step {after} {x = x} {y = y} p U r e q = rw e (record {
     long = length-set after x y ∙ p.long;
     loop = empty_step p.loop U q other (rw (get_or-set_same after x y 0 (rw p.long U.field)) (rw (taken_was p.loop U) at r));

@@ -7,9 +7,9 @@ use Rattle.fieldset.specs.Fields.{member, meets, filter}
 pub record Mapped (put : ℕ → ℕ) (set : ℕ) (before after : List ℕ) : Type 0 where
   pub each : (g : ℕ) → g < 64 → at after g ≡ cond (member set g) (put (at before g)) (at before g)
 
--- a table after the entries of the fields of a set were changed, each of them as `changes` says of what it was and what it became
-pub record MappedBy (changes : ℕ → ℕ → Type 0) (set : ℕ) (before after : List ℕ) : Type 0 where
-  pub changed : (g : ℕ) → g < 64 → member set g ≡ true → changes (at before g) (at after g)
+-- a table after the entries of the fields of a set were changed, each of them as `changes` says of the field, what the entry was and what it became
+pub record MappedBy (changes : ℕ → ℕ → ℕ → Type 0) (set : ℕ) (before after : List ℕ) : Type 0 where
+  pub changed : (g : ℕ) → g < 64 → member set g ≡ true → changes g (at before g) (at after g)
   pub kept : (g : ℕ) → g < 64 → member set g ≡ false → at after g ≡ at before g
 
 -- the readers of each field among the first n fields

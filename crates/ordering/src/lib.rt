@@ -10,13 +10,13 @@ ghost use Rattle.ordering.specs.Steps.{Mapped, MappedBy, Readers, ready_of};
 
 use fieldset::{below, fields_of, first, meets, union, with, without, without_lowest};
 
-// Does `put` to the entries of the fields of a set.
-pub fn map_entries<F: Fn(u64) -> u64>(set: u64, table: &mut [u64; 64], put: F)
+// Does `put` to the entries of the fields of a set; it is given the field and what stands there.
+pub fn map_entries<F: Fn(usize, u64) -> u64>(set: u64, table: &mut [u64; 64], put: F)
     requires { F.IsAlwaysCallable put }
     ensures { MappedBy (F.post put) set table.old table.new }
 {
     for g in fields_of(set) {
-        table[g] = put(table[g]);
+        table[g] = put(g, table[g]);
     }
 }
 
@@ -25,7 +25,7 @@ pub fn enter_readers(f: usize, reads: u64, readers: &mut [u64; 64])
     requires { (f < 64) × (length readers.old ≡ 64) }
     ensures { (length readers.new ≡ 64) × Mapped (λ m. with m f) reads readers.old readers.new }
 {
-    map_entries(reads, readers, |m| with(m, f));
+    map_entries(reads, readers, |_, m| with(m, f));
 }
 
 // For each field the set of the first n fields that read it.

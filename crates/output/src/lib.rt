@@ -1,7 +1,7 @@
 // The output of a text, passed on to a writer a buffer at a time.
 #![tactic(auto)]
 
-ghost use Rattle.std.specs.Prelude.{◌≡◌, ◌+◌, ◌^◌, ◌<◌, length, IfOk};
+ghost use Rattle.std.specs.Prelude.{◌≡◌, ◌+◌, ◌^◌, ◌<◌, length, IfOk, IfErr};
 ghost use Rattle.sheet.specs.Legal.{LegalSheet};
 ghost use Rattle.frames.specs.Texts.{output_of};
 ghost use Rattle.frames.specs.Frames.{line_answer};
@@ -12,26 +12,37 @@ use std::io;
 use std::io::Write;
 use tally::Tally;
 
-// Passes on a part of the output of a text, from the sheet `first` on: what stands there behind the first `sent` bytes. The answer is how many bytes were
-// passed on then.
+// An output that could not be written to its end: how many bytes were passed on, the last part among them, and why it was not written.
+#[derive(Clone, Copy)]
+pub struct Unwritten {
+    pub len: usize,
+    pub error: io::Error,
+}
+
+// Passes on a part of the output of a text, from the sheet `first` on: what stands there behind the first `sent` bytes. The answer, or the error, tells how
+// many bytes were passed on then.
 fn send<W: Write>(
     writer: &mut W,
     text: &[u8],
     first: &Sheet,
     sent: usize,
     part: &[u8],
-) -> io::Result<usize>
+) -> Result<usize, Unwritten>
     requires { PartOf (output_of line_answer first.now text.now) sent part.now × (sent + length part.now < 2 ^ 64) }
-    ensures { IfOk result (λ n. n ≡ sent + length part.now) }
+    ensures written { IfOk result (λ n. n ≡ sent + length part.now) }
+    ensures unwritten { IfErr result (λ e. e.len ≡ sent + length part.now) }
 {
-    writer.write_all(part)?;
-    Ok(sent + part.len())
+    let len = sent + part.len();
+    writer
+        .write_all(part)
+        .map_err(|error| Unwritten { len, error })?;
+    Ok(len)
 }
 
 // Passes on the output for a text, from a sheet on, a buffer at a time; the answer is how many bytes it has. It stops where it cannot be written.
 // The contract rules out, for instance, another line for a text that is too long and a part in the wrong place (must-fail: line_of_another_refusal,
 // tally_at_the_start).
-pub fn answer_from<W: Write>(writer: &mut W, text: &[u8], first: &Sheet) -> io::Result<usize>
+pub fn answer_from<W: Write>(writer: &mut W, text: &[u8], first: &Sheet) -> Result<usize, Unwritten>
     requires { LegalSheet first.now }
     ensures { IfOk result (λ n. n ≡ length (output_of line_answer first.now text.now)) }
 {

@@ -4,11 +4,11 @@
 ghost use Rattle.std.specs.Prelude.{◌≡◌, length, IfOk};
 ghost use Rattle.frames.specs.Frames.{panel_output};
 
-use std::io;
+use output::Unwritten;
 use std::io::Write;
 
 // Passes on the output for a text; the answer is how many bytes it has.
-fn answer<W: Write>(writer: &mut W, text: &[u8]) -> io::Result<usize>
+fn answer<W: Write>(writer: &mut W, text: &[u8]) -> Result<usize, Unwritten>
     ensures { IfOk result (λ n. n ≡ length (panel_output text.now)) }
 {
     output::answer_from(writer, text, &sheet::unopened())

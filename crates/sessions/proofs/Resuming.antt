@@ -10,7 +10,7 @@ use lib.Seq.{sets, take_all, drop-length}
 use borrow.Rule.Slice.PartMut.{put_mid, post_of, Post-is}
 use Rattle.fieldset.proofs.Tables.{sets_append}
 use Rattle.panel.specs.Answers.{Reply}
-use Rattle.std.specs.Prelude.{Option, Some, None, Ok, Err}
+use Rattle.std.specs.Prelude.{Option, Some, None, Ok, Err, is_err}
 use Rattle.panel.proofs.Answers.{refusal_length}
 use Rattle.panel.specs.declared.Refusal.{Refusal}
 use Rattle.panel.specs.declared.Refusal.TheVariants.{TextTooLong as TooLong}
@@ -73,26 +73,30 @@ sets_behind (suc n) (x ∷ l) vs h = ap (λ (t : List ℕ). x ∷ t) (sets_behin
 
 -- ---- all of it
 
+-- by its first byte a reply tells a refusal
+told_refusal : (reply : Reply) → is_refusal (reply_bytes reply) ≡ is_err reply
+told_refusal (Ok m) = refl
+told_refusal (Err r) = refl
+
 -- a saved text that is refused
-pub refused_resumed : (saved text : List ℕ) (r : Refusal) → answer_of unopened (Err r) ≡ read unopened saved
-    → resumed_output saved text ≡ line_of (reply_bytes (Err r))
+pub refused_resumed : (saved text : List ℕ) (reply : Reply) → reply_bytes reply ≡ (read unopened saved).reply → is_err reply ≡ true
+    → resumed_output saved text ≡ line_of (reply_bytes reply)
 unfolding resumed_output
-refused_resumed saved text r is =
-    ap (λ (a : Answer). resumed_from a text) (sym is) ∙ append-nil (line_of (reply_bytes (Err r)))
+refused_resumed saved text reply is e = rw (← is, told_refusal reply ∙ e) (append-nil (line_of (reply_bytes reply)))
 
 -- one whose sheet is taken in
-module _ (saved text : List ℕ) (s : Sheet) (is : answer_of unopened (Ok s) ≡ read unopened saved) where
+module _ (saved text : List ℕ) (s : Sheet) (reply : Reply) (is : answer_of s reply ≡ read unopened saved) (e : is_err reply ≡ false) where
   abbrev line : List ℕ
-  line = line_of (reply_bytes (Ok 0))
+  line = line_of (reply_bytes reply)
 
   pub taken_legal : LegalSheet s
   taken_legal =
-      let t = took unopened saved (ap (λ (a : Answer). is_refusal a.reply) (sym is)) in
+      let t = took unopened saved (ap (λ (a : Answer). is_refusal a.reply) (sym is) ∙ told_refusal reply ∙ e) in
       subst LegalSheet (sym (ap (λ (a : Answer). a.sheet) is ∙ t.sheet)) t.legal
 
   pub taken_resumed : resumed_output saved text ≡ line ++ output_of line_answer s text
   unfolding resumed_output
-  taken_resumed = ap (λ (a : Answer). resumed_from a text) (sym is)
+  taken_resumed = ap (λ (a : Answer). resumed_from a text) (sym is) ∙ rw (told_refusal reply ∙ e) refl
 
   module _ (before middle : List ℕ) (n m : ℕ) (put : middle ≡ sets before 0 line) (size : n ≡ length line) (count : m ≡ length (output_of line_answer s text)) where
     whole : sets middle n (output_of line_answer s text) ≡ sets before 0 (resumed_output saved text)

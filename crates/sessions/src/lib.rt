@@ -91,11 +91,12 @@ pub fn resume(saved: &[u8], text: &[u8], out: &mut [u8]) -> usize
     ensures out_after { out.new ≡ sets out.old 0 (resumed_output saved.now text.now) }
     ensures value { result ≡ length (resumed_output saved.now text.now) }
 {
-    let s = match load(saved, &unopened()) {
-        Ok(s) => s,
-        Err(r) => return put_refusal(out, 0, r),
-    };
-    let n = put_answer(out, Ok(0));
+    let mut s = unopened();
+    let reply = load(saved, &mut s);
+    let n = put_answer(out, reply);
+    if reply.is_err() {
+        return n;
+    }
     if n <= out.len() {
         n + output_from(text, s, &mut out[n..])
     } else {

@@ -1,7 +1,7 @@
 // Values of fields: whole numbers with a sign in 32 bits, and arithmetic on them that is exact, in 64 bits.
 #![tactic(auto)]
 
-ghost use Rattle.std.specs.Prelude.{◌≡◌, cond, ◌≤◌, ◌<◌, ◌*◌, ◌^◌, pos, neg_ℤ, nat_abs, ◌-ℤ◌};
+ghost use Rattle.std.specs.Prelude.{◌≡◌, cond, ◌≤◌, ◌<◌, ◌*◌, ◌^◌, pos, neg_ℤ, nat_abs, ◌+ℤ◌, ◌-ℤ◌};
 ghost use Rattle.std.specs.Int.{w64};
 ghost use Rattle.std.proofs.Common.{SFits};
 ghost use Rattle.values.specs.Limits.{limited_values, limited, value_at};
@@ -44,6 +44,14 @@ pub fn ratio(v: i32, p: u16, q: u16) -> Option<i32>
     limit(signed(v < 0, rounded(v.unsigned_abs(), p, q)))
 }
 
+// A sum and a value more.
+pub fn plus(a: i64, b: i32) -> i64
+    requires { SFits w64 (a +ℤ b) }
+    ensures { result ≡ a +ℤ b }
+{
+    a + i64::from(b)
+}
+
 // A value less a sum.
 pub fn minus(a: i32, b: i64) -> i64
     requires { SFits w64 (a -ℤ b) }
@@ -58,7 +66,7 @@ pub fn sum(set: u64, values: &[i32; 64]) -> i64
 {
     let mut s = 0;
     for f in fields_of(set) {
-        s += i64::from(values[f]);
+        s = plus(s, values[f]);
     }
     s
 }

@@ -11,14 +11,14 @@ use Rattle.edf_import.proofs.answer.Given.{Over}
 use Rattle.edf_import.proofs.answer.Goals as goal
 use Rattle.edf_import.proofs.answer.Goals.{After-import-n}
 
-is_output_lem : (g : Over) (c : After-import-n g) → take c.import-n.result c.import-n.new.out ≡ import_output c.args.file.now
+is_output_lem : (g : Over) (c : After-import-n g) → take c.import-n.result c.import-n.new.out ≡ import_output (take c.args.len c.args.buffer.now)
 is_output_lem g c =
-    let file : List ℕ = c.args.file.now in
+    let file : List ℕ = take c.args.len c.args.buffer.now in
     start_is _ _ (import_output file) _ (omega (arith, output_short file, length-replicate {A = ℕ} 837 0)) c.import-n.ensures.out_after c.import-n.ensures.value
 
 pub slice_bounds-out-end : goal.slice_bounds-out-end
 slice_bounds-out-end g c =
-    let file : List ℕ = c.args.file.now in
+    let file : List ℕ = take c.args.len c.args.buffer.now in
     start_fits _ _ (import_output file) _ (omega (arith, output_short file, length-replicate {A = ℕ} 837 0)) c.import-n.ensures.out_after c.import-n.ensures.value
 
 pub slice_bounds-send-end : goal.slice_bounds-send-end

@@ -58,7 +58,7 @@ send-requires g c =
 pub returns-then-is_too_long : goal.returns-then-is_too_long
 returns-then-is_too_long g c =
     let whole = too_long_line_lem line_answer LegalSheet c.args.first.now c.args.text.now (sym c.is_too_long.ensures ∙ c.if-is_too_long.true) in
-    counted _ c.send.ensures
+    counted _ c.send.ensures.written
     (omega (arith, length-take-le _ _ (line_fits g (goal.at.returns-then-is_too_long g c).After-put_too_long-n), c.put_too_long-n.ensures.value, ap length whole))
 
 pub loop-next-init : goal.loop-next-init
@@ -87,7 +87,7 @@ pub loop-next-preserved : goal.loop-next-preserved
 loop-next-preserved g c =
     let e = c.lines_from-r.ensures in
     sent_more _ _ _ _ _ _ _ _ _ c.loop-next.invariant _ _ _ _ e.ran_from e.resumed _
-    (c.in_ok-sent.ensures ∙ ap (λ (k : ℕ). c.loop-next.sent + k) (length-take-le _ _ (replies_fit g (goal.at.loop-next-preserved g c).After-lines_from-r)))
+    (c.in_ok-sent.ensures.written ∙ ap (λ (k : ℕ). c.loop-next.sent + k) (length-take-le _ _ (replies_fit g (goal.at.loop-next-preserved g c).After-lines_from-r)))
 
 pub slice_bounds-out-end-2 : goal.slice_bounds-out-end-2
 slice_bounds-out-end-2 g c = tally_fits g (goal.at.slice_bounds-out-end-2 g c).After-put_tally-n
@@ -108,6 +108,6 @@ send-requires-2 g c =
 pub returns : goal.returns
 returns g c =
     let l = c.loop-next in
-    counted _ c.send-2.ensures
+    counted _ c.send-2.ensures.written
     (ap (λ (k : ℕ). l.sent + k) (length-take-le _ _ (tally_fits g (goal.at.returns g c).After-put_tally-n))
     ∙ sent_all _ _ _ _ _ _ _ _ _ l.invariant (omega (arith, c.loop-next-test.false)) _ c.put_tally-n.ensures.value)

@@ -18,10 +18,10 @@ counted (Ok n) h f = f n h
 counted (Err e) h f = tt
 
 pub tell-requires : goal.tell-requires
-tell-requires g c = ap (λ (a : Answer). a.reply) (sym c.requires)
+tell-requires g c = ap (λ (a : Answer). a.reply) c.requires.0
 
 pub answer_from-requires : goal.answer_from-requires
-answer_from-requires g c = taken_legal c.args.saved.now c.args.text.now c.args.s.now (sym c.requires)
+answer_from-requires g c = taken_legal c.args.saved.now c.args.text.now c.args.s.now c.args.reply c.requires.0 c.requires.1
 
 pub returns : goal.returns
 returns g c =
@@ -30,7 +30,7 @@ returns g c =
     omega (
       arith,
       e,
-      ap (λ (a : Answer). length (line_of a.reply)) c.requires,
-      ap length (taken_resumed c.args.saved.now c.args.text.now c.args.s.now (sym c.requires)),
-      length-append (line_of (reply_bytes (Ok 0))) (output_of line_answer c.args.s.now c.args.text.now),
+      ap (λ (a : Answer). length (line_of a.reply)) c.requires.0,
+      ap length (taken_resumed c.args.saved.now c.args.text.now c.args.s.now c.args.reply c.requires.0 c.requires.1),
+      length-append (line_of (reply_bytes c.args.reply)) (output_of line_answer c.args.s.now c.args.text.now),
     ))

@@ -4,7 +4,7 @@ use mathlib.Core.Path.{◌≡◌, sym, ap, ◌∙◌, subst}
 use mathlib.Core.List.{List}
 use native.Mathlib.Omega.{arith}
 use lib.ListN.{length, take, length-replicate}
-use Rattle.std.specs.Prelude.{IfOk}
+use Rattle.std.specs.Prelude.{IfOk, IfErr}
 use Rattle.panel.specs.Answers.{reply_bytes}
 use Rattle.hexadecimal.specs.Hex.{line_of}
 use Rattle.hexadecimal.proofs.Stores.{start_fits, start_is}
@@ -32,5 +32,8 @@ send-requires g c = is-line g (goal.at.send-requires g c).After-put_answer-n ∙
 
 pub returns : goal.returns
 returns g c =
-    subst (λ (l : List ℕ). IfOk c.send.result (λ n. n ≡ length l)) (is-line g (goal.at.returns g c).After-put_answer-n ∙ ap line_of c.requires)
-    c.send.ensures
+    let e = is-line g (goal.at.returns g c).After-put_answer-n ∙ ap line_of c.requires in
+    record {
+      written = subst (λ (l : List ℕ). IfOk c.send.result (λ n. n ≡ length l)) e c.send.ensures.written;
+      unwritten = subst (λ (l : List ℕ). IfErr c.send.result (λ x. x.len ≡ length l)) e c.send.ensures.unwritten;
+    }
