@@ -1,7 +1,7 @@
 // The step of one line, by its command; the change that a line asks, and what the line leaves of its link's formula.
 #![tactic(auto)]
 
-ghost use Rattle.std.specs.Prelude.{◌≡◌, ◌≤◌};
+ghost use Rattle.std.specs.Prelude.{◌≡◌, ◌≤◌, take, drop};
 ghost use Rattle.panel.specs.Items.{link_at};
 ghost use Rattle.panel.specs.Commands.{covered_in};
 ghost use Rattle.panel.specs.Outcomes.{unchanged};
@@ -37,13 +37,13 @@ pub fn sets_formula(command: Command) -> bool
     )
 }
 
-// What stands behind the third byte of a line's frame: the field bytes of an add or a change.
-fn tail(line: &Line) -> &[u8]
-    requires { (3 ≤ line.now.len) × (line.now.len ≤ frame_room) }
-    ensures { result.now ≡ tail_of line.now }
+// What stands behind the first `from` bytes of a line's frame: behind the first 3, the field bytes of an add or a change.
+fn tail(line: &Line, from: usize) -> &[u8]
+    requires { (from ≤ line.now.len) × (line.now.len ≤ frame_room) }
+    ensures { result.now ≡ drop from (take line.now.len line.now.frame) }
 {
     let frame = &line.frame[..line.len];
-    &frame[3..]
+    &frame[from..]
 }
 
 // The fields that a line's link covers, by its field bytes.
@@ -51,7 +51,7 @@ fn covered_by(line: &Line) -> u64
     requires { (3 ≤ line.now.len) × (line.now.len ≤ frame_room) }
     ensures { result ≡ covered_in (tail_of line.now) }
 {
-    read_fields(tail(line)).covered
+    read_fields(tail(line, 3)).covered
 }
 
 // What a line and its reply leave of the formula of the link that its command names; `covered` are the fields that the link covered before.
@@ -92,7 +92,7 @@ pub fn decide_line(
 {
     match line.command {
         Command::Open(n) => opening::open(p, named, n),
-        Command::Add(id, level) => adding::add(p, named, tables, id, level, tail(line), path),
+        Command::Add(id, level) => adding::add(p, named, tables, id, level, tail(line, 3), path),
         Command::Remove(_) | Command::Change(_, _) => keep(p, named, Ok(0)),
         Command::Plan => {
             let reply = planning::plan(p, tables, rows);
@@ -123,5 +123,5 @@ pub fn changed(
         return Ok(0);
     };
     let named = p.links[usize::from(id % 128)];
-    change(p, named, tables, id, level, tail(line), worked)
+    change(p, named, tables, id, level, tail(line, 3), worked)
 }

@@ -36,11 +36,11 @@ unfolding any_of
 any_same [] = refl
 any_same (x ∷ b) = ap (λ (r : Bool). has_bit6 x || r) (any_same b)
 
--- the field bytes, as a range of the frame and as its rest
-pub field_bytes_any : (f : List ℕ) (n : ℕ) → 3 ≤ n → list_any has_bit6 (take (n - 3) (drop 3 f)) ≡ any_of has_bit6 (drop 3 (take n f))
-field_bytes_any f n h =
+-- the field bytes, as a range of the frame that starts behind the third byte, and as its rest
+pub field_bytes_any : (f : List ℕ) (n from : ℕ) → from ≡ 3 → 3 ≤ n → list_any has_bit6 (take (n - from) (drop from f)) ≡ any_of has_bit6 (drop 3 (take n f))
+field_bytes_any f n from e h =
     let end : 3 + (n - 3) ≡ n = omega arith in
-    any_same (take (n - 3) (drop 3 f)) ∙ ap (any_of has_bit6) (sym (drop-take 3 (n - 3) f) ∙ ap (λ (m : ℕ). drop 3 (take m f)) end)
+    rw e (any_same (take (n - 3) (drop 3 f)) ∙ ap (any_of has_bit6) (sym (drop-take 3 (n - 3) f) ∙ ap (λ (m : ℕ). drop 3 (take m f)) end))
 
 -- ---- lengths that fit a kind
 

@@ -3,6 +3,7 @@
 use mathlib.Core.Path.{◌≡◌, refl, ap, ◌∙◌}
 use mathlib.Core.List.{◌∷◌}
 use mathlib.Core.Logic.{inl}
+use native.Mathlib.Omega.{arith}
 use lib.ListN.{length}
 use borrow.Author.Rules.{rules}
 use Rattle.panel.specs.Items.{link_at}
@@ -32,7 +33,7 @@ rows-full : (s : Start) → length s.args.rows.now ≡ rows_length
 rows-full s = search rules
 
 pub tail-requires : goal.tail-requires
-tail-requires c = let f = c.requires.framed in (f.reaches _ _ (inl c.in-Add.is), f.short)
+tail-requires c = let f = c.requires.framed in (omega (arith, f.reaches _ _ (inl c.in-Add.is)), f.short)
 
 pub returns-in-Open : goal.returns-in-Open
 returns-in-Open c =

@@ -4,6 +4,7 @@ use Prim.Native.Nat.{◌+◌, ◌*◌, ◌<◌}
 use native.Mathlib.Omega.{arith}
 use lib.ListN.{length, get_or}
 use borrow.Author.Tests.{eqb-true, eqb-false}
+use Rattle.std.proofs.lemmas.Grind.{common_steps}
 use Rattle.edf.specs.Texts.{is_decimal}
 use Rattle.edf.proofs.Numbers.{dropped_short, digit_range, few_small, digits_more, digits_stop, digits_all, read_none, read_other, read_plain}
 use Rattle.edf.proofs.read_number.Goals as goal
@@ -13,7 +14,7 @@ use Rattle.edf.proofs.read_number.Goals.{Else-not-is_ascii_digit}
 
 digit : (c : Else-not-is_ascii_digit) → is_decimal (get_or c.trimmed-digits.result.now c.loop-c.c-index 0) ≡ true
 unfolding is_decimal
-digit c = sym c.is_ascii_digit.ensures.value ∙ c.if-not-is_ascii_digit.false
+digit c = grind (arith, common_steps)
 
 small : (c : Else-not-is_ascii_digit) → c.loop-c.n < 4294967296
 small c =
@@ -28,7 +29,7 @@ pub returns-then-not-is_ascii_digit : goal.returns-then-not-is_ascii_digit
 unfolding is_decimal
 returns-then-not-is_ascii_digit c =
     read_other _ _ c.trimmed-digits.ensures
-    (digits_stop c.loop-c.invariant c.loop-c-test.true (sym c.is_ascii_digit.ensures.value ∙ c.if-not-is_ascii_digit.true))
+    (digits_stop c.loop-c.invariant c.loop-c-test.true (grind (arith, common_steps)))
 
 pub overflow_mul-n : goal.overflow_mul-n
 overflow_mul-n c = omega (arith, small c)

@@ -15,7 +15,7 @@ starts c =
     let full : length c.args.p.now.setter ≡ 64 = search rules in
     elim c.match-step.branch [
       | in-Holding w ↦
-          reversing_freed _ _ _ c.requires.1 full c.requires.2 w.in-Holding.is w.from-f.ensures w.stay_entry.ensures (w.tables-is ∙ w.enter.ensures) w.p-is
+          reversing_freed _ _ _ c.requires.1 full c.requires.2 w.in-Holding.is w.from-f.ensures refl (w.tables-is ∙ rw w.stay_entry.ensures at w.enter.ensures) w.p-is
       | in_default w ↦ reversing_all _ _ _ c.requires.1 full c.requires.2 w.in_default.is w.tables-is w.p-is
     ]
 
